@@ -1,0 +1,29 @@
+-- Document 01, "What comes back": the number of an answer, and the values that come with it. Each call gives, for each case of its own answer, what that is here.
+-- Assumes nothing.
+use Prim.Native.Nat.{ℕ}
+use mathlib.Core.List.{List, [], _∷_}
+
+pub record Paper : Type 0 where
+  pub number : ℕ
+  pub values : List ℕ
+
+-- 0 is no row of the table: nothing is refused
+abbrev pub answered : List ℕ → Paper
+answered vs = record { number = 0; values = vs }
+
+-- "Returned: nothing else"
+abbrev pub refused : ℕ → Paper
+refused n = record { number = n; values = [] }
+
+-- the table's numbers, with its words
+abbrev pub image-is-not-8192-bytes : ℕ
+image-is-not-8192-bytes = 1
+
+abbrev pub not-to-be-written : ℕ
+not-to-be-written = 11
+
+abbrev pub address-over-8191 : ℕ
+address-over-8191 = 20
+
+abbrev pub unassigned-code : ℕ
+unassigned-code = 30

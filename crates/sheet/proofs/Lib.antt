@@ -1,0 +1,2 @@
+pub mod Winning
+pub mod FirstBytes

@@ -1,0 +1,52 @@
+-- What holds of the row that a code has: an induction over the table.
+-- Assumes nothing.
+use mathlib.Core.Path.{_≡_, refl, sym, subst, _∙_}
+use mathlib.Core.Bool.{Bool, true, false}
+use mathlib.Core.List.{List, [], _∷_}
+use Prim.Native.Nat.{ℕ, zero, suc, _+_, _<_}
+use native.Mathlib.Nat.{add-zero, add-suc, suc-add, not-suc-le-zero}
+use native.Mathlib.Omega.{arith}
+use lib.Dec.{T, ltb, ltb→lt}
+use Rattle.laws.specs.Choice.{pick}
+use Rattle.sheet.specs.Code.{fits, fixedBits}
+use Rattle.sheet.specs.Table.{Code, Line, lines, lineAt, lineIn}
+use Rattle.sheet.specs.Reading.{claim, Winner, over, winner}
+
+-- the line l is the one at j of ls, counted from 0
+pub data At : List Line → ℕ → Line → Type 0 where
+  here : {l : Line} {ls : List Line} → At (l ∷ ls) 0 l
+  there : {l m : Line} {ls : List Line} {j : ℕ} → At ls j l → At (m ∷ ls) (suc j) l
+
+pub line-in : {ls : List Line} {j : ℕ} {l : Line} → At ls j l → lineIn ls (suc j) ≡ l
+line-in here = refl
+line-in (there p) = line-in p
+
+pub line-at : {j : ℕ} {l : Line} → At lines j l → lineAt (suc j) ≡ l
+unfolding lineAt
+line-at p = line-in p
+
+-- the digits begin with one of the codes
+pub data Fitting : List Code → List ℕ → Type 0 where
+  this : {c : Code} {cs : List Code} {ds : List ℕ} → T (fits (c .groups) ds) → Fitting (c ∷ cs) ds
+  other : {c : Code} {cs : List Code} {ds : List ℕ} → Fitting cs ds → Fitting (c ∷ cs) ds
+
+claimed-by : (t : Bool) (n m : ℕ) {A : Type 0} → (T t → A) → (0 < m → A) → 0 < pick t n m → A
+claimed-by true n m f g h = f tt
+claimed-by false n m f g h = g h
+
+pub claimed : (cs : List Code) (ds : List ℕ) → 0 < claim cs ds → Fitting cs ds
+claimed [] ds h = absurd (not-suc-le-zero h)
+claimed (c ∷ cs) ds h =
+    claimed-by (fits (c .groups) ds) (fixedBits (c .groups)) (claim cs ds) (λ t. this t) (λ g. other (claimed cs ds g)) h
+
+chosen : (P : ℕ → Type 0) (t : Bool) (w v : Winner) → (T t → P (w .row)) → P (v .row) → P (pick t w v .row)
+chosen P true w v p q = p tt
+chosen P false w v p q = q
+
+-- what holds of 0, and of the number of each line that the digits fit, holds of the number of the row
+pub winner-is : (P : ℕ → Type 0) (ds : List ℕ) (ls : List Line) (n : ℕ) → P 0 → ((j : ℕ) (l : Line) → At ls j l → Fitting (l .codes) ds → P (n + j)) → P (winner ls n ds .row)
+winner-is P ds [] n p q = p
+winner-is P ds (l ∷ ls) n p q =
+    chosen P (ltb (winner ls (suc n) ds .bits) (claim (l .codes) ds)) (record { row = n; bits = claim (l .codes) ds }) (winner ls (suc n) ds)
+    (λ t. subst P (add-zero n) (q 0 l here (claimed (l .codes) ds (let h : winner ls (suc n) ds .bits < claim (l .codes) ds = ltb→lt _ _ t in omega arith))))
+    (winner-is P ds ls (suc n) p (λ j m a f. subst P (add-suc n j ∙ sym (suc-add n j)) (q (suc j) m (there a) f)))

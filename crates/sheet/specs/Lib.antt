@@ -1,0 +1,5 @@
+pub mod Operation
+pub mod Code
+pub mod Table
+pub mod Reading
+pub mod Timing

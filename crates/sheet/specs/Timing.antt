@@ -1,0 +1,15 @@
+-- "A table of 256 first bytes gives length and cycles, second bytes deciding where needed": what such a table has to say of a first byte. All rows that begin with it agree, so a second byte decides only whether there is one.
+-- Assumes nothing.
+use Prim.Native.Nat.{ℕ, _/_, _%_}
+use mathlib.Core.List.{List, _∷_}
+use mathlib.Core.Path.{_≡_}
+use Rattle.sheet.specs.Reading.{rowNumber, bytesOf, cyclesOf}
+
+-- the row has n bytes and t cycles
+pub record Timed (row n t : ℕ) : Type 0 where
+  pub bytes : bytesOf row ≡ n
+  pub cycles : cyclesOf row ≡ t
+
+-- so has each row that a code has whose first byte is b, whatever follows
+abbrev pub TimedFrom : ℕ → ℕ → ℕ → Type 0
+TimedFrom b n t = (ds : List ℕ) → (rowNumber (b / 16 ∷ b % 16 ∷ ds) ≡ 0 → ⊥) → Timed (rowNumber (b / 16 ∷ b % 16 ∷ ds)) n t
