@@ -1,6 +1,6 @@
 -- A test that the checker computes for all numbers below a bound, carried to each of them.
 -- Assumes nothing.
-use mathlib.Core.Path.{_≡_, sym, subst}
+use mathlib.Core.Path.{_≡_, refl, sym, subst}
 use mathlib.Core.Bool.{Bool, true, false, not}
 use mathlib.Core.List.{List, [], _∷_}
 use Prim.Native.Nat.{ℕ, zero, suc, _<_}
@@ -21,6 +21,10 @@ below (suc n) f = both (f n) (below n f)
 
 pub true→T : {b : Bool} → b ≡ true → T b
 true→T e = subst T (sym e) tt
+
+pub T→true : (b : Bool) → T b → b ≡ true
+T→true true t = refl
+T→true false t = absurd t
 
 pub both-left : (a b : Bool) → T (both a b) → T a
 both-left true b t = tt

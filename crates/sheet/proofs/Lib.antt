@@ -1,2 +1,3 @@
 pub mod Winning
 pub mod FirstBytes
+pub mod ReadAs

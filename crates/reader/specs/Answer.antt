@@ -1,0 +1,37 @@
+-- The public reader's promise: "The reader answers 30 with no record"; refusals in document 01's order, 1, 20, 30.
+-- Assumes nothing.
+use Prim.Native.Nat.{ℕ}
+use mathlib.Core.List.{List, [], _∷_}
+use lib.Dec.{eqb, ltb}
+use lib.ListN.{length}
+use Rattle.laws.specs.Choice.{pick}
+use Rattle.paper.specs.ComesBack.{Paper, answered, refused, image-is-not-8192-bytes, address-over-8191, unassigned-code}
+use Rattle.sheet.specs.Reading.{readAt, romOf, bytesOf, cyclesOf}
+use Rattle.sheet.specs.declared.Insn.{Insn}
+use Rattle.sheet.specs.declared.Read.{Read}
+use Rattle.sheet.specs.declared.Read.the-variants.{Row, Unassigned}
+use Rattle.reader.specs.declared.Answer.{Answer}
+use Rattle.reader.specs.declared.Answer.the-variants as answer
+use Rattle.reader.specs.declared.Decoded.{Decoded}
+
+-- the values of a row: its number, its two operands, its bytes and its cycles
+abbrev pub valuesOf : Insn → ℕ → ℕ → List ℕ
+valuesOf i n t = i .row ∷ i .a ∷ i .b ∷ n ∷ t ∷ []
+
+-- document 01's number and values for each case of the reader's answer
+abbrev pub paperOf : Answer → Paper
+paperOf (answer.Row d) = answered (valuesOf (d .insn) (d .bytes) (d .cycles))
+paperOf answer.Unassigned = refused unassigned-code
+paperOf answer.ImageSize = refused image-is-not-8192-bytes
+paperOf answer.AddressRange = refused address-over-8191
+
+abbrev pub paperOfCode : Read → Paper
+paperOfCode (Row i) = answered (valuesOf i (bytesOf (i .row)) (cyclesOf (i .row)))
+paperOfCode Unassigned = refused unassigned-code
+
+-- what has to come back of an image and an address
+abbrev pub readPaper : List ℕ → ℕ → Paper
+readPaper image at =
+    pick (eqb (length image) 8192)
+    (pick (ltb at 8192) (paperOfCode (readAt (romOf image) at)) (refused address-over-8191))
+    (refused image-is-not-8192-bytes)
