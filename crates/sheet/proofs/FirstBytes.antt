@@ -3,6 +3,7 @@
 use mathlib.Core.Path.{_≡_, refl, sym, ap, subst, _∙_}
 use mathlib.Core.Bool.{Bool, true, false}
 use mathlib.Core.List.{List, [], _∷_}
+use mathlib.Core.Logic.{inl, inr}
 use Prim.Native.Nat.{ℕ, zero, suc, _+_, _/_, _%_, _<_}
 use native.Mathlib.Numerals.{one-add}
 use lib.Dec.{T, eqb, eqb→eq}
@@ -13,7 +14,7 @@ use Rattle.sheet.specs.Code.{Group, hasDigit, fits}
 use Rattle.sheet.specs.Table.{Code, Line, lines, lineAt}
 use Rattle.sheet.specs.Reading.{rowNumber, bytesOf, cyclesOf}
 use Rattle.sheet.specs.Timing.{Timed, TimedFrom}
-use Rattle.sheet.proofs.Winning.{At, here, there, line-at, Fitting, this, other, winner-is}
+use Rattle.sheet.proofs.Winning.{At, here, there, line-at, Fitting, winner-is}
 
 -- the groups begin with the digits h and l
 abbrev pub begins : List Group → ℕ → ℕ → Bool
@@ -25,7 +26,7 @@ abbrev pub begin : List Code → ℕ → ℕ → Bool
 begin [] h l = false
 begin (c ∷ cs) h l = pick (begins (c .groups) h l) true (begin cs h l)
 
-begins-of : (gs : List Group) (h l : ℕ) (ds : List ℕ) → T (fits gs (h ∷ l ∷ ds)) → T (begins gs h l)
+pub begins-of : (gs : List Group) (h l : ℕ) (ds : List ℕ) → T (fits gs (h ∷ l ∷ ds)) → T (begins gs h l)
 begins-of [] h l ds t = tt
 begins-of (g ∷ []) h l ds t = both-left (hasDigit g h) true t
 begins-of (g ∷ k ∷ gs) h l ds t =
@@ -40,9 +41,10 @@ no-pick : (t u : Bool) → T u → T (pick t true u)
 no-pick true u h = tt
 no-pick false u h = h
 
-begin-of : {cs : List Code} {h l : ℕ} {ds : List ℕ} → Fitting cs (h ∷ l ∷ ds) → T (begin cs h l)
-begin-of {h = h} {l = l} {ds = ds} (this {c = c} {cs = cs} t) = yes-pick (begins (c .groups) h l) (begin cs h l) (begins-of (c .groups) h l ds t)
-begin-of {h = h} {l = l} (other {c = c} {cs = cs} f) = no-pick (begins (c .groups) h l) (begin cs h l) (begin-of f)
+begin-of : (cs : List Code) (h l : ℕ) (ds : List ℕ) → Fitting cs (h ∷ l ∷ ds) → T (begin cs h l)
+begin-of [] h l ds f = f
+begin-of (c ∷ cs) h l ds (inl t) = yes-pick (begins (c .groups) h l) (begin cs h l) (begins-of (c .groups) h l ds t)
+begin-of (c ∷ cs) h l ds (inr f) = no-pick (begins (c .groups) h l) (begin cs h l) (begin-of cs h l ds f)
 
 -- each row that begins with the digits h and l has n bytes and t cycles
 abbrev pub agree : List Line → ℕ → ℕ → ℕ → ℕ → Bool
@@ -65,7 +67,7 @@ pub timed : (h l n t : ℕ) (ds : List ℕ) → T (agree lines h l n t) → (row
 unfolding rowNumber
 timed h l n t ds a =
     winner-is (λ (m : ℕ). (m ≡ 0 → ⊥) → Timed m n t) (h ∷ l ∷ ds) lines 1 (λ ne. absurd (ne refl))
-    (λ j r p f ne. timed-line n t j p (agree-at h l n t p a (begin-of f)))
+    (λ j r p f ne. timed-line n t j p (agree-at h l n t p a (begin-of (r .codes) h l ds f)))
 
 -- a column of the first row that begins with the digits h and l; 0 where none does
 abbrev pub column : (Line → ℕ) → List Line → ℕ → ℕ → ℕ

@@ -1,3 +1,4 @@
 pub mod Winning
 pub mod FirstBytes
 pub mod ReadAs
+pub mod Prefix

@@ -3,6 +3,7 @@
 use mathlib.Core.Path.{_≡_, refl, sym, subst, _∙_}
 use mathlib.Core.Bool.{Bool, true, false}
 use mathlib.Core.List.{List, [], _∷_}
+use mathlib.Core.Logic.{_⊎_, inl, inr}
 use Prim.Native.Nat.{ℕ, zero, suc, _+_, _<_}
 use native.Mathlib.Nat.{add-zero, add-suc, suc-add, not-suc-le-zero}
 use native.Mathlib.Omega.{arith}
@@ -26,9 +27,9 @@ unfolding lineAt
 line-at p = line-in p
 
 -- the digits begin with one of the codes
-pub data Fitting : List Code → List ℕ → Type 0 where
-  this : {c : Code} {cs : List Code} {ds : List ℕ} → T (fits (c .groups) ds) → Fitting (c ∷ cs) ds
-  other : {c : Code} {cs : List Code} {ds : List ℕ} → Fitting cs ds → Fitting (c ∷ cs) ds
+abbrev pub Fitting : List Code → List ℕ → Type 0
+Fitting [] ds = ⊥
+Fitting (c ∷ cs) ds = T (fits (c .groups) ds) ⊎ Fitting cs ds
 
 claimed-by : (t : Bool) (n m : ℕ) {A : Type 0} → (T t → A) → (0 < m → A) → 0 < pick t n m → A
 claimed-by true n m f g h = f tt
@@ -37,7 +38,7 @@ claimed-by false n m f g h = g h
 pub claimed : (cs : List Code) (ds : List ℕ) → 0 < claim cs ds → Fitting cs ds
 claimed [] ds h = absurd (not-suc-le-zero h)
 claimed (c ∷ cs) ds h =
-    claimed-by (fits (c .groups) ds) (fixedBits (c .groups)) (claim cs ds) (λ t. this t) (λ g. other (claimed cs ds g)) h
+    claimed-by (fits (c .groups) ds) (fixedBits (c .groups)) (claim cs ds) (λ t. inl t) (λ g. inr (claimed cs ds g)) h
 
 chosen : (P : ℕ → Type 0) (t : Bool) (w v : Winner) → (T t → P (w .row)) → P (v .row) → P (pick t w v .row)
 chosen P true w v p q = p tt
