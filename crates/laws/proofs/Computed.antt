@@ -1,12 +1,13 @@
 -- A test that the checker computes for all numbers below a bound, carried to each of them.
 -- Assumes nothing.
-use mathlib.Core.Path.{_≡_, refl, sym, subst}
+use mathlib.Core.Path.{_≡_, refl, sym, ap, subst, _∙_}
 use mathlib.Core.Bool.{Bool, true, false, not}
 use mathlib.Core.List.{List, [], _∷_}
-use Prim.Native.Nat.{ℕ, zero, suc, _<_}
+use Prim.Native.Nat.{ℕ, zero, suc, _+_, _<_}
 use native.Mathlib.Omega.{arith}
-use native.Mathlib.Nat.{not-suc-le-zero}
+use native.Mathlib.Nat.{not-suc-le-zero, add-zero, zero-add, add-suc, suc-add}
 use native.Mathlib.Decide.{ℕ-discrete}
+use lib.ListN.{getD}
 use lib.Dec.{T, eqb, eqb→eq, not-T}
 use Rattle.laws.specs.Choice.{pick, both}
 
@@ -72,3 +73,16 @@ no-key-out (k ∷ ks) d r =
 -- the test f, at a number that is no key
 pub rest-at : (f : ℕ → Bool) (ks : List ℕ) (n : ℕ) → T (below n (λ k. implies (out ks k) (f k))) → (d : ℕ) → d < n → NoKey d ks → T (f d)
 rest-at f ks n t d h r = where-at (out ks) f n t d h (no-key-out ks d r)
+
+-- what f gives from i on, n of them: a constant table is such a list, and each of its entries what f gives
+abbrev pub listed : (ℕ → ℕ) → ℕ → ℕ → List ℕ
+listed f i zero = []
+listed f i (suc n) = f i ∷ listed f (suc i) n
+
+listed-from : (f : ℕ → ℕ) (i n k : ℕ) → k < n → getD (listed f i n) k 0 ≡ f (i + k)
+listed-from f i zero k h = absurd (not-suc-le-zero h)
+listed-from f i (suc n) zero h = ap f (sym (add-zero i))
+listed-from f i (suc n) (suc k) h = listed-from f (suc i) n k (omega arith) ∙ ap f (suc-add i k ∙ sym (add-suc i k))
+
+pub listed-at : (f : ℕ → ℕ) (n k : ℕ) → k < n → getD (listed f 0 n) k 0 ≡ f k
+listed-at f n k h = listed-from f 0 n k h ∙ ap f (zero-add k)

@@ -4,12 +4,12 @@ use mathlib.Core.Path.{_≡_, refl, sym, ap, subst, _∙_}
 use mathlib.Core.Bool.{Bool, true, false}
 use mathlib.Core.List.{List, [], _∷_}
 use mathlib.Core.Logic.{inl, inr}
-use Prim.Native.Nat.{ℕ, zero, suc, _+_, _/_, _%_, _<_}
+use Prim.Native.Nat.{ℕ, suc, _+_, _/_, _%_, _<_}
 use native.Mathlib.Numerals.{one-add}
 use lib.Dec.{T, eqb, eqb→eq}
 use lib.ListN.{getD}
 use Rattle.laws.specs.Choice.{both, pick}
-use Rattle.laws.proofs.Computed.{implies, modus, below, at, both-left, both-right, both-i}
+use Rattle.laws.proofs.Computed.{implies, modus, below, listed, at, both-left, both-right, both-i}
 use Rattle.sheet.specs.Code.{Group, hasDigit, fits}
 use Rattle.sheet.specs.Table.{Code, Line, lines, lineAt}
 use Rattle.sheet.specs.Reading.{rowNumber, bytesOf, cyclesOf}
@@ -73,10 +73,6 @@ timed h l n t ds a =
 abbrev pub column : (Line → ℕ) → List Line → ℕ → ℕ → ℕ
 column f [] h l = 0
 column f (r ∷ rs) h l = pick (begin (r .codes) h l) (f r) (column f rs h l)
-
-abbrev listed : (ℕ → ℕ) → ℕ → ℕ → List ℕ
-listed f i zero = []
-listed f i (suc n) = f i ∷ listed f (suc i) n
 
 -- the tables that the rows make, a digit's character for each first byte
 abbrev tableOf : (Line → ℕ) → List ℕ

@@ -1,0 +1,4 @@
+pub mod Spells
+pub mod Codes
+pub mod Answers
+pub mod RoundTrip

@@ -1,0 +1,21 @@
+-- `writer::spell_far` meets its contract.
+-- Assumes nothing.
+use borrow.Author.Tests.{lt-ltb, le-ltb, eq-eqb, ne-eqb}
+use borrow.Author.Needs.{needs}
+use Rattle.writer.proofs.spell_far.Statement.{statement}
+use Rattle.writer.proofs.spell_far.Tie as tie
+
+add-result : tie.Need-add-result
+add-result c = search needs
+
+returns : tie.Need-returns
+returns c = rw (lt-ltb _ _ (c .if1 .taken))
+
+add-result-2 : tie.Need-add-result-2
+add-result-2 c = search needs
+
+returns-2 : tie.Need-returns-2
+returns-2 c = rw (le-ltb _ _ (c .if1 .left))
+
+pub spell-far-spec : {M : Type 1} → statement M
+spell-far-spec = tie.close (tie.spec add-result returns add-result-2 returns-2)
