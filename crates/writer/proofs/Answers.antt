@@ -1,7 +1,7 @@
 -- What the writer's tests show of its answer.
 -- Assumes nothing.
-use mathlib.Core.Path.{_≡_, refl, sym, ap, _∙_}
-use mathlib.Core.Bool.{Bool, true, false}
+use mathlib.Core.Path.{_≡_, refl, sym, ap, subst, _∙_}
+use mathlib.Core.Bool.{true, false}
 use mathlib.Core.List.{List, [], _∷_}
 use Prim.Native.Nat.{ℕ, zero, suc, _/_, _%_, _<_}
 use native.Mathlib.Omega.{arith}
@@ -17,8 +17,8 @@ use Rattle.sheet.specs.Timing.{TimedFrom}
 use Rattle.sheet.specs.declared.Insn.{Insn}
 use Rattle.sheet.specs.declared.Read.{Read}
 use Rattle.sheet.specs.declared.Read.the-variants.{Row, Unassigned}
-use Rattle.sheet.proofs.ReadAs.{no-row, row-of, has-row, short-row, no-such-row}
-use Rattle.writer.specs.Spelling.{spelling, sameInsn}
+use Rattle.sheet.proofs.ReadAs.{row-of, has-row, short-row, no-such-row}
+use Rattle.writer.specs.Spelling.{spelling, sameInsn, readsAs}
 use Rattle.writer.specs.Writing.{CodeOf, fromPaper, Writes, code, no-code}
 use Rattle.writer.specs.declared.Written.the-variants as written
 use Rattle.writer.proofs.Codes.{three, fill, spelled-code}
@@ -34,29 +34,25 @@ none-of-row i h bs k =
     let z = no-such-row (i .row) h in
     omega arith
 
--- an instruction has no code where what it spells is unassigned, or is another
-pub none-assigned : (i : Insn) → readBytes (three (spelling i)) ≡ Unassigned → (bs : List ℕ) → CodeOf i bs → ⊥
-none-assigned i e bs k = no-row (sym e ∙ fill i bs k .reads)
-
+-- a code reads as the instruction, or not
 same-insn : (i j : Insn) → i ≡ j → sameInsn i j ≡ true
 same-insn i j e = rw (eq-eqb (i .row) (j .row) (ap (λ (x : Insn). x .row) e), eq-eqb (i .a) (j .a) (ap (λ (x : Insn). x .a) e), eq-eqb (i .b) (j .b) (ap (λ (x : Insn). x .b) e))
 
-pub none-other : (i j : Insn) → readBytes (three (spelling i)) ≡ Row j → sameInsn i j ≡ false → (bs : List ℕ) → CodeOf i bs → ⊥
-none-other i j e f bs k =
-    let q : Row i ≡ Row j = sym (fill i bs k .reads) ∙ e in
-    let r : i ≡ j = cc in
-    let z : true ≡ false = sym (same-insn i j r) ∙ f in
-    let n : _≡_ {A = ℕ} 0 1 = cc in
-    omega arith
-
-pub is-same : (i j : Insn) → sameInsn i j ≡ true → i ≡ j
-is-same i j e =
-    let t = true→T e in
+is-same : (i j : Insn) → T (sameInsn i j) → j ≡ i
+is-same i j t =
     let u = both-right (eqb (i .row) (j .row)) (both (eqb (i .a) (j .a)) (eqb (i .b) (j .b))) t in
     let r = eqb→eq (i .row) (j .row) (both-left (eqb (i .row) (j .row)) (both (eqb (i .a) (j .a)) (eqb (i .b) (j .b))) t) in
     let a = eqb→eq (i .a) (j .a) (both-left (eqb (i .a) (j .a)) (eqb (i .b) (j .b)) u) in
     let b = eqb→eq (i .b) (j .b) (both-right (eqb (i .a) (j .a)) (eqb (i .b) (j .b)) u) in
-    (λ t. record { row = r t; a = a t; b = b t })
+    sym (λ k. record { row = r k; a = a k; b = b k })
+
+pub reads-row : (i : Insn) (r : Read) → readsAs i r ≡ true → r ≡ Row i
+reads-row i (Row j) e = ap Row (is-same i j (true→T e))
+reads-row i Unassigned e = absurd (true→T e)
+
+-- an instruction has no code where what it spells does not read as it
+pub none-read : (i : Insn) → readsAs i (readBytes (three (spelling i))) ≡ false → (bs : List ℕ) → CodeOf i bs → ⊥
+none-read i e bs k = subst T (sym (same-insn i i refl) ∙ (sym (ap (readsAs i) (fill i bs k .reads)) ∙ e)) tt
 
 -- the length that the first byte gives is the row's
 module _ (i : Insn) (b0 b1 b2 n t : ℕ) (reads : readBytes (b0 ∷ b1 ∷ b2 ∷ []) ≡ Row i) (timed : TimedFrom b0 n t) where

@@ -10,6 +10,8 @@ use Rattle.laws.specs.Choice.{pick, both}
 use Rattle.sheet.specs.Code.{Group, #, all, fixed1, fixed2, fixed3, above2, among}
 use Rattle.sheet.specs.Table.{Code, Line, lineAt}
 use Rattle.sheet.specs.declared.Insn.{Insn}
+use Rattle.sheet.specs.declared.Read.{Read}
+use Rattle.sheet.specs.declared.Read.the-variants.{Row, Unassigned}
 
 -- a group with 0 for the bits of operands
 abbrev pub fixedOf : Group → ℕ
@@ -68,3 +70,7 @@ spelling i = pick (eqb (i .row) 49) (farSpelled (i .a)) (spelled (lineAt (i .row
 
 abbrev pub sameInsn : Insn → Insn → Bool
 sameInsn i j = both (eqb (i .row) (j .row)) (both (eqb (i .a) (j .a)) (eqb (i .b) (j .b)))
+
+abbrev pub readsAs : Insn → Read → Bool
+readsAs i (Row j) = sameInsn i j
+readsAs i Unassigned = false

@@ -3,8 +3,10 @@ use sheet::Insn;
 use sheet::Read;
 use sheet::rows;
 ghost use mathlib.Core.Path.{_≡_};
+ghost use mathlib.Core.List.{[], _∷_};
 ghost use Prim.Native.Nat.{_<_};
-ghost use Rattle.writer.specs.Spelling.{spelling, placed, farSpelled, firstByte, secondByte, behind, sameInsn};
+ghost use Rattle.sheet.specs.Reading.{readBytes};
+ghost use Rattle.writer.specs.Spelling.{spelling, placed, farSpelled, firstByte, secondByte, behind, sameInsn, readsAs};
 ghost use Rattle.sheet.specs.Table.{lineAt};
 ghost use Rattle.writer.specs.Writing.{Writes};
 
@@ -127,6 +129,16 @@ fn same(i: Insn, j: Insn) -> bool
     i.b == j.b
 }
 
+// Whether a code reads as the instruction.
+fn reads_as(i: Insn, b0: u8, b1: u8, b2: u8) -> bool
+    ensures { λ r. ⌜ r ≡ readsAs i (readBytes (b0 ∷ b1 ∷ b2 ∷ [])) ⌝ }
+{
+    let Read::Row(j) = reader::decode(b0, b1, b2) else {
+        return false; // unassigned
+    };
+    same(i, j)
+}
+
 // The public writer: an instruction has the code that it spells, if that reads as the instruction, and no other.
 pub fn write(i: Insn) -> Written
     ensures { λ r. ⌜ Writes i r ⌝ }
@@ -138,10 +150,7 @@ pub fn write(i: Insn) -> Written
     let b0 = (code / 65536 % 256) as u8;
     let b1 = (code / 256 % 256) as u8;
     let b2 = (code % 256) as u8;
-    let Read::Row(j) = reader::decode(b0, b1, b2) else {
-        return Written::Refused;
-    };
-    if same(i, j) {
+    if reads_as(i, b0, b1, b2) {
         let cost = sheet::timing(b0);
         return Written::Bytes(Code {
             len: cost.bytes,

@@ -1,0 +1,29 @@
+-- `writer::reads_as` meets its contract.
+-- Assumes nothing.
+use mathlib.Core.Path.{sym, ap, _∙_}
+use Rattle.writer.specs.Spelling.{readsAs}
+use borrow.Author.Needs.{needs}
+use Rattle.writer.proofs.reads_as.Statement.{statement}
+use Rattle.writer.proofs.reads_as.Tie as tie
+
+decode-requires : tie.Need-decode-requires
+decode-requires c κs = search needs
+
+enum-known-j : tie.Need-enum-known-j
+enum-known-j c = search needs
+
+enum-told : tie.Need-enum-told
+enum-told c = search needs
+
+returns : tie.Need-returns
+returns c = ap (readsAs (c .before .before .before .args .i)) (sym (c .enum-told .given .1) ∙ c .before .before .decode .ensures)
+
+same-requires : tie.Need-same-requires
+same-requires c κs = search needs
+
+returns-2 : tie.Need-returns-2
+returns-2 c = c .same .ensures ∙ ap (readsAs (c .before .before .before .before .before .args .i)) (sym (c .before .before .j .given .1) ∙ c .before .before .before .before .decode .ensures)
+
+pub reads-as-spec : {M : Type 1} → statement M
+reads-as-spec =
+    tie.close (tie.spec decode-requires enum-known-j enum-told returns same-requires returns-2)
