@@ -120,13 +120,19 @@ fn spell(i: Insn) -> u64
 fn same(i: Insn, j: Insn) -> bool
     ensures { λ r. ⌜ r ≡ sameInsn i j ⌝ }
 {
-    if i.row != j.row {
+    let row = i.row;
+    let a = i.a;
+    let b = i.b;
+    let other_row = j.row;
+    let other_a = j.a;
+    let other_b = j.b;
+    if row != other_row {
         return false;
     }
-    if i.a != j.a {
+    if a != other_a {
         return false;
     }
-    i.b == j.b
+    b == other_b
 }
 
 // Whether a code reads as the instruction.
