@@ -1,0 +1,90 @@
+-- Laws of one frame: the table of digits, the three characters at a place, and what a frame's pins are.
+-- Assumes nothing.
+use mathlib.Core.Path.{_≡_, refl, ap, _∙_}
+use mathlib.Core.Bool.{Bool, true, false}
+use mathlib.Core.List.{List, [], _∷_}
+use Prim.Native.Nat.{ℕ, zero, suc, _+_, _-_, _<_, _≤_}
+use native.Mathlib.Numerals.{add-one, add-two}
+use native.Mathlib.Nat.{not-suc-le-zero, le-of-suc-le-suc}
+use native.Mathlib.Omega.{arith}
+use lib.Dec.{eqb, eqb→eq, ltb, lit<}
+use lib.ListN.{length, getD}
+use lib.Seq.{drop-cons}
+use borrow.Author.Tests.{ltb-true}
+use Rattle.laws.specs.Choice.{both}
+use Rattle.laws.proofs.Computed.{at}
+use Rattle.frame.specs.Frame.{digitOf, em73862Digits, isFrame, pinsOf, frameOf, charsAt, PinsInRange}
+use Rattle.frame.specs.declared.Pins.{Pins}
+use Rattle.frame.specs.declared.Frame.the-variants.{Seen, NoFrame}
+
+abbrev listed : (ℕ → ℕ) → ℕ → ℕ → List ℕ
+listed f i zero = []
+listed f i (suc n) = f i ∷ listed f (suc i) n
+
+-- the table of the values of all characters, as characters from '0' on
+unfoldable pub digitTable : List ℕ
+unfolding digitOf
+digitTable = listed (λ c. 48 + digitOf c) 0 256
+
+digit-at : (c : ℕ) → c < 256 → getD digitTable c 0 ≡ 48 + digitOf c
+unfolding digitTable digitOf
+digit-at c h = eqb→eq (getD digitTable c 0) (48 + digitOf c) (at (λ c. eqb (getD digitTable c 0) (48 + digitOf c)) 256 tt c h)
+
+pub digit-from : (c : ℕ) → c < 256 → 48 ≤ getD digitTable c 0
+digit-from c h = omega (arith, digit-at c h)
+
+pub digit-is : (c : ℕ) → c < 256 → getD digitTable c 0 - 48 ≡ digitOf c
+digit-is c h = omega (arith, digit-at c h)
+
+-- the characters at a place are those that stand there
+pub chars-at : (s : List ℕ) (k : ℕ) → k + 3 ≤ length s → charsAt s k ≡ getD s k 0 ∷ getD s (k + 1) 0 ∷ getD s (k + 2) 0 ∷ []
+chars-at s k h =
+    rw (drop-cons s k 0 (omega arith), drop-cons s (suc k) 0 (omega arith), drop-cons s (suc (suc k)) 0 (omega arith), add-one, add-two)
+
+both-false : (t : Bool) → both t false ≡ false
+both-false true = refl
+both-false false = refl
+
+pub both-first : (a b : Bool) → both a b ≡ true → a ≡ true
+both-first true b e = refl
+both-first false b e = e
+
+pub both-second : (a b : Bool) → both a b ≡ true → b ≡ true
+both-second true b e = e
+both-second false b e = let z : false ≡ true = e in cc
+
+-- another number of characters is no frame
+pub no-frame : (ls cs : List ℕ) → (length cs ≡ length ls → ⊥) → isFrame ls cs ≡ false
+no-frame [] [] ne = absurd (ne refl)
+no-frame [] (c ∷ cs) ne = refl
+no-frame (l ∷ ls) [] ne = refl
+no-frame (l ∷ ls) (c ∷ cs) ne = ap (both (ltb (digitOf c) l)) (no-frame ls cs (λ e. ne (ap suc e))) ∙ both-false (ltb (digitOf c) l)
+
+-- each digit of a frame is below its limit
+pub below-limit : (ls cs : List ℕ) (i : ℕ) → isFrame ls cs ≡ true → i < length ls → digitOf (getD cs i 0) < getD ls i 0
+below-limit [] cs i e h = absurd (not-suc-le-zero h)
+below-limit (l ∷ ls) [] i e h = let z : false ≡ true = e in let y : _≡_ {A = ℕ} 0 1 = cc in absurd (omega arith)
+below-limit (l ∷ ls) (c ∷ cs) zero e h = ltb-true (digitOf c) l (both-first (ltb (digitOf c) l) (isFrame ls cs) e)
+below-limit (l ∷ ls) (c ∷ cs) (suc i) e h =
+    below-limit ls cs i (both-second (ltb (digitOf c) l) (isFrame ls cs) e) (le-of-suc-le-suc h)
+
+pub in-range : (cs : List ℕ) → isFrame em73862Digits cs ≡ true → PinsInRange (pinsOf cs)
+in-range cs e =
+    record {
+      p0 = below-limit em73862Digits cs 0 e (lit< tt);
+      p8 = below-limit em73862Digits cs 1 e (lit< tt);
+      p4 = below-limit em73862Digits cs 2 e (lit< tt);
+    }
+
+-- three characters are a frame by what their pins are
+pub frame-judged : (s : List ℕ) (k : ℕ) {p : Pins} → k + 3 ≤ length s → p ≡ pinsOf (charsAt s k) → isFrame em73862Digits (charsAt s k) ≡ both (ltb (p .p0) 16) (both (ltb (p .p8) 16) (both (ltb (p .p4) 2) true))
+frame-judged s k h e = rw (e, chars-at)
+
+-- a frame is seen where the characters are one
+pub seen : (cs : List ℕ) → isFrame em73862Digits cs ≡ true → frameOf cs ≡ Seen (pinsOf cs)
+unfolding frameOf
+seen cs e = rw e
+
+pub not-seen : (cs : List ℕ) → isFrame em73862Digits cs ≡ false → frameOf cs ≡ NoFrame
+unfolding frameOf
+not-seen cs e = rw e
