@@ -1,7 +1,7 @@
 // The time base, the timers TA and TB and the latches that they set: one cycle, some cycles, event counts.
+use laws::both;
 ghost use mathlib.Core.Path.{_≡_};
 ghost use Prim.Native.Nat.{_+_, _<_};
-ghost use Rattle.laws.specs.Choice.{both};
 ghost use Rattle.clock.specs.Clock.{isMultiple, runs, counts, tbiSets, latched, counted, count, met, tick, passed, eventCount, InRange};
 
 // Time base, timers, and the latches IL5 to IL0 as bits 5 to 0.
@@ -23,15 +23,6 @@ pub struct Rates {
 
 // By the setting P25: the exponent of the time base period, 0 where it is off.
 const TBI: [u8; 16] = [0, 0, 0, 0, 10, 11, 12, 13, 0, 0, 0, 0, 9, 8, 15, 17];
-
-fn both(a: bool, b: bool) -> bool
-    ensures { λ r. ⌜ r ≡ both a b ⌝ }
-{
-    if a {
-        return b;
-    }
-    false
-}
 
 fn is_multiple(k: u8, base: u32) -> bool
     requires { ⌜ k < 32 ⌝ }

@@ -1,9 +1,9 @@
 -- Document 01, "One step": "compare the frame with the last one". A pin is named by its port's digit and its weight there.
 -- Assumes nothing.
 use Prim.Native.Nat.{ℕ, _/_, _%_}
-use mathlib.Core.Bool.{Bool, true, false, not}
+use mathlib.Core.Bool.{Bool, false, not}
 use mathlib.Core.List.{List, [], _∷_}
-use Rattle.laws.specs.Choice.{pick, both}
+use Rattle.laws.specs.Choice.{both, either}
 use Rattle.bits.specs.Bits.{hasBit}
 use Rattle.frame.specs.declared.Pins.{Pins}
 
@@ -18,9 +18,6 @@ rose old new w = both (hasBit new w) (not (hasBit old w))
 -- "a falling edge on an enabled wake pin"
 abbrev pub pinWakes : ℕ → ℕ → ℕ → ℕ → Bool
 pinWakes enabled old new w = both (hasBit enabled w) (fell old new w)
-
-abbrev pub either : Bool → Bool → Bool
-either a b = pick a true b
 
 abbrev pub some : (ℕ → Bool) → List ℕ → Bool
 some f [] = false

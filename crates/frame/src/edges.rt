@@ -1,8 +1,9 @@
 // The edges between the last frame and this one.
 use crate::Pins;
+use laws::either;
 ghost use mathlib.Core.Path.{_≡_};
 ghost use Prim.Native.Nat.{_<_};
-ghost use Rattle.frame.specs.Edges.{fell, rose, pinWakes, either, portWakes, wakes};
+ghost use Rattle.frame.specs.Edges.{fell, rose, pinWakes, portWakes, wakes};
 
 // The pin of weight w was 1 and is 0.
 pub fn fell(old: u8, new: u8, w: u8) -> bool
@@ -31,15 +32,6 @@ fn pin_wakes(enabled: u8, old: u8, new: u8, w: u8) -> bool
         return fell(old, new, w);
     }
     false
-}
-
-fn either(a: bool, b: bool) -> bool
-    ensures { λ r. ⌜ r ≡ either a b ⌝ }
-{
-    if a {
-        return true;
-    }
-    b
 }
 
 fn port_wakes(enabled: u8, old: u8, new: u8) -> bool

@@ -1,10 +1,10 @@
 // Frames: three characters as pins, and sequences of them. The edges between two frames are in edges.rt.
 pub mod edges;
 
+use laws::both;
 ghost use mathlib.Core.Path.{_≡_};
 ghost use Prim.Native.Nat.{_+_, _≤_};
 ghost use lib.ListN.{length};
-ghost use Rattle.laws.specs.Choice.{both};
 ghost use Rattle.frame.specs.Frame.{digitOf, em73862Digits, isFrame, pinsOf, charsAt, frameOf, frameAt, areFrames};
 
 // What a frame says of the pins: P0 and P8, and P4.0, 0 or 1.
@@ -43,15 +43,6 @@ pub fn pins_at(s: &[u8], at: usize) -> Pins
         p8: digit(s[at + 1]),
         p4: digit(s[at + 2]),
     }
-}
-
-fn both(a: bool, b: bool) -> bool
-    ensures { λ r. ⌜ r ≡ both a b ⌝ }
-{
-    if a {
-        return b;
-    }
-    false
 }
 
 fn is_frame_at(s: &[u8], at: usize) -> bool

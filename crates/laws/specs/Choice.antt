@@ -9,3 +9,6 @@ pick false a b = b
 abbrev pub both : Bool → Bool → Bool
 both true b = b
 both false b = false
+
+abbrev pub either : Bool → Bool → Bool
+either a b = pick a true b

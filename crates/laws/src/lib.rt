@@ -1,1 +1,21 @@
-// Laws that know nothing of the chip: a choice by a test, and tests that the checker computes over a range of numbers. It has no code.
+// What knows nothing of the chip: two tests together, and laws for choices and for tests that the checker computes over a range of numbers.
+ghost use mathlib.Core.Path.{_≡_};
+ghost use Rattle.laws.specs.Choice.{both, either};
+
+pub fn both(a: bool, b: bool) -> bool
+    ensures { λ r. ⌜ r ≡ both a b ⌝ }
+{
+    if a {
+        return b;
+    }
+    false
+}
+
+pub fn either(a: bool, b: bool) -> bool
+    ensures { λ r. ⌜ r ≡ either a b ⌝ }
+{
+    if a {
+        return true;
+    }
+    b
+}
