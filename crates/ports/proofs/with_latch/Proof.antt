@@ -1,0 +1,71 @@
+-- `ports::with_latch` meets its contract.
+-- Assumes nothing.
+use Rattle.ports.proofs.Others.{other, same-latches}
+use Rattle.ports.specs.Ports.{withLatch}
+use Rattle.ports.proofs.with_latch.Statement.{statement}
+use Rattle.ports.proofs.with_latch.Tie as tie
+
+returns : tie.Need-returns
+unfolding withLatch
+returns c = rw (c .match .keys1)
+
+returns-2 : tie.Need-returns-2
+unfolding withLatch
+returns-2 c = rw (c .match .keys2)
+
+returns-3 : tie.Need-returns-3
+unfolding withLatch
+returns-3 c = rw (c .match .keys3)
+
+returns-4 : tie.Need-returns-4
+unfolding withLatch
+returns-4 c = rw (c .match .keys4)
+
+returns-5 : tie.Need-returns-5
+unfolding withLatch
+returns-5 c = rw (c .match .keys5)
+
+returns-6 : tie.Need-returns-6
+unfolding withLatch
+returns-6 c = rw (c .match .keys6)
+
+returns-7 : tie.Need-returns-7
+unfolding withLatch
+returns-7 c = rw (c .match .keys7)
+
+returns-8 : tie.Need-returns-8
+unfolding withLatch
+returns-8 c = rw (c .match .keys8)
+
+returns-9 : tie.Need-returns-9
+unfolding withLatch
+returns-9 c = rw (c .match .keys9)
+
+returns-10 : tie.Need-returns-10
+unfolding withLatch
+returns-10 c = rw (c .match .keys10)
+
+returns-11 : tie.Need-returns-11
+unfolding withLatch
+returns-11 c = rw (c .match .keys11)
+
+returns-12 : tie.Need-returns-12
+unfolding withLatch
+returns-12 c = same-latches _ _ _ (other _ (c .match .rest))
+
+pub with-latch-spec : {M : Type 1} → statement M
+with-latch-spec =
+    tie.close
+    (tie.spec
+    returns
+    returns-2
+    returns-3
+    returns-4
+    returns-5
+    returns-6
+    returns-7
+    returns-8
+    returns-9
+    returns-10
+    returns-11
+    returns-12)

@@ -1,0 +1,236 @@
+// The ports: what reading one gives, what writing one leaves in its latch, and what writing P16 does to the mode.
+use frame::Pins;
+ghost use mathlib.Core.Path.{_≡_};
+ghost use Prim.Native.Nat.{_<_};
+ghost use Rattle.ports.specs.Ports.{latchOf, withLatch, p4Pins, readAs, readPort, reservedStop, writeStop, p27After, writePort, modeAfter};
+
+// The latches. P0 has none.
+pub struct Ports {
+    pub p4: u8,
+    pub p8: u8,
+    pub p9: u8,
+    pub p16: u8,
+    pub p23: u8,
+    pub p24: u8,
+    pub p25: u8,
+    pub p27: u8,
+    pub p28: u8,
+    pub p29: u8,
+    pub p30: u8,
+}
+
+pub enum Mode {
+    Running,
+    Sleep,
+    Hold,
+}
+
+// A stop or 0, the value read, and the latches then.
+pub struct PortRead {
+    pub stop: u8,
+    pub value: u8,
+    pub ports: Ports,
+}
+
+// A stop or 0, and the latches then.
+pub struct PortWrite {
+    pub stop: u8,
+    pub ports: Ports,
+}
+
+// What a latch holds, 0 for a port that has none.
+pub fn latch(p: Ports, n: u8) -> u8
+    requires { ⌜ n < 32 ⌝ }
+    ensures { λ r. ⌜ r ≡ latchOf p n ⌝ }
+{
+    match n {
+        4 => p.p4,
+        8 => p.p8,
+        9 => p.p9,
+        16 => p.p16,
+        23 => p.p23,
+        24 => p.p24,
+        25 => p.p25,
+        27 => p.p27,
+        28 => p.p28,
+        29 => p.p29,
+        30 => p.p30,
+        _ => 0,
+    }
+}
+
+// The latches with another value in one of them.
+fn with_latch(p: Ports, n: u8, v: u8) -> Ports
+    requires { ⌜ n < 32 ⌝ }
+    ensures { λ r. ⌜ r ≡ withLatch p n v ⌝ }
+{
+    let mut next = p;
+    match n {
+        4 => {
+            next.p4 = v;
+            next
+        }
+        8 => {
+            next.p8 = v;
+            next
+        }
+        9 => {
+            next.p9 = v;
+            next
+        }
+        16 => {
+            next.p16 = v;
+            next
+        }
+        23 => {
+            next.p23 = v;
+            next
+        }
+        24 => {
+            next.p24 = v;
+            next
+        }
+        25 => {
+            next.p25 = v;
+            next
+        }
+        27 => {
+            next.p27 = v;
+            next
+        }
+        28 => {
+            next.p28 = v;
+            next
+        }
+        29 => {
+            next.p29 = v;
+            next
+        }
+        30 => {
+            next.p30 = v;
+            next
+        }
+        _ => next,
+    }
+}
+
+// What P4 reads: 1110 and P4.0, or 15 with SOUND enabled.
+fn p4_pins(sound: bool, p4: u8) -> u8
+    requires { ⌜ p4 < 2 ⌝ }
+    ensures { λ r. ⌜ r ≡ p4Pins sound p4 ⌝ }
+{
+    if sound {
+        return 15;
+    }
+    14 + p4
+}
+
+fn read_as(value: u8, ports: Ports) -> PortRead
+    ensures { λ r. ⌜ r ≡ readAs value ports ⌝ }
+{
+    PortRead {
+        stop: 0,
+        value: value,
+        ports: ports,
+    }
+}
+
+// Reading or testing a port.
+pub fn read_port(sound: bool, pins: Pins, p: Ports, n: u8) -> PortRead
+    requires { ⌜ (n < 32) × (pins .p4 < 2) ⌝ }
+    ensures { λ r. ⌜ r ≡ readPort sound pins p n ⌝ }
+{
+    match n {
+        0 => read_as(pins.p0, p),
+        4 => read_as(p4_pins(sound, pins.p4), with_latch(p, 4, 15)),
+        8 => read_as(pins.p8, with_latch(p, 8, 15)),
+        9 => read_as(p.p9, p),
+        _ => PortRead {
+            stop: 33,
+            value: 0,
+            ports: p,
+        },
+    }
+}
+
+// 10xx is reserved.
+fn reserved_stop(v: u8) -> u8
+    ensures { λ r. ⌜ r ≡ reservedStop v ⌝ }
+{
+    if v / 4 == 2 {
+        return 34;
+    }
+    0
+}
+
+fn write_stop(n: u8, v: u8) -> u8
+    requires { ⌜ n < 32 ⌝ }
+    ensures { λ r. ⌜ r ≡ writeStop n v ⌝ }
+{
+    match n {
+        4 => 0,
+        8 => 0,
+        9 => 0,
+        16 => 0,
+        23 => 0,
+        24 => 0,
+        25 => reserved_stop(v),
+        27 => reserved_stop(v),
+        28 => 0,
+        29 => 0,
+        30 => 0,
+        _ => 33,
+    }
+}
+
+// What writing a port puts into P27: sleep clears it.
+fn p27_after(p27: u8, n: u8, v: u8) -> u8
+    ensures { λ r. ⌜ r ≡ p27After p27 n v ⌝ }
+{
+    if n == 16 {
+        if v / 4 % 2 == 1 {
+            if v % 4 == 3 {
+                return p27;
+            }
+            return 0;
+        }
+        return p27;
+    }
+    p27
+}
+
+// Writing a port.
+pub fn write_port(p: Ports, n: u8, v: u8) -> PortWrite
+    requires { ⌜ n < 32 ⌝ }
+    ensures { λ r. ⌜ r ≡ writePort p n v ⌝ }
+{
+    let stop = write_stop(n, v);
+    if stop == 0 {
+        let mut awake = p;
+        awake.p27 = p27_after(p.p27, n, v);
+        return PortWrite {
+            stop: 0,
+            ports: with_latch(awake, n, v),
+        };
+    }
+    PortWrite {
+        stop: stop,
+        ports: p,
+    }
+}
+
+// The mode after writing a port: P16 with bit 2 set enters hold or sleep.
+pub fn mode_after(mode: Mode, n: u8, v: u8) -> Mode
+    ensures { λ r. ⌜ r ≡ modeAfter mode n v ⌝ }
+{
+    if n == 16 {
+        if v / 4 % 2 == 1 {
+            if v % 4 == 3 {
+                return Mode::Hold;
+            }
+            return Mode::Sleep;
+        }
+        return mode;
+    }
+    mode
+}
