@@ -3,3 +3,4 @@ pub mod Code
 pub mod Table
 pub mod Reading
 pub mod Timing
+pub mod Fields
