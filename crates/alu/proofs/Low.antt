@@ -1,6 +1,6 @@
 -- What a row makes of nibbles is a nibble.
 -- Assumes nothing.
-use mathlib.Core.Bool.{Bool, true, false}
+use mathlib.Core.Bool.{Bool}
 use Prim.Native.Nat.{ℕ, _<_}
 use native.Mathlib.Omega.{arith}
 use lib.Dec.{T, eqb, ltb, ltb→lt}
@@ -8,9 +8,10 @@ use lib.Bits.{bitAnd, bitOr, bitXor}
 use Rattle.laws.specs.Choice.{either}
 use Rattle.laws.proofs.Computed.{below, at, implies, modus}
 use Rattle.bits.specs.Bits.{withBit, withoutBit}
+use Rattle.bits.proofs.Laws.{bit-of-lt}
 use Rattle.sheet.specs.Operation.{Op}
 use Rattle.sheet.specs.Operation.Op.{Move, Plus, PlusCF, Minus, MinusCF', And, Or, Xor, Clear, Set, Has, Lacks, RotateLeft, RotateRight}
-use Rattle.alu.specs.Making.{made, bitOf}
+use Rattle.alu.specs.Making.{made}
 
 -- a test over all pairs of nibbles, carried to each
 pub pair-at : (f : ℕ → ℕ → Bool) → T (below 16 (λ a. below 16 (f a))) → (a b : ℕ) → a < 16 → b < 16 → T (f a b)
@@ -37,10 +38,6 @@ Second Lacks b = T (isWeight b)
 Second RotateLeft b = Unit
 Second RotateRight b = Unit
 
-bit-low : (b : Bool) → bitOf b < 2
-bit-low true = omega arith
-bit-low false = omega arith
-
 module _ (a b : ℕ) (cf : Bool) (ha : a < 16) (hb : b < 16) where
   low : (f : ℕ → ℕ → ℕ) → T (below 16 (λ x. below 16 (λ y. ltb (f x y) 16))) → f a b < 16
   low f t = ltb→lt (f a b) 16 (pair-at (λ x y. ltb (f x y) 16) t a b ha hb)
@@ -63,4 +60,4 @@ module _ (a b : ℕ) (cf : Bool) (ha : a < 16) (hb : b < 16) where
   made-low Has s = ha
   made-low Lacks s = ha
   made-low RotateLeft s = omega arith
-  made-low RotateRight s = omega (arith, bit-low cf)
+  made-low RotateRight s = omega (arith, bit-of-lt cf)

@@ -1,17 +1,13 @@
 -- What a row makes of two nibbles: the operations of the sheet's operation column, with the carry that its flag columns speak of.
 -- Assumes nothing.
 use Prim.Native.Nat.{ℕ, _+_, _-_, _*_, _/_, _%_}
-use mathlib.Core.Bool.{Bool, true, false, not}
+use mathlib.Core.Bool.{Bool, false, not}
 use lib.Dec.{eqb, leb}
 use lib.Bits.{bitAnd, bitOr, bitXor}
-use Rattle.bits.specs.Bits.{hasBit, withBit, withoutBit}
+use Rattle.bits.specs.Bits.{hasBit, withBit, withoutBit, bitOf}
 use Rattle.sheet.specs.Operation.{Op}
 use Rattle.sheet.specs.Operation.Op.{Move, Plus, PlusCF, Minus, MinusCF', And, Or, Xor, Clear, Set, Has, Lacks, RotateLeft, RotateRight}
 use Rattle.alu.specs.declared.Made.{Made}
-
-abbrev pub bitOf : Bool → ℕ
-bitOf true = 1
-bitOf false = 0
 
 abbrev pub plain : ℕ → Bool → Made
 plain v c = record { value = v; carry = c }

@@ -1,22 +1,14 @@
 // The sums, differences, logic and rotations of nibbles that rows make, each with its carry.
+use bits::bit_of;
 ghost use mathlib.Core.Path.{_≡_};
 ghost use Prim.Native.Nat.{_<_};
 ghost use Rattle.sheet.specs.Operation.Op.{Plus, PlusCF, Minus, MinusCF', And, Or, Xor, RotateLeft, RotateRight};
-ghost use Rattle.alu.specs.Making.{made, bitOf, nibbleOf};
+ghost use Rattle.alu.specs.Making.{made, nibbleOf};
 
 // A nibble, and the carry of the operation that made it.
 pub struct Made {
     pub value: u8,
     pub carry: bool,
-}
-
-fn bit(b: bool) -> u8
-    ensures { λ r. ⌜ (r ≡ bitOf b) × (r < 2) ⌝ }
-{
-    if b {
-        return 1;
-    }
-    0
 }
 
 fn nibble(total: u8) -> Made
@@ -39,7 +31,7 @@ pub fn plus_cf(a: u8, b: u8, cf: bool) -> Made
     requires { ⌜ (a < 16) × (b < 16) ⌝ }
     ensures { λ r. ⌜ r ≡ made PlusCF a b cf ⌝ }
 {
-    nibble(a + b + bit(cf))
+    nibble(a + b + bit_of(cf))
 }
 
 // No borrow is carry.
@@ -54,7 +46,7 @@ pub fn minus_cf(a: u8, b: u8, cf: bool) -> Made
     requires { ⌜ (a < 16) × (b < 16) ⌝ }
     ensures { λ r. ⌜ r ≡ made MinusCF' a b cf ⌝ }
 {
-    nibble(a + 15 + bit(cf) - b)
+    nibble(a + 15 + bit_of(cf) - b)
 }
 
 pub fn and(a: u8, b: u8, cf: bool) -> Made
@@ -90,7 +82,7 @@ pub fn rotate_left(a: u8, cf: bool) -> Made
     ensures { λ r. ⌜ r ≡ made RotateLeft a 0 cf ⌝ }
 {
     Made {
-        value: (a * 2 + bit(cf)) % 16,
+        value: (a * 2 + bit_of(cf)) % 16,
         carry: 8 <= a,
     }
 }
@@ -101,7 +93,7 @@ pub fn rotate_right(a: u8, cf: bool) -> Made
     ensures { λ r. ⌜ r ≡ made RotateRight a 0 cf ⌝ }
 {
     Made {
-        value: a / 2 + 8 * bit(cf),
+        value: a / 2 + 8 * bit_of(cf),
         carry: a % 2 == 1,
     }
 }

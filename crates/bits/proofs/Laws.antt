@@ -1,19 +1,20 @@
--- Laws of single bits: what setting and clearing one keeps, and the highest of six. The bit at i has the weight 2 ^ i.
+-- Laws of single bits: what setting and clearing one keeps, the highest of six, and bits joined. The bit at i has the weight 2 ^ i.
 -- Assumes nothing.
-use mathlib.Core.Path.{_≡_, refl, ap, subst}
+use mathlib.Core.Path.{_≡_, refl, ap, subst, _∙_}
 use mathlib.Core.Bool.{Bool, true, false}
 use Prim.Native.Nat.{ℕ, suc, _+_, _-_, _*_, _/_, _%_, _^_, _<_, _≤_}
-use native.Mathlib.Nat.{div-eq-of-lt, mod-lt, suc-mul, pow-suc}
+use native.Mathlib.Nat.{div-eq-of-lt, mod-lt, suc-mul, pow-suc, mod-eq-of-lt}
 use native.Mathlib.Decide.{decLt, ℕ-discrete}
 use native.Mathlib.Omega.{arith}
 use lib.Dec.{T, eqb, eqb→eq, leb, leb→le}
 use lib.Pow.{pow-add, pow-pos, shr-lt, split}
 use lib.Arith.{digits-lt}
+use lib.Bits.{bitOr, or-shifted}
 use lib.Count.{leadingZeros}
 use borrow.Author.Tests.{eqb-true, eq-eqb, ne-eqb}
 use Rattle.laws.specs.Choice.{pick}
 use Rattle.laws.proofs.Computed.{below, at}
-use Rattle.bits.specs.Bits.{hasBit, withBit, withoutBit, highestBit}
+use Rattle.bits.specs.Bits.{hasBit, withBit, withoutBit, highestBit, bitOf}
 
 weighed : (n w : ℕ) → n / w % 2 ≡ 1 → Dec (n < w) → w ≤ n
 weighed n w e (yes h) = let q : n / w ≡ 0 = div-eq-of-lt h in omega arith
@@ -94,3 +95,16 @@ by-zeros n h = eqb→eq (highestBit n) (byZeros n) (at (λ n. eqb (highestBit n)
 pub highest-le : (n : ℕ) → n < 64 → highestBit n ≤ 6
 unfolding highestBit
 highest-le n h = leb→le (highestBit n) 6 (at (λ n. leb (highestBit n) 6) 64 tt n h)
+
+-- k bits joined to a number that was shifted up by k, within w bits
+pub joined : (w k n b : ℕ) → n * 2 ^ k < 2 ^ w → b < 2 ^ k → bitOr (n * 2 ^ k % 2 ^ w) b ≡ n * 2 ^ k + b
+joined w k n b h l = ap (λ (m : ℕ). bitOr m b) (mod-eq-of-lt h) ∙ or-shifted n k b l
+
+pub bit-of-lt : (b : Bool) → bitOf b < 2
+bit-of-lt true = omega arith
+bit-of-lt false = omega arith
+
+-- a number has a bit that its digit says
+pub has-bit-is : (n w : ℕ) (b : Bool) → n / w % 2 ≡ bitOf b → hasBit n w ≡ b
+has-bit-is n w true e = rw e
+has-bit-is n w false e = rw e

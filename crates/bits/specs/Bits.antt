@@ -20,3 +20,7 @@ unfoldable pub highestBit : ℕ → ℕ
 highestBit n =
     pick (hasBit n 32) 5
     (pick (hasBit n 16) 4 (pick (hasBit n 8) 3 (pick (hasBit n 4) 2 (pick (hasBit n 2) 1 (pick (hasBit n 1) 0 6)))))
+
+-- a bit as a number
+abbrev pub bitOf : Bool → ℕ
+bitOf b = pick b 1 0

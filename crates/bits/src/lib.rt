@@ -1,7 +1,7 @@
-// Bits of small numbers, each named by its weight, and the highest of six by leading zeros.
+// Bits of small numbers, each named by its weight, the highest of six by leading zeros, and shifts and masks that take bits out.
 ghost use mathlib.Core.Path.{_≡_};
-ghost use Prim.Native.Nat.{_+_, _<_};
-ghost use Rattle.bits.specs.Bits.{hasBit, withBit, withoutBit, highestBit};
+ghost use Prim.Native.Nat.{_+_, _/_, _%_, _^_, _<_};
+ghost use Rattle.bits.specs.Bits.{hasBit, withBit, withoutBit, highestBit, bitOf};
 
 pub fn has_bit(n: u8, w: u8) -> bool
     requires { ⌜ 0 < w ⌝ }
@@ -40,4 +40,37 @@ pub fn due_bit(allowed: u8) -> u8
         return 6;
     }
     (31 - zeros) as u8
+}
+
+// The weight of bit k.
+pub fn weight(k: u8) -> u8
+    requires { ⌜ k < 8 ⌝ }
+    ensures { λ r. ⌜ r ≡ 2 ^ k ⌝ }
+{
+    1 << k
+}
+
+pub fn bit_of(b: bool) -> u8
+    ensures { λ r. ⌜ r ≡ bitOf b ⌝ }
+{
+    if b {
+        return 1;
+    }
+    0
+}
+
+// Bit k.
+pub fn bit_at(n: u8, k: u8) -> bool
+    requires { ⌜ k < 8 ⌝ }
+    ensures { λ r. ⌜ r ≡ hasBit n (2 ^ k) ⌝ }
+{
+    n >> k & 1 == 1
+}
+
+// The four bits from bit k up.
+pub fn nibble_at(n: u16, k: u16) -> u8
+    requires { ⌜ k < 16 ⌝ }
+    ensures { λ r. ⌜ r ≡ n / 2 ^ k % 16 ⌝ }
+{
+    (n >> k & 15) as u8
 }

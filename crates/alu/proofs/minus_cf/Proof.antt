@@ -1,5 +1,7 @@
 -- `alu::minus_cf` meets its contract.
 -- Assumes nothing.
+use native.Mathlib.Omega.{arith}
+use Rattle.bits.proofs.Laws.{bit-of-lt}
 use Rattle.alu.specs.Making.{made}
 use borrow.Author.Needs.{needs}
 use Rattle.alu.proofs.minus_cf.Statement.{statement}
@@ -8,11 +10,11 @@ use Rattle.alu.proofs.minus_cf.Tie as tie
 add-nibble : tie.Need-add-nibble
 add-nibble c = search needs
 
-bit-requires : tie.Need-bit-requires
-bit-requires c κs = search needs
+bit-of-requires : tie.Need-bit-of-requires
+bit-of-requires c κs = search needs
 
 add-nibble-2 : tie.Need-add-nibble-2
-add-nibble-2 c = search needs
+add-nibble-2 c = omega (arith, bit-of-lt (c .before .args .cf), c .bit-of .ensures)
 
 sub-nibble : tie.Need-sub-nibble
 sub-nibble c = search needs
@@ -22,8 +24,8 @@ nibble-requires c κs = search needs
 
 returns : tie.Need-returns
 unfolding made
-returns c = rw (← c .before .bit .ensures .0) (c .nibble .ensures)
+returns c = rw (← c .before .bit-of .ensures) (c .nibble .ensures)
 
 pub minus-cf-spec : {M : Type 1} → statement M
 minus-cf-spec =
-    tie.close (tie.spec add-nibble bit-requires add-nibble-2 sub-nibble nibble-requires returns)
+    tie.close (tie.spec add-nibble bit-of-requires add-nibble-2 sub-nibble nibble-requires returns)
