@@ -1,0 +1,37 @@
+-- `machine::Machine::accept` meets its contract.
+-- Assumes nothing.
+use lib.Pow.{pow-pos}
+use Rattle.machine.specs.Stack.{accepted}
+use borrow.Author.Needs.{needs}
+use Rattle.machine.proofs.Machine.accept.Statement.{statement}
+use Rattle.machine.proofs.Machine.accept.Tie as tie
+
+entry-of-requires : tie.Need-entry-of-requires
+entry-of-requires c κs = search needs
+
+weight-requires : tie.Need-weight-requires
+weight-requires c κs = search needs
+
+without-bit-requires : tie.Need-without-bit-requires
+without-bit-requires c κs = rw (c .weight .ensures) (pow-pos (c .before .before .args .latch))
+
+top-of-requires : tie.Need-top-of-requires
+top-of-requires c κs = search needs
+
+push-requires : tie.Need-push-requires
+push-requires c κs = search needs
+
+returns : tie.Need-returns
+unfolding accepted
+returns c = rw (c .before .before .before .before .push .ensures, c .before .before .before .before .before .top-of .ensures, c .before .before .before .before .before .before .without-bit .ensures, c .before .before .before .before .before .before .before .weight .ensures, c .before .before .before .before .before .before .before .before .entry-of .ensures)
+
+pub accept-spec : {M : Type 1} → statement M
+accept-spec =
+    tie.close
+    (tie.spec
+    entry-of-requires
+    weight-requires
+    without-bit-requires
+    top-of-requires
+    push-requires
+    returns)

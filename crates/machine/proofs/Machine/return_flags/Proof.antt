@@ -1,0 +1,36 @@
+-- `machine::Machine::return_flags` meets its contract.
+-- Assumes nothing.
+use Rattle.machine.specs.Stack.{flagsReturned}
+use borrow.Author.Needs.{needs}
+use Rattle.machine.proofs.Machine.return_flags.Statement.{statement}
+use Rattle.machine.proofs.Machine.return_flags.Tie as tie
+
+top-at-requires : tie.Need-top-at-requires
+top-at-requires c κs = search needs
+
+bit-at-requires : tie.Need-bit-at-requires
+bit-at-requires c κs = search needs
+
+bit-at-requires-2 : tie.Need-bit-at-requires-2
+bit-at-requires-2 c κs = search needs
+
+bit-at-requires-3 : tie.Need-bit-at-requires-3
+bit-at-requires-3 c κs = search needs
+
+pop-requires : tie.Need-pop-requires
+pop-requires c κs = search needs
+
+returns : tie.Need-returns
+unfolding flagsReturned
+returns c = rw (c .before .before .before .before .pop .ensures, c .before .before .before .before .before .bit-at3 .ensures, c .before .before .before .before .before .before .bit-at2 .ensures, c .before .before .before .before .before .before .before .bit-at .ensures, c .before .before .before .before .before .before .before .before .top-at .ensures .value)
+
+pub return-flags-spec : {M : Type 1} → statement M
+return-flags-spec =
+    tie.close
+    (tie.spec
+    top-at-requires
+    bit-at-requires
+    bit-at-requires-2
+    bit-at-requires-3
+    pop-requires
+    returns)

@@ -1,0 +1,28 @@
+-- Document 01, "One step": which interrupt is due, of the latches IL5 to IL0 and the mask. A source is named by its latch's number.
+-- Assumes nothing.
+use Prim.Native.Nat.{ℕ}
+use mathlib.Core.Bool.{Bool}
+use Rattle.laws.specs.Choice.{pick, both}
+use Rattle.bits.specs.Bits.{hasBit}
+
+-- "Mask bits: interrupt table of 000; INT0 needs EI only." TRGA needs MASK2, TRGB and TBI MASK1, INT1 MASK0
+abbrev pub int0Due : ℕ → Bool
+int0Due il = hasBit il 32
+
+abbrev pub trgaDue : ℕ → ℕ → Bool
+trgaDue il mask = both (hasBit il 8) (hasBit mask 4)
+
+abbrev pub trgbDue : ℕ → ℕ → Bool
+trgbDue il mask = both (hasBit il 4) (hasBit mask 2)
+
+abbrev pub tbiDue : ℕ → ℕ → Bool
+tbiDue il mask = both (hasBit il 2) (hasBit mask 2)
+
+abbrev pub int1Due : ℕ → ℕ → Bool
+int1Due il mask = both (hasBit il 1) (hasBit mask 1)
+
+-- "accept the first of INT0, TRGA, TRGB, TBI, INT1 (IL5, IL3, IL2, IL1, IL0; ..)": 6 where none is due
+unfoldable pub dueSource : ℕ → ℕ → ℕ
+dueSource il mask =
+    pick (int0Due il) 5
+    (pick (trgaDue il mask) 3 (pick (trgbDue il mask) 2 (pick (tbiDue il mask) 1 (pick (int1Due il mask) 0 6))))

@@ -1,0 +1,61 @@
+// The record: its types. valid.rt decides its ranges, start.rt makes it fresh and resets it, ram.rt and pack.rt read and write RAM, stack.rt and due.rt are for calls and interrupts.
+pub mod due;
+pub mod pack;
+pub mod ram;
+pub mod stack;
+pub mod start;
+pub mod valid;
+
+use frame::Pins;
+use ports::Mode;
+use ports::Ports;
+
+pub struct Registers {
+    pub acc: u8,
+    pub hr: u8,
+    pub lr: u8,
+    pub cf: bool,
+    pub zf: bool,
+    pub sf: bool,
+}
+
+pub struct Pointers {
+    pub sp: u8,
+    pub dp: u16,
+}
+
+// il has the latches IL5 to IL0 as bits 5 to 0.
+pub struct Interrupts {
+    pub ei: bool,
+    pub il: u8,
+    pub mask: u8,
+}
+
+pub struct Timers {
+    pub base: u32,
+    pub ta: u16,
+    pub tb: u16,
+}
+
+// All but RAM.
+pub struct Core {
+    pub regs: Registers,
+    pub pc: u16,
+    pub ptrs: Pointers,
+    pub ints: Interrupts,
+    pub timers: Timers,
+    pub ports: Ports,
+    pub pins: Pins,
+    pub mode: Mode,
+}
+
+pub struct Machine {
+    pub core: Core,
+    pub ram: [u8; 372],
+}
+
+// What reset answers: 0 and the record, or a refusal's number and the record as it was.
+pub struct Reset {
+    pub refusal: u8,
+    pub machine: Machine,
+}
