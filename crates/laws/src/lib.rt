@@ -1,4 +1,4 @@
-// What knows nothing of the chip: two tests together, and laws for choices and for tests that the checker computes over a range of numbers.
+// What knows nothing of the chip: two tests together, and laws for choices, for tests that the checker computes over a range of numbers, and for texts written into a buffer.
 ghost use mathlib.Core.Path.{_≡_};
 ghost use Rattle.laws.specs.Choice.{both, either};
 
