@@ -4,3 +4,4 @@ pub mod Table
 pub mod Reading
 pub mod Timing
 pub mod Fields
+pub mod Flow

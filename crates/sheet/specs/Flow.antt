@@ -1,0 +1,19 @@
+-- Where a branch or a call goes, by its operand and, of a branch, by the address of the row's own first byte.
+-- Assumes nothing.
+use Prim.Native.Nat.{ℕ, _+_, _*_, _/_}
+use lib.Dec.{eqb}
+use Rattle.laws.specs.Choice.{pick}
+use Rattle.sheet.specs.Operation.{Target, Entry}
+use Rattle.sheet.specs.Operation.Target.{page, half, whole}
+use Rattle.sheet.specs.Operation.Entry.{long, short}
+
+-- "SBR keeps PC bits 12..6 and LBR bit 12 of its own first byte. SLBR: 55h goes to the upper 4 KiB, 57h to the lower": its operand has bit 12
+abbrev pub targetOf : Target → ℕ → ℕ → ℕ
+targetOf page at a = at / 64 * 64 + a
+targetOf half at a = at / 4096 * 4096 + a
+targetOf whole at a = a
+
+-- "SCALL n: 8n + 6, but 86h for n = 0"; the address of LCALL stands in its code
+abbrev pub entryOf : Entry → ℕ → ℕ
+entryOf long a = a
+entryOf short n = pick (eqb n 0) 0x86 (8 * n + 6)
