@@ -1,0 +1,4 @@
+pub mod Digits
+pub mod Notation
+pub mod Listing
+pub mod Words
