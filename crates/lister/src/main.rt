@@ -1,0 +1,83 @@
+// lister IMAGE [ADDRESS [COUNT]]: the rows of an image, one a line, in the sheet's notation.
+// The words are judged from the left: the image, the address, the number of lines, and that there are no more.
+use libc::STDERR_FILENO;
+use libc::STDOUT_FILENO;
+use text::words::Address;
+use text::words::Number;
+ghost use mathlib.Core.Path.{_≡_};
+ghost use Prim.Native.Nat.{_≤_};
+ghost use lib.ListN.{length};
+
+fn usage() {
+    io::write_all(STDERR_FILENO, b"usage: lister IMAGE [ADDRESS [COUNT]]\n");
+}
+
+// Room for the lines of a whole image, of 37 characters each, and three more.
+fn room() -> [u8; 303107]
+    ensures { λ r. ⌜ 303107 ≡ length r ⌝ }
+{
+    [0; 303107]
+}
+
+fn list(image: &[u8], at: u16, count: u32)
+    requires { ⌜ (length (now image) ≡ 8192) × (count ≤ 8192) ⌝ }
+{
+    let mut out = room();
+    let n = text::line::listing(&mut out, image, at, count);
+    io::write_all(STDOUT_FILENO, &out[..n]);
+}
+
+fn list_from(image: &[u8], at: u16)
+    requires { ⌜ length (now image) ≡ 8192 ⌝ }
+{
+    if os::arg_count() < 4 {
+        list(image, at, 8192);
+        return;
+    }
+    let mut word = io::buffer();
+    let n = os::arg(3, &mut word);
+    let Number::Value(count) = text::words::read_number(&word[..n], 10) else {
+        usage();
+        return;
+    };
+    if 4 < os::arg_count() {
+        usage();
+        return;
+    }
+    list(image, at, count);
+}
+
+fn list_image(image: &[u8])
+    requires { ⌜ length (now image) ≡ 8192 ⌝ }
+{
+    if os::arg_count() < 3 {
+        list(image, 0, 8192);
+        return;
+    }
+    let mut word = io::buffer();
+    let n = os::arg(2, &mut word);
+    let Address::At(at) = text::words::read_address(&word[..n]) else {
+        io::write_all(STDOUT_FILENO, b"refused 20\n");
+        return;
+    };
+    list_from(image, at);
+}
+
+fn main() {
+    let mut path = io::buffer();
+    let n = os::arg(1, &mut path);
+    let file = os::open_read(&path[..n]);
+    if file < 0 {
+        io::write_all(STDOUT_FILENO, b"refused 01\n");
+        usage();
+        return;
+    }
+    let mut image = [0u8; 8193];
+    let size = io::read_full(file, &mut image);
+    libc::close(file);
+    if size != 8192 {
+        io::write_all(STDOUT_FILENO, b"refused 01\n");
+        return;
+    }
+    list_image(&image[..size]);
+}
