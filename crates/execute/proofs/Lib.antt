@@ -1,0 +1,6 @@
+pub mod Frame
+pub mod PortsValid
+pub mod PlacesValid
+pub mod PutValid
+pub mod StepsValid
+pub mod RowsValid
