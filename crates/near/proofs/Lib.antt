@@ -1,0 +1,5 @@
+pub mod Arms
+pub mod Moving
+pub mod Making
+pub mod Asking
+pub mod Branching

@@ -1,0 +1,40 @@
+// Rows that compare or test registers, and NOP: CMPH, CMPIA, CMPL, TFA, TFCFC, TTCFS, TZS, NOP.
+use crate::Act;
+use crate::ends;
+use machine::Core;
+use sheet::rows;
+ghost use mathlib.Core.Path.{_≡_};
+ghost use mathlib.Core.Bool.{true};
+ghost use Prim.Native.Nat.{_<_};
+ghost use Rattle.execute.specs.Places.{weightOf};
+ghost use Rattle.near.specs.Quiet.{Quiet, Low};
+ghost use Rattle.near.specs.Groups.{isOne, asks};
+
+// The weight of the bit that b names.
+fn weight(b: u8) -> u8
+    ensures { λ w. ⌜ (w ≡ weightOf b) × (0 < w) ⌝ }
+{
+    match b {
+        0 => 1,
+        1 => 2,
+        2 => 4,
+        _ => 8,
+    }
+}
+
+pub fn asked(m: Core, row: u8, k: u8) -> Act
+    requires { ⌜ (Low m k) × (isOne asks row ≡ true) ⌝ }
+    ensures { λ x. ⌜ Quiet m row k x ⌝ }
+{
+    let r = m.regs;
+    match row {
+        rows::CMPH => ends::lessened(m, alu::minus(k, r.hr, r.cf), 2, 2),
+        rows::CMPIA => ends::compared(m, alu::minus(k, r.acc, r.cf), 1, 1),
+        rows::CMPL => ends::lessened(m, alu::minus(k, r.lr, r.cf), 2, 2),
+        rows::TFA => ends::tested(m, !bits::has_bit(r.acc, weight(k)), 1, 1),
+        rows::TFCFC => ends::cf_tested(m, false, !r.cf, 1, 1),
+        rows::TTCFS => ends::cf_tested(m, true, r.cf, 1, 1),
+        rows::TZS => ends::tested(m, r.zf, 1, 1),
+        _ => ends::nothing(m, 1, 1),
+    }
+}

@@ -1,0 +1,25 @@
+// Rows that move or exchange registers: LDH, LDIA, LDL, THA, TLA, EXAH, EXAL.
+use crate::Act;
+use crate::ends;
+use machine::Core;
+use sheet::rows;
+ghost use mathlib.Core.Path.{_≡_};
+ghost use mathlib.Core.Bool.{true};
+ghost use Rattle.near.specs.Quiet.{Quiet, Low};
+ghost use Rattle.near.specs.Groups.{isOne, moves};
+
+pub fn moved(m: Core, row: u8, k: u8) -> Act
+    requires { ⌜ (Low m k) × (isOne moves row ≡ true) ⌝ }
+    ensures { λ x. ⌜ Quiet m row k x ⌝ }
+{
+    let r = m.regs;
+    match row {
+        rows::LDH => ends::hr_loaded(m, k, 1, 1),
+        rows::LDIA => ends::acc_loaded(m, k, 1, 1),
+        rows::LDL => ends::lr_loaded(m, k, 1, 1),
+        rows::THA => ends::acc_loaded(m, r.hr, 1, 1),
+        rows::TLA => ends::acc_loaded(m, r.lr, 1, 1),
+        rows::EXAH => ends::acc_hr_exchanged(m, 1, 2),
+        _ => ends::acc_lr_exchanged(m, 1, 2),
+    }
+}
