@@ -1,3 +1,4 @@
 pub mod Choice
 pub mod Decides
 pub mod Writing
+pub mod Among

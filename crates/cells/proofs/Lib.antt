@@ -1,0 +1,4 @@
+pub mod Absent
+pub mod Around
+pub mod Read
+pub mod Write
