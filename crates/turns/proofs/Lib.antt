@@ -1,0 +1,4 @@
+pub mod Calling
+pub mod Latching
+pub mod Pairs
+pub mod Returning

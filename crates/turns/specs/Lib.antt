@@ -1,0 +1,4 @@
+pub mod Groups
+pub mod Latches
+pub mod Stack
+pub mod Turns
