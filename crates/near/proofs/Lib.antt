@@ -1,4 +1,3 @@
-pub mod Arms
 pub mod Moving
 pub mod Making
 pub mod Asking

@@ -1,14 +1,7 @@
 -- Which rows each function of this crate is for, by their numbers in the sheet, the last arm's row first.
 -- Assumes nothing.
 use Prim.Native.Nat.{ℕ}
-use mathlib.Core.Bool.{Bool, false}
 use mathlib.Core.List.{List, [], _∷_}
-use lib.Dec.{eqb}
-use Rattle.laws.specs.Choice.{either}
-
-unfoldable pub isOne : List ℕ → ℕ → Bool
-isOne [] n = false
-isOne (k ∷ ks) n = either (eqb n k) (isOne ks n)
 
 -- EXAL, EXAH, TLA, THA, LDL, LDIA, LDH
 abbrev pub moves : List ℕ

@@ -8,7 +8,8 @@ ghost use mathlib.Core.Bool.{true};
 ghost use Prim.Native.Nat.{_<_};
 ghost use Rattle.execute.specs.Places.{weightOf};
 ghost use Rattle.near.specs.Quiet.{Quiet, Low};
-ghost use Rattle.near.specs.Groups.{isOne, asks};
+ghost use Rattle.laws.specs.Among.{among};
+ghost use Rattle.near.specs.Groups.{asks};
 
 // The weight of the bit that b names.
 fn weight(b: u8) -> u8
@@ -23,7 +24,7 @@ fn weight(b: u8) -> u8
 }
 
 pub fn asked(m: Core, row: u8, k: u8) -> Act
-    requires { ⌜ (Low m k) × (isOne asks row ≡ true) ⌝ }
+    requires { ⌜ (Low m k) × (among asks row ≡ true) ⌝ }
     ensures { λ x. ⌜ Quiet m row k x ⌝ }
 {
     let r = m.regs;

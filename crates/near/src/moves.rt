@@ -6,10 +6,11 @@ use sheet::rows;
 ghost use mathlib.Core.Path.{_≡_};
 ghost use mathlib.Core.Bool.{true};
 ghost use Rattle.near.specs.Quiet.{Quiet, Low};
-ghost use Rattle.near.specs.Groups.{isOne, moves};
+ghost use Rattle.laws.specs.Among.{among};
+ghost use Rattle.near.specs.Groups.{moves};
 
 pub fn moved(m: Core, row: u8, k: u8) -> Act
-    requires { ⌜ (Low m k) × (isOne moves row ≡ true) ⌝ }
+    requires { ⌜ (Low m k) × (among moves row ≡ true) ⌝ }
     ensures { λ x. ⌜ Quiet m row k x ⌝ }
 {
     let r = m.regs;

@@ -14,7 +14,7 @@ use Rattle.sheet.specs.Table.{lines, lineAt}
 use Rattle.machine.specs.Stack.{CanPush, called}
 use Rattle.machine.specs.declared.Core.{Core}
 use Rattle.execute.specs.Rows.{callOf}
-use Rattle.near.specs.Groups.{isOne}
+use Rattle.laws.specs.Among.{among}
 use Rattle.turns.specs.declared.Turn.{Turn}
 use Rattle.turns.specs.Groups.{calls}
 use Rattle.turns.specs.Stack.{Called, stopped}
@@ -48,11 +48,11 @@ module _ (m : Core) (a : ℕ) (l : List ℕ) where
   unfolding lineAt lines callOf
   scall-stop h = record { same = λ rom sound b. rw h }
 
-  stop : (row : ℕ) → both (leb 1 (m .ptrs .sp)) (leb (m .ptrs .sp) 13) ≡ false → isOne calls row ≡ true → Turns m row a l l (stopped m)
+  stop : (row : ℕ) → both (leb 1 (m .ptrs .sp)) (leb (m .ptrs .sp) 13) ≡ false → among calls row ≡ true → Turns m row a l l (stopped m)
   stop row h g = at-both (λ (n : ℕ). Turns m n a l l (stopped m)) 72 71 row (scall-stop h) (lcall-stop h) g
 
-  pub stop-low : (row : ℕ) → m .ptrs .sp < 1 → isOne calls row ≡ true → Turns m row a l l (stopped m)
+  pub stop-low : (row : ℕ) → m .ptrs .sp < 1 → among calls row ≡ true → Turns m row a l l (stopped m)
   stop-low row h g = stop row (rw (lt-leb 1 (m .ptrs .sp) h)) g
 
-  pub stop-high : (row : ℕ) → 13 < m .ptrs .sp → isOne calls row ≡ true → Turns m row a l l (stopped m)
+  pub stop-high : (row : ℕ) → 13 < m .ptrs .sp → among calls row ≡ true → Turns m row a l l (stopped m)
   stop-high row h g = stop row (rw (le-leb 1 (m .ptrs .sp) (omega arith), lt-leb (m .ptrs .sp) 13 h)) g

@@ -9,7 +9,7 @@ use borrow.Author.Tests.{le-leb, lt-leb}
 use Rattle.sheet.specs.Table.{lines, lineAt}
 use Rattle.machine.specs.Stack as stack
 use Rattle.machine.specs.declared.Core.{Core}
-use Rattle.near.specs.Groups.{isOne}
+use Rattle.laws.specs.Among.{among}
 use Rattle.turns.specs.Groups.{returns}
 use Rattle.turns.specs.Stack.{stopped, popped, flagsReturned}
 use Rattle.turns.specs.Turns.{Reads}
@@ -38,5 +38,5 @@ module _ (m : Core) (l : List ℕ) where
   unfolding lineAt lines
   rti-stop h = record { turns = λ a. record { same = λ rom sound b. rw h } }
 
-  pub stop : (row : ℕ) → 12 < m .ptrs .sp → isOne returns row ≡ true → Reads m row l (stopped m)
+  pub stop : (row : ℕ) → 12 < m .ptrs .sp → among returns row ≡ true → Reads m row l (stopped m)
   stop row h g = at-both (λ (n : ℕ). Reads m n l (stopped m)) 86 73 row (rti-stop (lt-leb _ _ h)) (ret-stop (lt-leb _ _ h)) g

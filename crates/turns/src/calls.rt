@@ -13,7 +13,7 @@ ghost use Rattle.sheet.specs.Operation.Entry.{short};
 ghost use Rattle.sheet.specs.Flow.{entryOf};
 ghost use Rattle.machine.specs.Stack.{CanPush};
 ghost use Rattle.machine.specs.Valid.{Nibbles};
-ghost use Rattle.near.specs.Groups.{isOne};
+ghost use Rattle.laws.specs.Among.{among};
 ghost use Rattle.turns.specs.Groups.{calls};
 ghost use Rattle.turns.specs.Stack.{Called};
 ghost use Rattle.turns.specs.Turns.{Turns};
@@ -50,7 +50,7 @@ fn called(m: Core, ram: &mut [u8; 372], ret: u16, target: u16) -> Turn
 
 // "A call or acceptance lowers SP first, so SP must be 1 to 13."
 pub fn call(m: Core, ram: &mut [u8; 372], row: u8, a: u16) -> Turn
-    requires { ⌜ (m .pc < 8192) × (Nibbles (now ram)) × (isOne calls row ≡ true) × (a < 8192) ⌝ }
+    requires { ⌜ (m .pc < 8192) × (Nibbles (now ram)) × (among calls row ≡ true) × (a < 8192) ⌝ }
     ensures { λ x. ⌜ Turns m row a (now (ram .entry)) (now (ram .exit)) x ⌝ }
 {
     if m.ptrs.sp < 1 {

@@ -5,7 +5,7 @@ use sheet::rows;
 ghost use mathlib.Core.Path.{_≡_};
 ghost use mathlib.Core.Bool.{true};
 ghost use Prim.Native.Nat.{_<_};
-ghost use Rattle.near.specs.Groups.{isOne};
+ghost use Rattle.laws.specs.Among.{among};
 ghost use Rattle.turns.specs.Groups.{latches};
 ghost use Rattle.turns.specs.Latches.{latched, exchanged};
 ghost use Rattle.turns.specs.Turns.{Keeps};
@@ -46,7 +46,7 @@ fn exchanged(m: Core) -> Turn
 }
 
 pub fn latch(m: Core, row: u8, r: u8) -> Turn
-    requires { ⌜ (m .pc < 8192) × (isOne latches row ≡ true) ⌝ }
+    requires { ⌜ (m .pc < 8192) × (among latches row ≡ true) ⌝ }
     ensures { λ x. ⌜ Keeps m row r x ⌝ }
 {
     match row {

@@ -10,7 +10,7 @@ ghost use mathlib.Core.Path.{_≡_};
 ghost use mathlib.Core.Bool.{true};
 ghost use Prim.Native.Nat.{_≤_};
 ghost use Rattle.machine.specs.Valid.{Nibbles};
-ghost use Rattle.near.specs.Groups.{isOne};
+ghost use Rattle.laws.specs.Among.{among};
 ghost use Rattle.turns.specs.Groups.{returns};
 ghost use Rattle.turns.specs.Stack.{popped, flagsReturned};
 ghost use Rattle.turns.specs.Turns.{Reads};
@@ -52,7 +52,7 @@ fn flags_returned(m: Core, ram: &[u8; 372]) -> Turn
 
 // "RET and RTI read level SP, then raise it: 0 to 12."
 pub fn come_back(m: Core, ram: &[u8; 372], row: u8) -> Turn
-    requires { ⌜ (Nibbles (now ram)) × (isOne returns row ≡ true) ⌝ }
+    requires { ⌜ (Nibbles (now ram)) × (among returns row ≡ true) ⌝ }
     ensures { λ x. ⌜ Reads m row (now (ram .entry)) x ⌝ }
 {
     if m.ptrs.sp > 12 {

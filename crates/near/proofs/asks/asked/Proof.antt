@@ -2,7 +2,7 @@
 -- Assumes nothing.
 use mathlib.Core.List.{[], _∷_}
 use borrow.Author.Needs.{needs}
-use Rattle.near.proofs.Arms.{last}
+use Rattle.laws.proofs.Among.{first}
 use Rattle.near.proofs.Asking.{cmph, cmpia, cmpl, tfa, tfcfc, ttcfs, tzs, nop}
 use Rattle.near.proofs.asks.asked.Statement.{statement}
 use Rattle.near.proofs.asks.asked.Tie as tie
@@ -68,7 +68,7 @@ returns-7 : tie.Need-returns-7
 returns-7 c = rw (c .before .match .keys7, c .tested2 .ensures) (tzs _ _)
 
 returns-8 : tie.Need-returns-8
-returns-8 c = rw (last 87 (81 ∷ 80 ∷ 79 ∷ 65 ∷ 55 ∷ 54 ∷ 53 ∷ []) _ (c .before .before .before .pre .1) (c .before .match .rest), c .nothing .ensures) (nop _ _)
+returns-8 c = rw (first (87 ∷ 81 ∷ 80 ∷ 79 ∷ 65 ∷ 55 ∷ 54 ∷ 53 ∷ []) _ (c .before .before .before .pre .1) (c .before .match .rest), c .nothing .ensures) (nop _ _)
 
 pub asked-spec : {M : Type 1} → statement M
 asked-spec =

@@ -2,7 +2,7 @@
 -- Assumes nothing.
 use mathlib.Core.List.{[], _∷_}
 use borrow.Author.Needs.{needs}
-use Rattle.near.proofs.Arms.{last}
+use Rattle.laws.proofs.Among.{first}
 use Rattle.near.proofs.Branching.{sbr-passed, lbr-passed, slbr-passed}
 use Rattle.near.proofs.branches.passed.Statement.{statement}
 use Rattle.near.proofs.branches.passed.Tie as tie
@@ -23,7 +23,7 @@ returns-2 : tie.Need-returns-2
 returns-2 c = rw (c .before .match .keys2, c .went-on2 .ensures) (lbr-passed _ _ (c .before .before .pre .2))
 
 returns-3 : tie.Need-returns-3
-returns-3 c = rw (last 49 (48 ∷ 47 ∷ []) _ (c .before .before .pre .1) (c .before .match .rest), c .went-on3 .ensures) (slbr-passed _ _ (c .before .before .pre .2))
+returns-3 c = rw (first (49 ∷ 48 ∷ 47 ∷ []) _ (c .before .before .pre .1) (c .before .match .rest), c .went-on3 .ensures) (slbr-passed _ _ (c .before .before .pre .2))
 
 pub passed-spec : {M : Type 1} → statement M
 passed-spec =

@@ -2,7 +2,7 @@
 -- Assumes nothing.
 use mathlib.Core.List.{[], _∷_}
 use borrow.Author.Needs.{needs}
-use Rattle.near.proofs.Arms.{last}
+use Rattle.laws.proofs.Among.{first}
 use Rattle.near.proofs.Branching.{sbr-taken, lbr-taken, slbr-taken}
 use Rattle.near.proofs.branches.taken.Statement.{statement}
 use Rattle.near.proofs.branches.taken.Tie as tie
@@ -35,7 +35,7 @@ returns-2 : tie.Need-returns-2
 returns-2 c = rw (c .before .before .match .keys2, c .jumped2 .ensures) (lbr-taken _ _ (c .before .before .before .pre .3))
 
 returns-3 : tie.Need-returns-3
-returns-3 c = rw (last 49 (48 ∷ 47 ∷ []) _ (c .before .before .pre .2) (c .before .match .rest), c .jumped3 .ensures) (slbr-taken _ _ (c .before .before .pre .3))
+returns-3 c = rw (first (49 ∷ 48 ∷ 47 ∷ []) _ (c .before .before .pre .2) (c .before .match .rest), c .jumped3 .ensures) (slbr-taken _ _ (c .before .before .pre .3))
 
 pub taken-spec : {M : Type 1} → statement M
 taken-spec =

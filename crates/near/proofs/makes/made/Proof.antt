@@ -2,7 +2,7 @@
 -- Assumes nothing.
 use mathlib.Core.List.{[], _∷_}
 use borrow.Author.Needs.{needs}
-use Rattle.near.proofs.Arms.{last}
+use Rattle.laws.proofs.Among.{first}
 use Rattle.near.proofs.Making.{rlca, rrca, adda, addh, addl, deca, decl, inca, incl, suba, anda, ora}
 use Rattle.near.proofs.makes.made.Statement.{statement}
 use Rattle.near.proofs.makes.made.Tie as tie
@@ -113,7 +113,7 @@ returns-11 : tie.Need-returns-11
 returns-11 c = rw (c .before .before .match .keys11, c .acc-logical .ensures, c .before .and .ensures) (anda _ _)
 
 returns-12 : tie.Need-returns-12
-returns-12 c = rw (last 38 (35 ∷ 32 ∷ 30 ∷ 29 ∷ 27 ∷ 26 ∷ 24 ∷ 23 ∷ 21 ∷ 18 ∷ 17 ∷ []) _ (c .before .before .before .before .pre .1) (c .before .before .match .rest), c .acc-logical2 .ensures, c .before .or .ensures) (ora _ _)
+returns-12 c = rw (first (38 ∷ 35 ∷ 32 ∷ 30 ∷ 29 ∷ 27 ∷ 26 ∷ 24 ∷ 23 ∷ 21 ∷ 18 ∷ 17 ∷ []) _ (c .before .before .before .before .pre .1) (c .before .before .match .rest), c .acc-logical2 .ensures, c .before .or .ensures) (ora _ _)
 
 pub made-spec : {M : Type 1} → statement M
 made-spec =

@@ -2,7 +2,7 @@
 -- Assumes nothing.
 use mathlib.Core.List.{[], _∷_}
 use borrow.Author.Needs.{needs}
-use Rattle.near.proofs.Arms.{last}
+use Rattle.laws.proofs.Among.{first}
 use Rattle.near.proofs.Moving.{ldh, ldia, ldl, tha, tla, exah, exal}
 use Rattle.near.proofs.moves.moved.Statement.{statement}
 use Rattle.near.proofs.moves.moved.Tie as tie
@@ -47,7 +47,7 @@ returns-6 : tie.Need-returns-6
 returns-6 c = rw (c .before .match .keys6, c .acc-hr-exchanged .ensures) (exah _ _)
 
 returns-7 : tie.Need-returns-7
-returns-7 c = rw (last 44 (43 ∷ 16 ∷ 15 ∷ 8 ∷ 7 ∷ 5 ∷ []) _ (c .before .before .before .pre .1) (c .before .match .rest), c .acc-lr-exchanged .ensures) (exal _ _)
+returns-7 c = rw (first (44 ∷ 43 ∷ 16 ∷ 15 ∷ 8 ∷ 7 ∷ 5 ∷ []) _ (c .before .before .before .pre .1) (c .before .match .rest), c .acc-lr-exchanged .ensures) (exal _ _)
 
 pub moved-spec : {M : Type 1} → statement M
 moved-spec =

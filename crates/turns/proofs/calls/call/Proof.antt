@@ -1,7 +1,7 @@
 -- `turns::calls::call` meets its contract.
 -- Assumes nothing.
 use mathlib.Core.List.{[], _∷_}
-use Rattle.near.proofs.Arms.{last}
+use Rattle.laws.proofs.Among.{first}
 use Rattle.turns.proofs.Calling.{lcall, scall, stop-low, stop-high}
 use borrow.Author.Needs.{needs}
 use Rattle.turns.proofs.calls.call.Statement.{statement}
@@ -38,7 +38,7 @@ returns-3 : tie.Need-returns-3
 returns-3 c = rw (c .before .before .before .match .keys1) (lcall _ _ _ _ _ (record { above = c .before .before .before .before .before .before .if1 .left; below = c .before .before .before .before .if2 .left }) (c .called .ensures))
 
 returns-4 : tie.Need-returns-4
-returns-4 c = rw (last 72 (71 ∷ []) _ (c .before .before .before .before .before .before .before .before .before .pre .2) (c .before .before .before .before .match .rest)) (scall _ _ _ _ _ (record { above = c .before .before .before .before .before .before .before .if1 .left; below = c .before .before .before .before .before .if2 .left }) (rw (← c .before .short-entry .ensures) (c .called2 .ensures)))
+returns-4 c = rw (first (72 ∷ 71 ∷ []) _ (c .before .before .before .before .before .before .before .before .before .pre .2) (c .before .before .before .before .match .rest)) (scall _ _ _ _ _ (record { above = c .before .before .before .before .before .before .before .if1 .left; below = c .before .before .before .before .before .if2 .left }) (rw (← c .before .short-entry .ensures) (c .called2 .ensures)))
 
 pub call-spec : {M : Type 1} → statement M
 call-spec =

@@ -2,7 +2,7 @@
 -- Assumes nothing.
 use mathlib.Core.List.{[], _∷_}
 use borrow.Author.Needs.{needs}
-use Rattle.near.proofs.Arms.{last}
+use Rattle.laws.proofs.Among.{first}
 use Rattle.turns.proofs.Latching.{cil, dicil, eicil, exae}
 use Rattle.turns.proofs.latches.latch.Statement.{statement}
 use Rattle.turns.proofs.latches.latch.Tie as tie
@@ -29,7 +29,7 @@ returns-3 : tie.Need-returns-3
 returns-3 c = rw (c .before .match .keys3, c .latched3 .ensures) (eicil _ _)
 
 returns-4 : tie.Need-returns-4
-returns-4 c = rw (last 85 (84 ∷ 83 ∷ 82 ∷ []) _ (c .before .before .pre .1) (c .before .match .rest), c .exchanged .ensures) (exae _ _)
+returns-4 c = rw (first (85 ∷ 84 ∷ 83 ∷ 82 ∷ []) _ (c .before .before .pre .1) (c .before .match .rest), c .exchanged .ensures) (exae _ _)
 
 pub latch-spec : {M : Type 1} → statement M
 latch-spec =

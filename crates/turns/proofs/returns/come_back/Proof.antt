@@ -1,7 +1,7 @@
 -- `turns::returns::come_back` meets its contract.
 -- Assumes nothing.
 use mathlib.Core.List.{[], _∷_}
-use Rattle.near.proofs.Arms.{last}
+use Rattle.laws.proofs.Among.{first}
 use Rattle.turns.proofs.Returning.{ret, rti, stop}
 use borrow.Author.Needs.{needs}
 use Rattle.turns.proofs.returns.come_back.Statement.{statement}
@@ -23,7 +23,7 @@ returns-2 : tie.Need-returns-2
 returns-2 c = rw (c .before .match .keys1, c .popped .ensures) (ret _ _ (c .before .before .if1 .left))
 
 returns-3 : tie.Need-returns-3
-returns-3 c = rw (last 86 (73 ∷ []) _ (c .before .before .before .before .pre .1) (c .before .match .rest), c .flags-returned .ensures) (rti _ _ (c .before .before .if1 .left))
+returns-3 c = rw (first (86 ∷ 73 ∷ []) _ (c .before .before .before .before .pre .1) (c .before .match .rest), c .flags-returned .ensures) (rti _ _ (c .before .before .if1 .left))
 
 pub come-back-spec : {M : Type 1} → statement M
 come-back-spec =
