@@ -1,7 +1,7 @@
--- Each row that stores ACC in a pointer or a timer is its line of the table.
+-- Each row that stores ACC in a pointer or a timer is its line of the table; with P9.3 set each stops.
 -- Assumes nothing.
 use mathlib.Core.Path.{_≡_}
-use mathlib.Core.Bool.{true}
+use mathlib.Core.Bool.{true, false}
 use lib.Dec.{eqb}
 use Prim.Native.Nat.{ℕ}
 use Rattle.sheet.specs.Operation.Part.{low, middle, high}
@@ -14,6 +14,9 @@ use Rattle.execute.specs.Places.{partPut}
 use Rattle.execute.specs.Steps.{putStep}
 use Rattle.execute.specs.Rows.{workOf}
 use Rattle.near.specs.Ends.{wentOn}
+use Rattle.laws.proofs.Among.{Each, end, _by_&_}
+use Rattle.pointers.specs.Groups.{storePointer, storeTimer}
+use Rattle.pointers.proofs.Loading.{Stops}
 use Rattle.pointers.specs.Pointed.{Leaves}
 
 -- SP and DP, or TA and TB, as given
@@ -63,3 +66,24 @@ module _ (m : Core) (bank : eqb (bankOf m) 0 ≡ true) where
   pub statbh : Times m 107 (m .timers .ta) (partPut high (m .timers .tb) (m .regs .acc))
   unfolding lineAt lines workOf putStep made flagAfter
   statbh = record { same = λ rom sound a b l. rw bank }
+
+module _ (m : Core) (bank : eqb (bankOf m) 0 ≡ false) where
+  pub store-pointer-stops : Each (Stops m) storePointer
+  unfolding lineAt lines workOf putStep made flagAfter
+  store-pointer-stops =
+      98 by record { same = λ rom sound a b l. rw bank } &
+      101 by record { same = λ rom sound a b l. rw bank } &
+      100 by record { same = λ rom sound a b l. rw bank } &
+      99 by record { same = λ rom sound a b l. rw bank } &
+      end
+
+  pub store-timer-stops : Each (Stops m) storeTimer
+  unfolding lineAt lines workOf putStep made flagAfter
+  store-timer-stops =
+      102 by record { same = λ rom sound a b l. rw bank } &
+      107 by record { same = λ rom sound a b l. rw bank } &
+      106 by record { same = λ rom sound a b l. rw bank } &
+      105 by record { same = λ rom sound a b l. rw bank } &
+      104 by record { same = λ rom sound a b l. rw bank } &
+      103 by record { same = λ rom sound a b l. rw bank } &
+      end

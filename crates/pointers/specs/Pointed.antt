@@ -11,6 +11,8 @@ use Rattle.machine.specs.declared.Pointers.{Pointers}
 use Rattle.machine.specs.declared.Timers.{Timers}
 use Rattle.execute.specs.Rows.{Done, executed}
 use Rattle.near.specs.declared.Act.{Act}
+use Rattle.near.specs.Ends.{stopped}
+use Rattle.pointers.specs.declared.Pointed.{Pointed}
 use Rattle.laws.specs.Among.{among}
 
 -- the scalars with PC, the registers, the pointers and the timers anew
@@ -28,3 +30,7 @@ pub record Asks (rows : List ℕ) (m : Core) (row : ℕ) : Type 0 where
   pub timers : ValidTimers (m .timers)
   pub pc : m .pc < 8192
   pub listed : among rows row ≡ true
+
+-- a stop leaves the pointers and the timers
+abbrev pub stoppedWith : Core → Pointed
+stoppedWith m = record { act = stopped m 31; ptrs = m .ptrs; timers = m .timers }

@@ -1,7 +1,10 @@
-// The rows that store ACC in DP, SP, TA or TB: what they leave of the pointers and of the timers where P9.3 = 0.
+// The rows that store ACC in DP, SP, TA or TB. "Timer, DP and SP rows need P9.3 = 0, else 31."
+use crate::Pointed;
 use machine::Core;
 use machine::Pointers;
 use machine::Timers;
+use near::ends::stopped;
+use near::ends::went_on;
 use sheet::rows;
 ghost use mathlib.Core.Path.{_≡_};
 ghost use Prim.Native.Nat.{_<_};
@@ -10,7 +13,7 @@ ghost use Rattle.machine.specs.Ram.{bankOf};
 ghost use Rattle.execute.specs.Places.{partPut};
 ghost use Rattle.near.specs.Ends.{wentOn};
 ghost use Rattle.pointers.specs.Groups.{storePointer, storeTimer};
-ghost use Rattle.pointers.specs.Pointed.{Leaves, Asks};
+ghost use Rattle.pointers.specs.Pointed.{Leaves, Asks, stoppedWith};
 
 fn low_put(n: u16, v: u8) -> u16
     requires { ⌜ (n < 4096) × (v < 16) ⌝ }
@@ -34,7 +37,7 @@ fn high_put(n: u16, v: u8) -> u16
 }
 
 // The row that is none of those named is STADPL.
-pub fn into_pointer(m: Core, row: u8) -> Pointers
+fn into_pointer(m: Core, row: u8) -> Pointers
     requires { ⌜ (Asks storePointer m row) × (bankOf m ≡ 0) ⌝ }
     ensures { λ p. ⌜ Leaves m row (wentOn m 2 2) p (m .timers) ⌝ }
 {
@@ -50,7 +53,7 @@ pub fn into_pointer(m: Core, row: u8) -> Pointers
 }
 
 // The row that is none of those named is STATAL.
-pub fn into_timer(m: Core, row: u8) -> Timers
+fn into_timer(m: Core, row: u8) -> Timers
     requires { ⌜ (Asks storeTimer m row) × (bankOf m ≡ 0) ⌝ }
     ensures { λ t. ⌜ Leaves m row (wentOn m 2 2) (m .ptrs) t ⌝ }
 {
@@ -65,4 +68,48 @@ pub fn into_timer(m: Core, row: u8) -> Timers
         _ => t.ta = low_put(t.ta, v),
     }
     t
+}
+
+fn left(m: Core) -> Pointed
+    ensures { λ x. ⌜ x ≡ stoppedWith m ⌝ }
+{
+    let ptrs = m.ptrs;
+    let timers = m.timers;
+    Pointed {
+        act: stopped(m, 31),
+        ptrs: ptrs,
+        timers: timers,
+    }
+}
+
+pub fn store_pointer(m: Core, row: u8) -> Pointed
+    requires { ⌜ Asks storePointer m row ⌝ }
+    ensures { λ x. ⌜ Leaves m row (x .act) (x .ptrs) (x .timers) ⌝ }
+{
+    if m.ports.p9 / 8 % 2 != 0 {
+        return left(m);
+    }
+    let ptrs = into_pointer(m, row);
+    let timers = m.timers;
+    Pointed {
+        act: went_on(m, 2, 2),
+        ptrs: ptrs,
+        timers: timers,
+    }
+}
+
+pub fn store_timer(m: Core, row: u8) -> Pointed
+    requires { ⌜ Asks storeTimer m row ⌝ }
+    ensures { λ x. ⌜ Leaves m row (x .act) (x .ptrs) (x .timers) ⌝ }
+{
+    if m.ports.p9 / 8 % 2 != 0 {
+        return left(m);
+    }
+    let timers = into_timer(m, row);
+    let ptrs = m.ptrs;
+    Pointed {
+        act: went_on(m, 2, 2),
+        ptrs: ptrs,
+        timers: timers,
+    }
 }
