@@ -1,12 +1,13 @@
-// Rows of the data pointer, the stack pointer and the timers: an arm a row, on the scalars, each proved to be its line of the table.
+// Rows of the data pointer, the ROM by it, the stack pointer and the timers: an arm a row, on the scalars, each proved to be its line of the table.
 pub mod loads;
+pub mod rom;
 pub mod stores;
 
 use machine::Pointers;
 use machine::Timers;
 use near::Act;
 
-// What a row that stores in a pointer or a timer leaves.
+// What a row that changes a pointer or a timer leaves.
 pub struct Pointed {
     pub act: Act,
     pub ptrs: Pointers,
