@@ -2,12 +2,11 @@
 -- Assumes nothing.
 use Prim.Native.Nat.{ℕ}
 use mathlib.Core.Bool.{Bool, true, false}
-use mathlib.Core.Path.{_≡_, refl, sym, ap, subst, _∙_}
-use native.Mathlib.Omega.{arith}
+use mathlib.Core.Path.{_≡_, refl, sym, subst, _∙_}
 use lib.Dec.{T, eqb, leb}
 use borrow.Author.Tests.{eq-eqb}
 use Rattle.laws.specs.Choice.{pick, both, either}
-use Rattle.sheet.specs.Operation.{Register, Given, Cell, Port, Part, Pointer, Half, Place, Op, Step, After, Enable, Operation}
+use Rattle.sheet.specs.Operation.{Register, Port, Pointer, Place, Step, After, Enable, Operation}
 use Rattle.sheet.specs.Table.{Line, Mark, set}
 use Rattle.alu.specs.Making.{plain}
 use Rattle.alu.specs.Flags.{flagAfter}
@@ -16,7 +15,7 @@ use Rattle.machine.specs.declared.Machine.{Machine}
 use Rattle.execute.specs.Places.{Around, putOf, touched, withPc}
 use Rattle.execute.specs.Steps.{Did, putStep, exchangeStep, stepOf}
 use Rattle.execute.specs.Rows.{Done, spent, stops, stack-level, withFlags, workOf, branchOf, callOf, worked, ended, latchesOf, performed, past}
-use Rattle.execute.specs.Columns.{isPort, stepWrites, afterWrites, setsEi, writesPort, isOrdinary, Ordinary}
+use Rattle.execute.specs.Columns.{isPort, stepWrites, afterWrites, isOrdinary, Ordinary}
 
 -- putting a value leaves EI; and the mode, unless it goes to a port
 put-ei : (m : Machine) (w : Around) (p : Place) (v : ℕ) → putOf m w p v .machine .core .ints .ei ≡ m .core .ints .ei

@@ -1,32 +1,23 @@
 -- What stands at a place of a valid record is a nibble, and a nibble put there leaves the record valid.
 -- Assumes nothing.
-use Prim.Native.Nat.{ℕ, _+_, _*_, _/_, _%_, _<_}
+use Prim.Native.Nat.{ℕ, _+_, _/_, _%_, _<_}
 use mathlib.Core.Bool.{Bool, true, false}
-use mathlib.Core.List.{List}
-use mathlib.Core.Path.{_≡_, refl, sym, ap, subst, subst⁻¹, _∙_}
 use native.Mathlib.Omega.{arith}
-use lib.Dec.{T, eqb, eqb→eq, ltb, ltb→lt}
+use lib.Dec.{T, eqb, ltb, ltb→lt}
 use lib.ListN.{getD}
-use borrow.Author.Tests.{eqb-true, eqb-false}
-use Rattle.laws.specs.Choice.{pick, both}
-use Rattle.laws.proofs.Computed.{true→T, T→true, both-left, both-right}
-use Rattle.bits.specs.Bits.{hasBit, bitOf}
+use Rattle.laws.specs.Choice.{pick}
+use Rattle.bits.specs.Bits.{bitOf}
 use Rattle.frame.specs.declared.Pins.{Pins}
 use Rattle.frame.specs.Frame.{PinsInRange}
-use Rattle.sheet.specs.Operation.{Register, Given, Cell, Port, Part, Pointer, Half, Place}
+use Rattle.sheet.specs.Operation.{Register, Given, Port, Part, Pointer, Half, Place}
 use Rattle.sheet.specs.declared.Insn.{Insn}
-use Rattle.ports.specs.Ports.{latchOf, p4Pins, pinsOf, readPort, isReadable, writeStop, writePort, withLatch, enters, modeAfter}
+use Rattle.ports.specs.Ports.{latchOf, p4Pins, pinsOf, readPort, isReadable}
 use Rattle.ports.specs.declared.Ports.{Ports}
 use Rattle.ports.specs.declared.PortRead.{PortRead}
-use Rattle.ports.specs.declared.Mode.{Mode}
-use Rattle.ports.specs.declared.Mode.the-variants.{Running, Sleep, Hold}
-use Rattle.machine.specs.Valid.{ValidRegisters, ValidPointers, ValidInterrupts, ValidTimers, ValidPorts, ModeFits, ValidCore, Nibbles, Valid}
-use Rattle.machine.specs.declared.Core.{Core}
+use Rattle.machine.specs.Valid.{ValidPorts, Valid}
 use Rattle.machine.specs.declared.Machine.{Machine}
-use Rattle.machine.proofs.Places.{set-nibble}
-use Rattle.execute.specs.Places.{Around, Got, found, stopped, weightOf, givenOf, partOf, partPut, halfOf, cellOf, portOf, getOf, touched, putOf, baseAfter}
-use Rattle.execute.specs.Columns.{isPort}
-use Rattle.execute.proofs.PortsValid.{written-valid, read-valid, below}
+use Rattle.execute.specs.Places.{Around, found, stopped, weightOf, givenOf, partOf, partPut, halfOf, cellOf, getOf}
+use Rattle.execute.proofs.PortsValid.{chosen-lt}
 
 -- the operand k of a row that names it is a nibble
 abbrev pub LowGiven : Given → Insn → Type 0
@@ -52,7 +43,7 @@ bit-low true = omega arith
 bit-low false = omega arith
 
 weight-low : (n : ℕ) → weightOf n < 16
-weight-low n = below (eqb n 0) 1 _ (omega arith) (below (eqb n 1) 2 _ (omega arith) (below (eqb n 2) 4 8 (omega arith) (omega arith)))
+weight-low n = chosen-lt (eqb n 0) 1 _ (omega arith) (chosen-lt (eqb n 1) 2 _ (omega arith) (chosen-lt (eqb n 2) 4 8 (omega arith) (omega arith)))
 
 part-low : (p : Part) (n : ℕ) → partOf p n < 16
 part-low Part.low n = omega arith
@@ -66,18 +57,18 @@ half-low Half.high-half b l = omega arith
 latch-low : (p : Ports) (n : ℕ) → ValidPorts p → latchOf p n < 16
 unfolding latchOf
 latch-low p n h =
-    below (eqb n 4) (p .p4) _ (h .p4)
-    (below (eqb n 8) (p .p8) _ (h .p8)
-    (below (eqb n 9) (p .p9) _ (h .p9)
-    (below (eqb n 16) (p .p16) _ (h .p16)
-    (below (eqb n 23) (p .p23) _ (h .p23)
-    (below (eqb n 24) (p .p24) _ (h .p24)
-    (below (eqb n 25) (p .p25) _ (h .p25)
-    (below (eqb n 27) (p .p27) _ (h .p27)
-    (below (eqb n 28) (p .p28) _ (h .p28) (below (eqb n 29) (p .p29) _ (h .p29) (below (eqb n 30) (p .p30) 0 (h .p30) (omega arith)))))))))))
+    chosen-lt (eqb n 4) (p .p4) _ (h .p4)
+    (chosen-lt (eqb n 8) (p .p8) _ (h .p8)
+    (chosen-lt (eqb n 9) (p .p9) _ (h .p9)
+    (chosen-lt (eqb n 16) (p .p16) _ (h .p16)
+    (chosen-lt (eqb n 23) (p .p23) _ (h .p23)
+    (chosen-lt (eqb n 24) (p .p24) _ (h .p24)
+    (chosen-lt (eqb n 25) (p .p25) _ (h .p25)
+    (chosen-lt (eqb n 27) (p .p27) _ (h .p27)
+    (chosen-lt (eqb n 28) (p .p28) _ (h .p28) (chosen-lt (eqb n 29) (p .p29) _ (h .p29) (chosen-lt (eqb n 30) (p .p30) 0 (h .p30) (omega arith)))))))))))
 
 p4-low : (sound : Bool) (p4 : ℕ) → p4 < 2 → p4Pins sound p4 < 16
-p4-low sound p4 h = below sound 15 (14 + p4) (omega arith) (omega arith)
+p4-low sound p4 h = chosen-lt sound 15 (14 + p4) (omega arith) (omega arith)
 
 read-value : (t : Bool) (v : ℕ) (p q : Ports) → v < 16 → pick {A = PortRead} t (record { stop = 0; value = v; ports = p }) (record { stop = 33; value = 0; ports = q }) .value < 16
 read-value true v p q h = h
@@ -87,7 +78,7 @@ read-low : (sound : Bool) (pins : Pins) (p : Ports) (n : ℕ) → PinsInRange pi
 unfolding readPort
 read-low sound pins p n f h =
     read-value (isReadable n) (pinsOf sound pins p n) _ p
-    (below (eqb n 0) (pins .p0) _ (f .p0) (below (eqb n 4) (p4Pins sound (pins .p4)) _ (p4-low sound (pins .p4) (f .p4)) (below (eqb n 8) (pins .p8) (p .p9) (f .p8) (h .p9))))
+    (chosen-lt (eqb n 0) (pins .p0) _ (f .p0) (chosen-lt (eqb n 4) (p4Pins sound (pins .p4)) _ (p4-low sound (pins .p4) (f .p4)) (chosen-lt (eqb n 8) (pins .p8) (p .p9) (f .p8) (h .p9))))
 
 got-low : (t : Bool) (v n : ℕ) → (T t → v < 16) → pick t (found v) (stopped n) .value < 16
 got-low true v n h = h tt

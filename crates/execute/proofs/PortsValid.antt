@@ -1,26 +1,24 @@
 -- Reading and writing a port keep the latches within their ranges, and P25 and P27 off 10xx.
 -- Assumes nothing.
-use Prim.Native.Nat.{ℕ, _+_, _/_, _%_, _<_}
+use Prim.Native.Nat.{ℕ, _/_, _%_, _<_}
 use mathlib.Core.Bool.{Bool, true, false}
-use mathlib.Core.Path.{_≡_, refl, sym, ap, subst, _∙_}
+use mathlib.Core.Path.{_≡_, refl, sym, subst, _∙_}
 use native.Mathlib.Omega.{arith}
 use lib.Dec.{T, eqb, eqb→eq}
-use borrow.Author.Tests.{eq-eqb, ne-eqb, eqb-true}
-use Rattle.laws.specs.Choice.{pick, both, either}
+use borrow.Author.Tests.{eq-eqb, eqb-true}
+use Rattle.laws.specs.Choice.{pick, either}
 use Rattle.laws.proofs.Computed.{true→T}
-use Rattle.bits.specs.Bits.{hasBit}
 use Rattle.frame.specs.declared.Pins.{Pins}
-use Rattle.frame.specs.Frame.{PinsInRange}
-use Rattle.ports.specs.Ports.{withLatch, latchOf, p4Pins, readPort, reservedStop, writeStop, p27After, withP27, writePort, enters, modeAfter, isReadable}
+use Rattle.ports.specs.Ports.{withLatch, readPort, reservedStop, writeStop, p27After, withP27, writePort, enters, isReadable}
 use Rattle.ports.specs.declared.Ports.{Ports}
 use Rattle.ports.specs.declared.PortRead.{PortRead}
 use Rattle.ports.specs.declared.PortWrite.{PortWrite}
 use Rattle.machine.specs.Valid.{ValidPorts}
 
--- either value of a choice
-pub below : (t : Bool) (a b : ℕ) → a < 16 → b < 16 → pick t a b < 16
-below true a b p q = p
-below false a b p q = q
+-- a choice of two numbers below a limit is below it
+pub chosen-lt : {n : ℕ} (t : Bool) (a b : ℕ) → a < n → b < n → pick t a b < n
+chosen-lt true a b p q = p
+chosen-lt false a b p q = q
 
 not-10xx : (t : Bool) (a b : ℕ) → (T t → a / 4 ≡ 2 → ⊥) → (b / 4 ≡ 2 → ⊥) → pick t a b / 4 ≡ 2 → ⊥
 not-10xx true a b p q e = p tt e
@@ -31,17 +29,17 @@ latch-valid : (p : Ports) (n v : ℕ) → ValidPorts p → v < 16 → (T (eqb n 
 unfolding withLatch
 latch-valid p n v h hv h25 h27 =
     record {
-      p4 = below (eqb n 4) v (p .p4) hv (h .p4);
-      p8 = below (eqb n 8) v (p .p8) hv (h .p8);
-      p9 = below (eqb n 9) v (p .p9) hv (h .p9);
-      p16 = below (eqb n 16) v (p .p16) hv (h .p16);
-      p23 = below (eqb n 23) v (p .p23) hv (h .p23);
-      p24 = below (eqb n 24) v (p .p24) hv (h .p24);
-      p25 = below (eqb n 25) v (p .p25) hv (h .p25);
-      p27 = below (eqb n 27) v (p .p27) hv (h .p27);
-      p28 = below (eqb n 28) v (p .p28) hv (h .p28);
-      p29 = below (eqb n 29) v (p .p29) hv (h .p29);
-      p30 = below (eqb n 30) v (p .p30) hv (h .p30);
+      p4 = chosen-lt (eqb n 4) v (p .p4) hv (h .p4);
+      p8 = chosen-lt (eqb n 8) v (p .p8) hv (h .p8);
+      p9 = chosen-lt (eqb n 9) v (p .p9) hv (h .p9);
+      p16 = chosen-lt (eqb n 16) v (p .p16) hv (h .p16);
+      p23 = chosen-lt (eqb n 23) v (p .p23) hv (h .p23);
+      p24 = chosen-lt (eqb n 24) v (p .p24) hv (h .p24);
+      p25 = chosen-lt (eqb n 25) v (p .p25) hv (h .p25);
+      p27 = chosen-lt (eqb n 27) v (p .p27) hv (h .p27);
+      p28 = chosen-lt (eqb n 28) v (p .p28) hv (h .p28);
+      p29 = chosen-lt (eqb n 29) v (p .p29) hv (h .p29);
+      p30 = chosen-lt (eqb n 30) v (p .p30) hv (h .p30);
       p25-never-10xx = not-10xx (eqb n 25) v (p .p25) h25 (h .p25-never-10xx);
       p27-never-10xx = not-10xx (eqb n 27) v (p .p27) h27 (h .p27-never-10xx);
     }

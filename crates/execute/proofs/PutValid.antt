@@ -1,27 +1,27 @@
 -- A nibble put at a place of a valid record leaves it valid; a port is written only while the record is running.
 -- Assumes nothing.
-use Prim.Native.Nat.{ℕ, _+_, _/_, _%_, _<_}
+use Prim.Native.Nat.{ℕ, _/_, _%_, _<_}
 use mathlib.Core.Bool.{Bool, true, false}
-use mathlib.Core.Path.{_≡_, refl, sym, ap, subst, subst⁻¹, _∙_}
+use mathlib.Core.Path.{_≡_, refl}
 use native.Mathlib.Omega.{arith}
-use lib.Dec.{T, eqb, eqb→eq}
+use lib.Dec.{T, eqb}
 use borrow.Author.Tests.{eqb-true, eqb-false}
 use Rattle.laws.specs.Choice.{pick, both}
 use Rattle.bits.specs.Bits.{hasBit}
-use Rattle.sheet.specs.Operation.{Register, Port, Part, Pointer, Place}
-use Rattle.ports.specs.Ports.{writePort, writeStop, withLatch, readPort, enters, modeAfter}
+use Rattle.sheet.specs.Operation.{Register, Pointer, Place}
+use Rattle.ports.specs.Ports.{writePort, writeStop, withLatch, enters, modeAfter}
 use Rattle.ports.specs.declared.Ports.{Ports}
 use Rattle.ports.specs.declared.Mode.{Mode}
 use Rattle.ports.specs.declared.Mode.the-variants.{Running, Sleep, Hold}
-use Rattle.machine.specs.Valid.{ValidRegisters, ValidPointers, ValidInterrupts, ValidTimers, ValidPorts, ModeFits, ValidCore, Valid}
+use Rattle.machine.specs.Valid.{ValidRegisters, ValidPointers, ValidTimers, ModeFits, Valid}
 use Rattle.machine.specs.declared.Registers.{Registers}
 use Rattle.machine.specs.declared.Pointers.{Pointers}
 use Rattle.machine.specs.declared.Timers.{Timers}
 use Rattle.machine.specs.declared.Machine.{Machine}
 use Rattle.machine.proofs.Places.{set-nibble}
-use Rattle.execute.specs.Places.{Around, withRegisters, withPc, withPointers, withInterrupts, withTimers, withPorts, partPut, cellOf, portOf, portWritten, pointerPut, touched, putOf, baseAfter}
+use Rattle.execute.specs.Places.{Around, withRegisters, withPc, withPointers, withTimers, cellOf, portOf, portWritten, putOf}
 use Rattle.execute.specs.Columns.{isPort}
-use Rattle.execute.proofs.PortsValid.{written-valid, read-valid}
+use Rattle.execute.proofs.PortsValid.{chosen-lt, written-valid}
 use Rattle.execute.proofs.PlacesValid.{part-put}
 
 -- the record with one part anew
@@ -51,10 +51,6 @@ mode-fits true true false p n v e f g = rw (eqb-true n 16 e, p16-after p v) (eqb
 running-fits : (o : Mode) (p : Ports) (n v : ℕ) → o ≡ Running → ModeFits (modeAfter o n v) (writePort p n v .ports .p16)
 running-fits o p n v e = rw e (mode-fits (eqb n 16) (hasBit v 4) (eqb (v % 4) 3) p n v refl refl refl)
 
-base-lt : (t : Bool) (base : ℕ) → base < 4194304 → pick t 0 base < 4194304
-base-lt true base h = omega arith
-base-lt false base h = h
-
 base-eights : (t : Bool) (base : ℕ) → base % 8 ≡ 0 → pick t 0 base % 8 ≡ 0
 base-eights true base h = refl
 base-eights false base h = h
@@ -67,7 +63,7 @@ port-valid m n v h e hv = record {
     ptrs = h .core .ptrs;
     ints = h .core .ints;
     timers = record {
-      base = base-lt (enters n v) (m .core .timers .base) (h .core .timers .base);
+      base = chosen-lt (enters n v) 0 (m .core .timers .base) (omega arith) (h .core .timers .base);
       eights = base-eights (enters n v) (m .core .timers .base) (h .core .timers .eights);
       ta = h .core .timers .ta;
       tb = h .core .timers .tb;

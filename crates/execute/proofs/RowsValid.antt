@@ -1,8 +1,8 @@
 -- Executing any row of the sheet on a valid, running record gives a valid record.
 -- Assumes nothing.
-use Prim.Native.Nat.{ℕ, _+_, _*_, _/_, _%_, _<_, _≤_}
+use Prim.Native.Nat.{ℕ, _+_, _*_, _/_, _%_, _<_}
 use mathlib.Core.Bool.{Bool, true, false}
-use mathlib.Core.Path.{_≡_, refl}
+use mathlib.Core.Path.{_≡_}
 use native.Mathlib.Omega.{arith}
 use lib.Dec.{T, eqb, eqb→eq, leb, leb→le, ltb, ltb→lt}
 use lib.Bits.{bitAnd}
@@ -16,13 +16,13 @@ use Rattle.sheet.specs.Flow.{targetOf, entryOf}
 use Rattle.alu.specs.Making.{plain}
 use Rattle.alu.specs.declared.Made.{Made}
 use Rattle.ports.specs.declared.Mode.the-variants.{Running}
-use Rattle.machine.specs.Valid.{ValidInterrupts, Valid}
-use Rattle.machine.specs.Stack.{CanPush, CanPop, called, popped, flagsReturned}
+use Rattle.machine.specs.Valid.{Valid}
+use Rattle.machine.specs.Stack.{CanPop, popped, flagsReturned}
 use Rattle.machine.specs.declared.Machine.{Machine}
 use Rattle.machine.proofs.StackValid.{called-valid, popped-valid, flags-returned-valid}
-use Rattle.execute.specs.Places.{Around, withInterrupts}
-use Rattle.execute.specs.Steps.{Did}
-use Rattle.execute.specs.Rows.{Done, spent, stops, stack-level, past, withFlags, ended, worked, workOf, branchOf, callOf, returned, enabled, latchesOf, performed, executed}
+use Rattle.execute.specs.Places.{Around}
+use Rattle.execute.specs.Rows.{spent, stops, stack-level, past, withFlags, worked, workOf, branchOf, callOf, returned, latchesOf, performed, executed}
+use Rattle.execute.proofs.PortsValid.{chosen-lt}
 use Rattle.execute.proofs.PutValid.{regs-valid, pc-valid}
 use Rattle.execute.proofs.StepsValid.{fitsStep, fitsAfter, worked-valid}
 
@@ -55,17 +55,9 @@ target-lt n Target.page pc a h k t = omega (arith, leb→le n 64 t)
 target-lt n Target.half pc a h k t = omega (arith, leb→le n 4096 t)
 target-lt n Target.whole pc a h k t = omega (arith, leb→le n 8192 t)
 
-short-lt : (t : Bool) (n : ℕ) → n < 1023 → pick t 0x86 (8 * n + 6) < 8192
-short-lt true n h = omega arith
-short-lt false n h = omega arith
-
 entry-lt : (n : ℕ) (e : Entry) (a : ℕ) → a < n → T (fitsEntry n e) → entryOf e a < 8192
 entry-lt n Entry.long a k t = omega (arith, leb→le n 8192 t)
-entry-lt n Entry.short a k t = short-lt (eqb a 0) a (omega (arith, leb→le n 1023 t))
-
-chosen-lt : (t : Bool) (a b : ℕ) → a < 8192 → b < 8192 → pick t a b < 8192
-chosen-lt true a b p q = p
-chosen-lt false a b p q = q
+entry-lt n Entry.short a k t = chosen-lt (eqb a 0) 0x86 (8 * a + 6) (omega arith) (omega (arith, leb→le n 1023 t))
 
 -- IL & r: no more latches than there were, IL4 clear
 latches-lt : (il r : ℕ) → il < 64 → r < 64 → bitAnd il r < 64

@@ -1,28 +1,26 @@
 -- What the lines of the sheet have in common, and with it: each step of the operation column makes a valid record of a valid one.
 -- Assumes nothing.
-use Prim.Native.Nat.{ℕ, _+_, _/_, _%_, _<_, _≤_}
+use Prim.Native.Nat.{ℕ, _+_, _/_, _%_, _<_}
 use mathlib.Core.Bool.{Bool, true, false, not}
-use mathlib.Core.Path.{_≡_, refl, sym, ap, subst, subst⁻¹, _∙_}
+use mathlib.Core.Path.{_≡_, _∙_}
 use native.Mathlib.Omega.{arith}
 use lib.Dec.{T, eqb, leb, leb→le}
 use Rattle.laws.specs.Choice.{pick, both, either}
 use Rattle.laws.proofs.Computed.{both-left, both-right}
-use Rattle.sheet.specs.Operation.{Register, Given, Cell, Port, Part, Pointer, Half, Place, Op, Step, After}
+use Rattle.sheet.specs.Operation.{Given, Port, Place, Op, Step, After}
 use Rattle.sheet.specs.Operation.Op.{Move, Plus, PlusCF, Minus, MinusCF', And, Or, Xor, Clear, Set, Has, Lacks, RotateLeft, RotateRight}
 use Rattle.sheet.specs.declared.Insn.{Insn}
-use Rattle.alu.specs.Making.{made}
 use Rattle.alu.proofs.Low.{isWeight, Second, made-low}
 use Rattle.ports.specs.Ports.{readPort}
-use Rattle.ports.specs.declared.Mode.{Mode}
-use Rattle.ports.specs.declared.Mode.the-variants.{Running, Sleep, Hold}
+use Rattle.ports.specs.declared.Mode.the-variants.{Running}
 use Rattle.machine.specs.Valid.{Valid}
 use Rattle.machine.specs.declared.Machine.{Machine}
-use Rattle.execute.specs.Places.{Around, weightOf, getOf, touched, putOf, withPorts}
-use Rattle.execute.specs.Steps.{Did, putStep, exchangeStep, stepOf}
+use Rattle.execute.specs.Places.{Around, getOf, touched, putOf, withPorts}
+use Rattle.execute.specs.Steps.{putStep, exchangeStep, stepOf}
 use Rattle.execute.specs.Rows.{worked}
 use Rattle.execute.specs.Columns.{isPort}
 use Rattle.execute.proofs.PortsValid.{read-valid}
-use Rattle.execute.proofs.PlacesValid.{LowGiven, LowPlace, get-low}
+use Rattle.execute.proofs.PlacesValid.{LowPlace, get-low}
 use Rattle.execute.proofs.PutValid.{pointers-valid, put-valid}
 use Rattle.execute.proofs.Frame.{touched-mode}
 
