@@ -1,20 +1,21 @@
 -- The operands that are read are within their fields.
 -- Assumes nothing.
-use mathlib.Core.Path.{_≡_, refl, ap, subst⁻¹, _∙_}
+use mathlib.Core.Path.{_≡_, refl, sym, ap, subst⁻¹, _∙_}
 use mathlib.Core.Bool.{Bool, true, false}
 use mathlib.Core.List.{List, [], _∷_}
 use Prim.Native.String.{String}
 use Prim.Native.Nat.{ℕ, zero, suc, _*_, _%_, _<_, _≤_, max}
-use native.Mathlib.Nat.{le-trans}
+use native.Mathlib.Nat.{le-trans, not-suc-le-zero}
+use native.Mathlib.Decide.{decLt, ℕ-discrete}
 use native.Mathlib.Omega.{arith}
 use Rattle.laws.specs.Choice.{pick}
 use Rattle.sheet.specs.Code.{Group, #, all, fixed1, fixed2, fixed3, above2, among, Operand, absent, value, valueOf, fits, extendedIf, gives, operandFrom}
 use Rattle.sheet.specs.Table.{Code, lineAt}
-use Rattle.sheet.specs.Fields.{widened, fieldFrom, leads, fieldA, fieldB}
-use Rattle.sheet.specs.Reading.{codeOf, rowNumber, readDigits}
+use Rattle.sheet.specs.Fields.{widened, fieldFrom, leads, fieldA, fieldB, InFields}
+use Rattle.sheet.specs.Reading.{codeOf, rowNumber, readDigits, bytesOf}
 use Rattle.sheet.specs.declared.Insn.{Insn}
 use Rattle.sheet.specs.declared.Read.the-variants.{Row}
-use Rattle.sheet.proofs.ReadAs.{row-with, row-of}
+use Rattle.sheet.proofs.ReadAs.{row-with, row-of, has-row, short-row, no-such-row}
 
 abbrev pub AreDigits : List ℕ → Type 0
 AreDigits [] = Unit
@@ -121,16 +122,24 @@ module _ (ds : List ℕ) (are : AreDigits ds) where
   chosen-b (c ∷ []) = max-left (code-b c) 1
   chosen-b (c ∷ d ∷ cs) = picked-b ds (fits (c .groups) ds) c (codeOf (d ∷ cs) ds) (fieldB (c ∷ d ∷ cs)) (max-left (code-b c) (fieldB (d ∷ cs))) (max-right (fieldFrom 1 "yp" (c .groups)) (chosen-b (d ∷ cs)))
 
-  pub record InFields (i : Insn) : Type 0 where
-    pub a : i .a < fieldA (lineAt (i .row) .codes)
-    pub b : i .b < fieldB (lineAt (i .row) .codes)
+-- a row with bytes is one of the sheet's
+numbered : (n : ℕ) → 0 < bytesOf n → Dec (n < 108) → n < 108
+numbered n h (yes l) = l
+numbered n h (no g) = absurd (not-suc-le-zero (rw (no-such-row n (omega arith)) at h))
 
-  -- what is read is within its fields
+row-some : (ds : List ℕ) (i : Insn) → readDigits ds ≡ Row i → Dec (i .row ≡ 0) → 0 < i .row
+row-some ds i e (yes z) = absurd (has-row ds i e (sym (row-of ds i e) ∙ z))
+row-some ds i e (no ne) = omega arith
+
+module _ (ds : List ℕ) (are : AreDigits ds) where
+  -- what is read is an instruction of the sheet
   pub in-fields : (i : Insn) → readDigits ds ≡ Row i → InFields i
   in-fields i e =
       let w = row-with (rowNumber ds) ds i e in
       let r = row-of ds i e in
       record {
-        a = rw (r, ap (λ (x : Insn). x .a) (w .insn)) (chosen-a (lineAt (rowNumber ds) .codes));
-        b = rw (r, ap (λ (x : Insn). x .b) (w .insn)) (chosen-b (lineAt (rowNumber ds) .codes));
+        some = row-some ds i e (ℕ-discrete (i .row) 0);
+        row = numbered (i .row) (short-row ds i e .some) (decLt (i .row) 108);
+        a = rw (r, ap (λ (x : Insn). x .a) (w .insn)) (chosen-a ds are (lineAt (rowNumber ds) .codes));
+        b = rw (r, ap (λ (x : Insn). x .b) (w .insn)) (chosen-b ds are (lineAt (rowNumber ds) .codes));
       }

@@ -1,12 +1,13 @@
 -- The field of an operand: how many values its bits in the object code can have. What is read is below it.
 -- Assumes nothing.
-use Prim.Native.Nat.{ℕ, suc, _*_, max}
+use Prim.Native.Nat.{ℕ, suc, _*_, _<_, max}
 use Prim.Native.String.{String}
 use mathlib.Core.Bool.{Bool}
 use mathlib.Core.List.{List, [], _∷_}
 use Rattle.laws.specs.Choice.{pick}
 use Rattle.sheet.specs.Code.{Group, #, all, fixed1, fixed2, fixed3, above2, among, Operand, absent, value}
-use Rattle.sheet.specs.Table.{Code, Line}
+use Rattle.sheet.specs.Table.{Code, lineAt}
+use Rattle.sheet.specs.declared.Insn.{Insn}
 
 abbrev pub widened : String → Group → ℕ → ℕ
 widened ls (# v) n = n
@@ -32,3 +33,10 @@ fieldA (c ∷ cs) = max (fieldFrom (leads (c .lead)) "xkabrn" (c .groups)) (fiel
 abbrev pub fieldB : List Code → ℕ
 fieldB [] = 1
 fieldB (c ∷ cs) = max (fieldFrom 1 "yp" (c .groups)) (fieldB cs)
+
+-- an instruction of the sheet: one of its rows, and each operand within its field
+pub record InFields (i : Insn) : Type 0 where
+  pub some : 0 < i .row
+  pub row : i .row < 108
+  pub a : i .a < fieldA (lineAt (i .row) .codes)
+  pub b : i .b < fieldB (lineAt (i .row) .codes)
