@@ -5,6 +5,7 @@ use mathlib.Core.Bool.{Bool, true, false}
 use mathlib.Core.Path.{_≡_, refl, sym, subst, _∙_}
 use lib.Dec.{T, eqb, leb}
 use borrow.Author.Tests.{eq-eqb}
+use Rattle.paper.specs.ComesBack.{stack-level}
 use Rattle.laws.specs.Choice.{pick, both, either}
 use Rattle.sheet.specs.Operation.{Register, Port, Pointer, Place, Step, After, Enable, Operation}
 use Rattle.sheet.specs.Table.{Line, Mark, set}
@@ -14,7 +15,7 @@ use Rattle.alu.specs.declared.Made.{Made}
 use Rattle.machine.specs.declared.Machine.{Machine}
 use Rattle.execute.specs.Places.{Around, putOf, touched, withPc}
 use Rattle.execute.specs.Steps.{Did, putStep, exchangeStep, stepOf}
-use Rattle.execute.specs.Rows.{Done, spent, stops, stack-level, withFlags, workOf, branchOf, callOf, worked, ended, latchesOf, performed, past}
+use Rattle.execute.specs.Rows.{Done, spent, stops, withFlags, workOf, branchOf, callOf, worked, ended, latchesOf, performed, past}
 use Rattle.execute.specs.Columns.{isPort, stepWrites, afterWrites, isOrdinary, Ordinary}
 
 -- putting a value leaves EI; and the mode, unless it goes to a port

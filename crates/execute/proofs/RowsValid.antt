@@ -7,6 +7,7 @@ use native.Mathlib.Omega.{arith}
 use lib.Dec.{T, eqb, eqb→eq, leb, leb→le, ltb, ltb→lt}
 use lib.Bits.{bitAnd}
 use borrow.Author.Tests.{eq-eqb}
+use Rattle.paper.specs.ComesBack.{stack-level}
 use Rattle.laws.specs.Choice.{pick, both}
 use Rattle.laws.proofs.Computed.{below, implies, at, modus, true→T, both-left, both-right}
 use Rattle.sheet.specs.Operation.{Step, After, Target, Entry, Enable, Operation}
@@ -21,7 +22,7 @@ use Rattle.machine.specs.Stack.{CanPop, popped, flagsReturned}
 use Rattle.machine.specs.declared.Machine.{Machine}
 use Rattle.machine.proofs.StackValid.{called-valid, popped-valid, flags-returned-valid}
 use Rattle.execute.specs.Places.{Around}
-use Rattle.execute.specs.Rows.{spent, stops, stack-level, past, withFlags, worked, workOf, branchOf, callOf, returned, latchesOf, performed, executed}
+use Rattle.execute.specs.Rows.{spent, stops, past, withFlags, worked, workOf, branchOf, callOf, returned, latchesOf, performed, executed}
 use Rattle.execute.proofs.PortsValid.{chosen-lt}
 use Rattle.execute.proofs.PutValid.{regs-valid, pc-valid}
 use Rattle.execute.proofs.StepsValid.{fitsStep, fitsAfter, worked-valid}

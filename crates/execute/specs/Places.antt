@@ -6,6 +6,7 @@ use mathlib.Core.List.{List}
 use lib.Dec.{eqb, ltb}
 use lib.ListN.{getD, set}
 use Rattle.laws.specs.Choice.{pick}
+use Rattle.paper.specs.ComesBack.{absent-ram-address}
 use Rattle.sheet.specs.Operation.{Register, Given, Cell, Port, Part, Pointer, Half, Place}
 use Rattle.sheet.specs.declared.Insn.{Insn}
 use Rattle.bits.specs.Bits.{bitOf}
@@ -69,9 +70,6 @@ stopped n = record { stop = n; value = 0 }
 abbrev pub there : Machine → Put
 there m = record { stop = 0; machine = m }
 
-abbrev pub absent-ram : ℕ
-absent-ram = 31
-
 abbrev pub registerOf : Registers → Register → ℕ
 registerOf r Register.acc = r .acc
 registerOf r Register.hr = r .hr
@@ -133,9 +131,9 @@ portGot m w Port.latch-l = found (latchOf (m .core .ports) (m .core .regs .lr / 
 abbrev pub getOf : Machine → Around → Place → Got
 getOf m w (Place.register r) = found (registerOf (m .core .regs) r)
 getOf m w (Place.given g) = found (givenOf (m .core .regs) (w .insn) g)
-getOf m w (Place.cell c) = pick (ltb (cellOf (m .core) (w .insn) c) 372) (found (getD (m .ram) (cellOf (m .core) (w .insn) c) 0)) (stopped absent-ram)
+getOf m w (Place.cell c) = pick (ltb (cellOf (m .core) (w .insn) c) 372) (found (getD (m .ram) (cellOf (m .core) (w .insn) c) 0)) (stopped absent-ram-address)
 getOf m w (Place.port p) = portGot m w p
-getOf m w (Place.pointer p) = inBank0 (m .core) (found (pointerOf (m .core) p)) (stopped absent-ram)
+getOf m w (Place.pointer p) = inBank0 (m .core) (found (pointerOf (m .core) p)) (stopped absent-ram-address)
 getOf m w (Place.rom h) = found (halfOf h ((w .rom) (0x1000 + m .core .ptrs .dp)))
 getOf m w Place.mask = found (m .core .ints .mask)
 
@@ -181,8 +179,8 @@ portWritten m n v = record { core = record { regs = m .core .regs; pc = m .core 
 abbrev pub putOf : Machine → Around → Place → ℕ → Put
 putOf m w (Place.register r) v = there (withRegisters m (registerPut (m .core .regs) r v))
 putOf m w (Place.given g) v = there m
-putOf m w (Place.cell c) v = record { stop = pick (ltb (cellOf (m .core) (w .insn) c) 372) 0 absent-ram; machine = withRam m (set (m .ram) (cellOf (m .core) (w .insn) c) v) }
+putOf m w (Place.cell c) v = record { stop = pick (ltb (cellOf (m .core) (w .insn) c) 372) 0 absent-ram-address; machine = withRam m (set (m .ram) (cellOf (m .core) (w .insn) c) v) }
 putOf m w (Place.port p) v = record { stop = writePort (m .core .ports) (portOf (m .core .regs) (w .insn) p) v .stop; machine = portWritten m (portOf (m .core .regs) (w .insn) p) v }
-putOf m w (Place.pointer p) v = record { stop = inBank0 (m .core) 0 absent-ram; machine = pointerPut m p v }
+putOf m w (Place.pointer p) v = record { stop = inBank0 (m .core) 0 absent-ram-address; machine = pointerPut m p v }
 putOf m w (Place.rom h) v = there m
 putOf m w Place.mask v = there (withInterrupts m (record { ei = m .core .ints .ei; il = m .core .ints .il; mask = v }))

@@ -5,6 +5,7 @@ use mathlib.Core.Bool.{Bool, true, false}
 use lib.Dec.{eqb, leb}
 use lib.Bits.{bitAnd}
 use Rattle.laws.specs.Choice.{pick, both}
+use Rattle.paper.specs.ComesBack.{stack-level}
 use Rattle.sheet.specs.Operation.{Step, After, Target, Entry, Enable, Operation}
 use Rattle.sheet.specs.Table.{Line, lineAt}
 use Rattle.sheet.specs.Reading.{wrapped}
@@ -30,9 +31,6 @@ spent t m = record { stop = 0; cycles = t; machine = m }
 
 abbrev pub stops : ℕ → Machine → Done
 stops n m = record { stop = n; cycles = 0; machine = m }
-
-abbrev pub stack-level : ℕ
-stack-level = 32
 
 -- the three flags after a row that made what it made
 abbrev pub flagged : Registers → Line → Made → Registers

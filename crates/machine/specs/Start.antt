@@ -4,7 +4,8 @@ use mathlib.Core.Path.{_≡_}
 use mathlib.Core.Bool.{true, false}
 use lib.ListN.{replicate}
 use Rattle.frame.specs.declared.Pins.{Pins}
-use Rattle.machine.specs.Valid.{Valid, record-outside-the-ranges}
+use Rattle.paper.specs.ComesBack.{record-outside-the-ranges}
+use Rattle.machine.specs.Valid.{Valid}
 use Rattle.machine.specs.declared.Registers.{Registers}
 use Rattle.machine.specs.declared.Pointers.{Pointers}
 use Rattle.ports.specs.declared.Ports.{Ports}

@@ -77,7 +77,3 @@ pub record Nibbles (ram : List ℕ) : Type 0 where
 pub record Valid (m : Machine) : Type 0 where
   pub core : ValidCore (m .core)
   pub ram : Nibbles (m .ram)
-
--- "What comes back", 2: "record outside the ranges above"
-abbrev pub record-outside-the-ranges : ℕ
-record-outside-the-ranges = 2

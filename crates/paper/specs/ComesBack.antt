@@ -19,6 +19,18 @@ refused n = record { number = n; values = [] }
 abbrev pub image-is-not-8192-bytes : ℕ
 image-is-not-8192-bytes = 1
 
+abbrev pub record-outside-the-ranges : ℕ
+record-outside-the-ranges = 2
+
+abbrev pub no-frame : ℕ
+no-frame = 3
+
+abbrev pub more-than-65536-frames : ℕ
+more-than-65536-frames = 4
+
+abbrev pub display-buffer-under-40-bytes : ℕ
+display-buffer-under-40-bytes = 5
+
 abbrev pub not-to-be-written : ℕ
 not-to-be-written = 11
 
@@ -27,3 +39,15 @@ address-over-8191 = 20
 
 abbrev pub unassigned-code : ℕ
 unassigned-code = 30
+
+abbrev pub absent-ram-address : ℕ
+absent-ram-address = 31
+
+abbrev pub stack-level : ℕ
+stack-level = 32
+
+abbrev pub absent-port : ℕ
+absent-port = 33
+
+abbrev pub reserved-10xx : ℕ
+reserved-10xx = 34

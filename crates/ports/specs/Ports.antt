@@ -4,7 +4,9 @@ use Prim.Native.Nat.{ℕ, _+_, _/_, _%_}
 use mathlib.Core.Bool.{Bool, true, false}
 use mathlib.Core.List.{List, [], _∷_}
 use lib.Dec.{eqb}
+use Rattle.laws.specs.Among.{among}
 use Rattle.laws.specs.Choice.{pick, both, either}
+use Rattle.paper.specs.ComesBack.{absent-port, reserved-10xx}
 use Rattle.bits.specs.Bits.{hasBit}
 use Rattle.frame.specs.declared.Pins.{Pins}
 use Rattle.ports.specs.declared.Ports.{Ports}
@@ -13,16 +15,12 @@ use Rattle.ports.specs.declared.Mode.the-variants.{Sleep, Hold}
 use Rattle.ports.specs.declared.PortRead.{PortRead}
 use Rattle.ports.specs.declared.PortWrite.{PortWrite}
 
-abbrev pub isOne : List ℕ → ℕ → Bool
-isOne [] n = false
-isOne (m ∷ ms) n = either (eqb n m) (isOne ms n)
-
 -- "Readable ports: 0, 4, 8, 9. Writable, settable and clearable: 4, 8, 9, 16, 23, 24, 25, 27 to 30. Any other use is 33."
 abbrev pub isReadable : ℕ → Bool
-isReadable n = isOne (0 ∷ 4 ∷ 8 ∷ 9 ∷ []) n
+isReadable n = among (0 ∷ 4 ∷ 8 ∷ 9 ∷ []) n
 
 abbrev pub isWritable : ℕ → Bool
-isWritable n = isOne (4 ∷ 8 ∷ 9 ∷ 16 ∷ 23 ∷ 24 ∷ 25 ∷ 27 ∷ 28 ∷ 29 ∷ 30 ∷ []) n
+isWritable n = among (4 ∷ 8 ∷ 9 ∷ 16 ∷ 23 ∷ 24 ∷ 25 ∷ 27 ∷ 28 ∷ 29 ∷ 30 ∷ []) n
 
 -- what a latch holds; 0 for a port that has none
 unfoldable pub latchOf : Ports → ℕ → ℕ
@@ -73,17 +71,17 @@ abbrev pub readAs : ℕ → Ports → PortRead
 readAs v p = record { stop = 0; value = v; ports = p }
 
 abbrev pub noRead : Ports → PortRead
-noRead p = record { stop = 33; value = 0; ports = p }
+noRead p = record { stop = absent-port; value = 0; ports = p }
 
 unfoldable pub readPort : Bool → Pins → Ports → ℕ → PortRead
 readPort sound pins p n = pick (isReadable n) (readAs (pinsOf sound pins p n) (touched p n)) (noRead p)
 
 -- "34: 10xx written to P25 or P27"
 abbrev pub reservedStop : ℕ → ℕ
-reservedStop v = pick (eqb (v / 4) 2) 34 0
+reservedStop v = pick (eqb (v / 4) 2) reserved-10xx 0
 
 unfoldable pub writeStop : ℕ → ℕ → ℕ
-writeStop n v = pick (isWritable n) (pick (either (eqb n 25) (eqb n 27)) (reservedStop v) 0) 33
+writeStop n v = pick (isWritable n) (pick (either (eqb n 25) (eqb n 27)) (reservedStop v) 0) absent-port
 
 -- "Writing P16 with bit 2 set enters hold (bits 1..0 = 3) or sleep .. With bit 2 clear P16 only keeps the value."
 abbrev pub enters : ℕ → ℕ → Bool
