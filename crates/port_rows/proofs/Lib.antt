@@ -1,0 +1,5 @@
+pub mod Latched
+pub mod Stops
+pub mod Writing
+pub mod Reading
+pub mod WithCell
