@@ -1,0 +1,70 @@
+-- The table of groups puts each row of the sheet into a group that has it, with its operands below the group's limits; and a number of a group that is no other's.
+-- Assumes nothing.
+use mathlib.Core.Path.{_≡_, refl, sym, subst}
+use mathlib.Core.Bool.{Bool}
+use mathlib.Core.List.{List, [], _∷_}
+use Prim.Native.Nat.{ℕ, suc, _+_, _-_, _<_, _≤_}
+use native.Mathlib.Omega.{arith}
+use lib.Dec.{T, eqb, eqb→eq, leb, leb→le, le→leb}
+use lib.ListN.{getD}
+use Rattle.laws.specs.Among.{among}
+use Rattle.laws.specs.Choice.{pick, both}
+use Rattle.laws.proofs.Computed.{listed, listed-at, below, implies, at, modus, both-left, both-right, T→true, NoKey, out, rest-at}
+use Rattle.sheet.specs.Fields.{fieldA, fieldB, InFields}
+use Rattle.sheet.specs.Table.{lines, lineAt}
+use Rattle.sheet.specs.declared.Insn.{Insn}
+use Rattle.perform.specs.Groups.{groups, rowsOf, limitA, limitB, InGroup}
+
+-- the first group that has a row
+abbrev groupFrom : ℕ → List (List ℕ) → ℕ → ℕ
+groupFrom g [] row = g
+groupFrom g (rows ∷ others) row = pick (among rows row) g (groupFrom (suc g) others row)
+
+abbrev pub groupOf : ℕ → ℕ
+groupOf row = groupFrom 0 groups row
+
+-- the code's table: `a` is group 0
+unfoldable pub letters : List ℕ
+letters = listed (λ row. 97 + groupOf row) 0 108
+
+pub letter-of : (row : ℕ) → row < 108 → getD letters row 0 ≡ 97 + groupOf row
+unfolding letters
+letter-of row h = listed-at (λ row. 97 + groupOf row) 108 row h
+
+-- what is tested of each row but row 0, which is none
+abbrev belongs : ℕ → ℕ → Bool
+belongs row g =
+    both (among (rowsOf g) row)
+    (both (leb (fieldA (lineAt row .codes)) (limitA g)) (both (leb (fieldB (lineAt row .codes)) limitB) (leb g 24)))
+
+all-belong : T (below 108 (λ row. implies (leb 1 row) (belongs row (groupOf row))))
+unfolding lineAt lines
+all-belong = tt
+
+-- a number from low up to below n that is no key is k
+pub last : (ks : List ℕ) (low n k : ℕ) → T (below n (λ g. implies (out ks g) (implies (leb low g) (eqb g k)))) → (g : ℕ) → low ≤ g → g < n → NoKey g ks → g ≡ k
+last ks low n k t g h l r = eqb→eq g k (modus (leb low g) (eqb g k) (rest-at (λ g. implies (leb low g) (eqb g k)) ks n t g l r) (le→leb low g h))
+
+sorted : (i : Insn) (g : ℕ) → InFields i → T (belongs (i .row) g) → InGroup g i
+sorted i g h t =
+    let fields = both-right (among (rowsOf g) (i .row)) _ t in
+    let others = both-right (leb (fieldA (lineAt (i .row) .codes)) (limitA g)) _ fields in
+    record {
+      row = T→true (among (rowsOf g) (i .row)) (both-left (among (rowsOf g) (i .row)) _ t);
+      a = omega (arith, h .a, leb→le (fieldA (lineAt (i .row) .codes)) (limitA g) (both-left (leb (fieldA (lineAt (i .row) .codes)) (limitA g)) _ fields));
+      b = omega (arith, h .b, leb→le (fieldB (lineAt (i .row) .codes)) limitB (both-left (leb (fieldB (lineAt (i .row) .codes)) limitB) _ others));
+      few = omega (arith, leb→le g 24 (both-right (leb (fieldB (lineAt (i .row) .codes)) limitB) _ others));
+    }
+
+-- the entry of a row of the sheet is a group that has it
+pub sorted-by : (i : Insn) → InFields i → InGroup (groupOf (i .row)) i
+sorted-by i h =
+    sorted i (groupOf (i .row)) h
+    (modus (leb 1 (i .row)) (belongs (i .row) (groupOf (i .row)))
+    (at (λ row. implies (leb 1 row) (belongs row (groupOf row))) 108 all-belong (i .row) (h .row))
+    (le→leb 1 (i .row) (h .some)))
+
+pub by-letter : (i : Insn) (letter : ℕ) → InFields i → letter ≡ getD letters (i .row) 0 → InGroup (letter - 97) i
+by-letter i letter h e =
+    let f : letter - 97 ≡ groupOf (i .row) = rw (e, letter-of (i .row) (h .row)) (omega arith) in
+    subst (λ (g : ℕ). InGroup g i) (sym f) (sorted-by i h)

@@ -1,0 +1,65 @@
+// The groups that read or write RAM, which is lent, and those that change more of the scalars.
+use cells::read_hl::read_by_hl;
+use cells::read_x::read_by_x;
+use cells::read_y::read_by_y;
+use cells::write_hl::write_by_hl;
+use cells::write_x::write_by_x;
+use cells::write_y::write_by_y;
+use machine::Core;
+use near::Act;
+use pairs::exchange_pair;
+use pairs::load_pair;
+use port_rows::memory::read_to_cell;
+use port_rows::memory::write_from_cell;
+use port_rows::reads::read_row;
+use port_rows::writes::write_row;
+use sheet::Insn;
+use turns::Turn;
+use turns::calls::call;
+use turns::latches::latch;
+use turns::returns::come_back;
+ghost use mathlib.Core.Path.{_≡_};
+ghost use Prim.Native.Nat.{_<_, _≤_};
+ghost use Rattle.machine.specs.Valid.{ValidCore, Nibbles};
+ghost use Rattle.cells.specs.Cells.{Does};
+ghost use Rattle.perform.specs.Groups.{InGroup};
+ghost use Rattle.perform.specs.Performs.{Shifts};
+
+pub fn read(m: Core, ram: &[u8; 372], i: Insn, group: u8) -> Act
+    requires { ⌜ (ValidCore m) × (Nibbles (now ram)) × (InGroup group i) × (6 ≤ group) × (group < 10) ⌝ }
+    ensures { λ x. ⌜ Does m (i .row) (i .a) (i .b) (now (ram .entry)) (now (ram .entry)) x ⌝ }
+{
+    match group {
+        6 => read_by_hl(m, ram, i),
+        7 => read_by_x(m, ram, i),
+        8 => read_by_y(m, ram, i),
+        _ => load_pair(m, ram, i),
+    }
+}
+
+pub fn write(m: Core, ram: &mut [u8; 372], i: Insn, group: u8) -> Act
+    requires { ⌜ (ValidCore m) × (Nibbles (now ram)) × (InGroup group i) × (10 ≤ group) × (group < 14) ⌝ }
+    ensures { λ x. ⌜ Does m (i .row) (i .a) (i .b) (now (ram .entry)) (now (ram .exit)) x ⌝ }
+{
+    match group {
+        10 => write_by_hl(m, ram, i),
+        11 => write_by_x(m, ram, i),
+        12 => write_by_y(m, ram, i),
+        _ => exchange_pair(m, ram, i),
+    }
+}
+
+pub fn turn(sound: bool, m: Core, ram: &mut [u8; 372], i: Insn, group: u8) -> Turn
+    requires { ⌜ (ValidCore m) × (Nibbles (now ram)) × (InGroup group i) × (18 ≤ group) × (group < 25) ⌝ }
+    ensures { λ x. ⌜ Shifts sound m i (now (ram .entry)) (now (ram .exit)) x ⌝ }
+{
+    match group {
+        18 => latch(m, i.row, i.a as u8),
+        19 => come_back(m, ram, i.row),
+        20 => call(m, ram, i.row, i.a),
+        21 => write_row(m, i.row, i.a as u8, i.b),
+        22 => read_row(sound, m, i.row, i.a as u8, i.b),
+        23 => read_to_cell(sound, m, ram, i.b),
+        _ => write_from_cell(m, ram, i.b),
+    }
+}
