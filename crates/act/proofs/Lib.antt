@@ -1,0 +1,2 @@
+pub mod ActValid
+pub mod Acting
