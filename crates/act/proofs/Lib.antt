@@ -1,2 +1,3 @@
 pub mod ActValid
 pub mod Acting
+pub mod Stops

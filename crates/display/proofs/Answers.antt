@@ -1,0 +1,62 @@
+-- What the call answers in each of its three cases, and that any two answers to the same are equal.
+-- Assumes nothing.
+use Prim.Native.Nat.{ℕ, _<_, _≤_}
+use mathlib.Core.Bool.{Bool, true, false, not}
+use mathlib.Core.List.{List, _++_}
+use mathlib.Core.Path.{_≡_, refl, sym, _∙_}
+use native.Mathlib.Decide.{decLt}
+use native.Mathlib.Omega.{arith}
+use lib.ListN.{length, drop}
+use borrow.Author.Tests.{not-true, not-false}
+use Rattle.laws.specs.Decides.{Decides}
+use Rattle.laws.proofs.Computed.{true→T}
+use Rattle.machine.specs.Valid.{Valid}
+use Rattle.machine.specs.declared.Machine.{Machine}
+use Rattle.machine.proofs.Validity.{valid?}
+use Rattle.paper.specs.ComesBack.{record-outside-the-ranges, display-buffer-under-40-bytes}
+use Rattle.display.specs.Display.{shownOf, Refused, DisplayOf}
+
+-- what is known where the test that decides a statement failed, and where it passed
+pub fails : {t : Bool} {P : Type 0} → Decides t P → not t ≡ true → P → ⊥
+fails {t} d e p = rw (not-true t e) at (d .complete p)
+
+pub passes : {t : Bool} {P : Type 0} → Decides t P → not t ≡ false → P
+passes {t} d e = d .sound (true→T (not-false t e))
+
+module _ (m : Machine) (b : List ℕ) where
+  pub outside-ranges : (Valid m → ⊥) → DisplayOf m b b record-outside-the-ranges
+  outside-ranges n =
+      record {
+        outside = λ _. record { answer = refl; kept = refl };
+        short = λ v. absurd (n v);
+        shown = λ v. absurd (n v);
+      }
+
+  pub under-40 : Valid m → length b < 40 → DisplayOf m b b display-buffer-under-40-bytes
+  under-40 v h =
+      record {
+        outside = λ n. absurd (n v);
+        short = λ _ _. record { answer = refl; kept = refl };
+        shown = λ _ l. absurd (let z : ⊥ = omega arith in z);
+      }
+
+  pub all-shown : (a : List ℕ) → Valid m → 40 ≤ length b → a ≡ shownOf m ++ drop 40 b → DisplayOf m b a 0
+  all-shown a v h e = record { outside = λ n. absurd (n v); short = λ _ l. absurd (let z : ⊥ = omega arith in z); shown = λ _ _. (refl, e) }
+
+same-refusal : {n : ℕ} {b a z : List ℕ} {r q : ℕ} → Refused n b a r → Refused n b z q → (r ≡ q) × (a ≡ z)
+same-refusal f g = (f .answer ∙ sym (g .answer), f .kept ∙ sym (g .kept))
+
+same-shown : {t a z : List ℕ} {r q : ℕ} → (r ≡ 0) × (a ≡ t) → (q ≡ 0) × (z ≡ t) → (r ≡ q) × (a ≡ z)
+same-shown f g = (f .0 ∙ sym (g .0), f .1 ∙ sym (g .1))
+
+by-size : {m : Machine} {b a z : List ℕ} {r q : ℕ} → DisplayOf m b a r → DisplayOf m b z q → Valid m → Dec (length b < 40) → (r ≡ q) × (a ≡ z)
+by-size f g v (yes h) = same-refusal (f .short v h) (g .short v h)
+by-size f g v (no h) = same-shown (f .shown v (omega arith)) (g .shown v (omega arith))
+
+by-validity : {m : Machine} {b a z : List ℕ} {r q : ℕ} → DisplayOf m b a r → DisplayOf m b z q → Dec (Valid m) → (r ≡ q) × (a ≡ z)
+by-validity {b = b} f g (yes v) = by-size f g v (decLt (length b) 40)
+by-validity f g (no n) = same-refusal (f .outside n) (g .outside n)
+
+-- any two answers to the same record and buffer are equal, and leave the same bytes
+pub one-answer : (m : Machine) (b a z : List ℕ) (r q : ℕ) → DisplayOf m b a r → DisplayOf m b z q → (r ≡ q) × (a ≡ z)
+one-answer m b a z r q f g = by-validity f g (valid? m)

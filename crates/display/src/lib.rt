@@ -1,0 +1,58 @@
+// Document 01, "Display": the forty bytes that say which dots are on.
+use machine::Machine;
+use machine::ram::peek;
+use machine::valid::is_valid;
+ghost use mathlib.Core.Path.{_≡_};
+ghost use mathlib.Core.List.{_++_};
+ghost use Prim.Native.Nat.{_+_, _*_, _/_, _%_, _<_, _≤_};
+ghost use lib.ListN.{length, drop};
+ghost use Rattle.laws.specs.Choice.{pick};
+ghost use Rattle.machine.specs.Valid.{Nibbles, Valid};
+ghost use Rattle.display.specs.Display.{pairAt, shownOf, DisplayOf};
+
+fn pair(ram: &[u8; 372], at: usize) -> u8
+    requires { ⌜ (Nibbles (now ram)) × (at < 371) ⌝ }
+    ensures { λ r. ⌜ r ≡ pairAt (now (ram .entry)) at ⌝ }
+{
+    let low = peek(ram, at);
+    let high = peek(ram, at + 1);
+    low + 16 * high
+}
+
+// Byte j of the forty.
+fn byte(on: bool, ram: &[u8; 372], j: usize) -> u8
+    requires { ⌜ (Nibbles (now ram)) × (j < 40) ⌝ }
+    ensures { λ r. ⌜ r ≡ pick on (pairAt (now (ram .entry)) (0x20 + 16 * (j / 5) + 2 * (j % 5))) 0 ⌝ }
+{
+    if on {
+        return pair(ram, 0x20 + 16 * (j / 5) + 2 * (j % 5));
+    }
+    0
+}
+
+fn show(m: Machine, out: &mut [u8])
+    requires { ⌜ (Valid m) × (40 ≤ length (now out)) ⌝ }
+    ensures { λ _. ⌜ now (out .exit) ≡ shownOf m ++ drop 40 (now (out .entry)) ⌝ }
+{
+    let ram = m.ram;
+    let on = m.core.ports.p27 / 4 == 3;
+    let mut j: usize = 0;
+    while j < 40 {
+        out[j] = byte(on, &ram, j);
+        j += 1;
+    }
+}
+
+// 0 and the dots in the first forty bytes of out, or a refusal's number and out as it was.
+pub fn display(m: Machine, out: &mut [u8]) -> u8
+    ensures { λ r. ⌜ DisplayOf m (now (out .entry)) (now (out .exit)) r ⌝ }
+{
+    if !is_valid(m) {
+        return 2;
+    }
+    if out.len() < 40 {
+        return 5;
+    }
+    show(m, out);
+    0
+}

@@ -1,0 +1,56 @@
+-- A step of a valid record is valid, and its stop gives back the record that was handed in.
+-- Assumes nothing.
+use mathlib.Core.Path.{_≡_, refl, sym, subst}
+use mathlib.Core.Bool.{Bool, true, false}
+use Prim.Native.Nat.{ℕ, _<_}
+use native.Mathlib.Decide.{ℕ-discrete}
+use lib.Dec.{eqb}
+use borrow.Author.Tests.{eq-eqb, ne-eqb}
+use Rattle.laws.specs.Choice.{pick}
+use Rattle.frame.specs.Frame.{PinsInRange}
+use Rattle.frame.specs.declared.Pins.{Pins}
+use Rattle.ports.specs.declared.Mode.the-variants.{Running}
+use Rattle.machine.specs.Valid.{Valid}
+use Rattle.machine.specs.declared.Machine.{Machine}
+use Rattle.execute.specs.Rows.{Done, spent, stops}
+use Rattle.look.specs.Look.{looked}
+use Rattle.look.specs.declared.Looked.{Looked}
+use Rattle.look.proofs.LookValid.{looked-valid, acts-running}
+use Rattle.act.specs.Act.{actOf}
+use Rattle.act.proofs.ActValid.{act-valid}
+use Rattle.step.specs.Step.{undone, goneOn, stepOf}
+use Rattle.step.specs.declared.Options.{Options}
+
+chosen-valid : (t : Bool) (x y : Done) → Valid (x .machine) → Valid (y .machine) → Valid (pick t x y .machine)
+chosen-valid true x y h k = h
+chosen-valid false x y h k = k
+
+undone-stops : (m : Machine) (x : Done) → Dec (x .stop ≡ 0) → (undone m x .stop ≡ 0 → ⊥) → undone m x ≡ stops (undone m x .stop) m
+undone-stops m x (yes e) z = absurd (z (rw (eq-eqb (x .stop) 0 e) e))
+undone-stops m x (no ne) z = rw (ne-eqb (x .stop) 0 ne)
+
+gone-undone : (m : Machine) (t : Bool) (x : Done) (cycles : ℕ) (seen : Machine) → (pick t (undone m x) (spent cycles seen) .stop ≡ 0 → ⊥) → pick t (undone m x) (spent cycles seen) ≡ stops (pick t (undone m x) (spent cycles seen) .stop) m
+gone-undone m true x cycles seen z = undone-stops m x (ℕ-discrete (x .stop) 0) z
+gone-undone m false x cycles seen z = absurd (z refl)
+
+module _ (rom : ℕ → ℕ) (o : Options) (m : Machine) where
+  gone-valid : (t : Bool) (v : Looked) → v .acts ≡ t → Valid m → Valid (record { core = v .core; ram = m .ram }) → (t ≡ true → v .core .mode ≡ Running) → ((at : ℕ) → rom at < 256) → Valid (goneOn rom o m v .machine)
+  gone-valid true v e h s r bytes =
+      rw e
+      (chosen-valid (eqb (actOf rom (o .sound) (record { core = v .core; ram = m .ram }) .stop) 0) (actOf rom (o .sound) (record { core = v .core; ram = m .ram })) (stops (actOf rom (o .sound) (record { core = v .core; ram = m .ram }) .stop) m)
+      (act-valid rom (o .sound) (record { core = v .core; ram = m .ram }) s (r refl) bytes) h)
+  gone-valid false v e h s r bytes = rw e s
+
+  pub step-valid : (pins : Pins) → Valid m → PinsInRange pins → ((at : ℕ) → rom at < 256) → Valid (stepOf rom o m pins .machine)
+  unfolding stepOf
+  step-valid pins h p bytes =
+      let v : Looked = looked (o .wake) (m .core) pins in
+      gone-valid (v .acts) v refl h (record { core = looked-valid (o .wake) (m .core) pins (h .core) p; ram = h .ram })
+      (λ q. acts-running (o .wake) (m .core) pins q) bytes
+
+  -- "A stop gives the record from before that step, last frame included, and zero cycles for it."
+  pub stop-undoes : (pins : Pins) → (stepOf rom o m pins .stop ≡ 0 → ⊥) → stepOf rom o m pins ≡ stops (stepOf rom o m pins .stop) m
+  unfolding stepOf
+  stop-undoes pins z =
+      let v : Looked = looked (o .wake) (m .core) pins in
+      gone-undone m (v .acts) (actOf rom (o .sound) (record { core = v .core; ram = m .ram })) (v .cycles) (record { core = v .core; ram = m .ram }) z

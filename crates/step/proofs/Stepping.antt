@@ -1,0 +1,46 @@
+-- A step by its three ways: it stops and is undone, it acts, or it only looked.
+-- Assumes nothing.
+use mathlib.Core.Path.{_≡_, sym, ap, _∙_}
+use mathlib.Core.Bool.{true, false}
+use mathlib.Core.List.{List}
+use Prim.Native.Nat.{ℕ}
+use borrow.Author.Tests.{eq-eqb, ne-eqb}
+use Rattle.frame.specs.declared.Pins.{Pins}
+use Rattle.ports.specs.declared.Mode.the-variants.{Running}
+use Rattle.machine.specs.declared.Core.{Core}
+use Rattle.execute.specs.Rows.{Done}
+use Rattle.near.specs.Quiet.{assembled}
+use Rattle.turns.specs.declared.Turn.{Turn}
+use Rattle.look.specs.Look.{looked}
+use Rattle.look.specs.declared.Looked.{Looked}
+use Rattle.look.proofs.LookValid.{acts-running}
+use Rattle.act.specs.Act.{actOf}
+use Rattle.act.specs.Gives as act
+use Rattle.act.proofs.Stops.{act-keeps-ram}
+use Rattle.step.specs.Step.{stepOf}
+use Rattle.step.specs.Gives.{Gives}
+use Rattle.step.specs.declared.Options.{Options}
+
+-- what goes on to act is running
+pub seen-running : (enabled : ℕ) (m : Core) (pins : Pins) (v : Looked) → v ≡ looked enabled m pins → v .acts ≡ true → v .core .mode ≡ Running
+seen-running enabled m pins v e t = rw e (acts-running enabled m pins (ap (λ (v : Looked). v .acts) (sym e) ∙ t))
+
+module _ (rom : ℕ → ℕ) (o : Options) (m : Core) (l : List ℕ) (pins : Pins) (v : Looked) (e : v ≡ looked (o .wake) m pins) where
+  pub only-looked : v .acts ≡ false → Gives (stepOf rom o (assembled m l) pins) l (record { stop = 0; cycles = v .cycles; core = v .core })
+  unfolding stepOf
+  only-looked t = record { same = rw (← e, t) }
+
+  module _ (k : List ℕ) (x : Turn) (t : v .acts ≡ true) (g : act.Gives (actOf rom (o .sound) (assembled (v .core) l)) k x) where
+    pub acted : x .stop ≡ 0 → Gives (stepOf rom o (assembled m l) pins) k (record { stop = 0; cycles = x .cycles; core = x .core })
+    unfolding stepOf
+    acted z = record { same = rw (← e, t, ← g .same, eq-eqb (x .stop) 0 z, z) }
+
+    kept : (x .stop ≡ 0 → ⊥) → k ≡ l
+    kept z =
+        let r = ap (λ (d : Done). d .machine .ram) (g .same) in
+        let s = ap (λ (d : Done). d .stop) (g .same) in
+        r ∙ act-keeps-ram rom (o .sound) (assembled (v .core) l) (λ q. z (s ∙ q))
+
+    pub stopped : (x .stop ≡ 0 → ⊥) → Gives (stepOf rom o (assembled m l) pins) k (record { stop = x .stop; cycles = 0; core = m })
+    unfolding stepOf
+    stopped z = record { same = rw (← e, t, ← g .same, ne-eqb (x .stop) 0 z, kept z) }

@@ -1,0 +1,30 @@
+-- What the call step answers: document 01's number, 0 where nothing is refused and nothing stops, and what comes with it. Refusals in the order of its table.
+-- Assumes nothing.
+use Prim.Native.Nat.{ℕ}
+use mathlib.Core.List.{List}
+use mathlib.Core.Path.{_≡_}
+use lib.ListN.{length}
+use Rattle.paper.specs.ComesBack.{image-is-not-8192-bytes, record-outside-the-ranges, no-frame}
+use Rattle.sheet.specs.Reading.{romOf}
+use Rattle.frame.specs.Frame.{frameOf}
+use Rattle.frame.specs.declared.Pins.{Pins}
+use Rattle.frame.specs.declared.Frame.{Frame}
+use Rattle.machine.specs.Valid.{Valid}
+use Rattle.machine.specs.declared.Machine.{Machine}
+use Rattle.execute.specs.Rows.{Done}
+use Rattle.step.specs.Step.{stepOf}
+use Rattle.step.specs.declared.Options.{Options}
+use Rattle.step.specs.declared.Stepped.{Stepped}
+
+-- a refusal gives nothing else: the record is the one that was handed in
+abbrev pub stepRefused : ℕ → Machine → Stepped
+stepRefused number m = record { number = number; cycles = 0; machine = m }
+
+abbrev pub stepped : Done → Stepped
+stepped x = record { number = x .stop; cycles = x .cycles; machine = x .machine }
+
+pub record StepOf (image : List ℕ) (o : Options) (m : Machine) (frame : List ℕ) (r : Stepped) : Type 0 where
+  pub refused-1 : (length image ≡ 8192 → ⊥) → r ≡ stepRefused image-is-not-8192-bytes m
+  pub refused-2 : length image ≡ 8192 → (Valid m → ⊥) → r ≡ stepRefused record-outside-the-ranges m
+  pub refused-3 : length image ≡ 8192 → Valid m → frameOf frame ≡ Frame.NoFrame → r ≡ stepRefused no-frame m
+  pub steps : length image ≡ 8192 → Valid m → (pins : Pins) → frameOf frame ≡ Frame.Seen pins → r ≡ stepped (stepOf (romOf image) o m pins)

@@ -1,0 +1,11 @@
+-- What a step on the scalars, with RAM lent, gives: the definition's answer taken apart.
+-- Assumes nothing.
+use Prim.Native.Nat.{ℕ}
+use mathlib.Core.List.{List}
+use mathlib.Core.Path.{_≡_}
+use Rattle.execute.specs.Rows.{Done}
+use Rattle.near.specs.Quiet.{assembled}
+use Rattle.step.specs.declared.Advanced.{Advanced}
+
+pub record Gives (d : Done) (k : List ℕ) (x : Advanced) : Type 0 where
+  pub same : record { stop = x .stop; cycles = x .cycles; machine = assembled (x .core) k } ≡ d

@@ -1,0 +1,104 @@
+// One step: for any image, options, record and frame the record, the stop and the cycles that document 01 says, or a refusal by number that changes nothing.
+use act::act;
+use frame::Frame;
+use frame::Pins;
+use frame::frame_of;
+use look::look;
+use machine::Core;
+use machine::Machine;
+use machine::valid::is_valid;
+ghost use mathlib.Core.Path.{_≡_};
+ghost use lib.ListN.{length};
+ghost use Rattle.sheet.specs.Reading.{romOf};
+ghost use Rattle.frame.specs.Frame.{PinsInRange};
+ghost use Rattle.machine.specs.Valid.{ValidCore, Nibbles};
+ghost use Rattle.step.specs.Step.{stepOf};
+ghost use Rattle.step.specs.Gives.{Gives};
+ghost use Rattle.step.specs.Answers.{StepOf, stepRefused};
+
+// wake has the enable bits of P0.0 to P0.3 and P8.0 to P8.3, from bit 0 up.
+pub struct Options {
+    pub wake: u8,
+    pub sound: bool,
+}
+
+// What a step leaves of the scalars.
+pub struct Advanced {
+    pub stop: u8,
+    pub cycles: u16,
+    pub core: Core,
+}
+
+// Document 01's number, a refusal's or a stop's or 0; the cycles and the record.
+pub struct Stepped {
+    pub number: u8,
+    pub cycles: u16,
+    pub machine: Machine,
+}
+
+// A step on the RAM that is lent.
+pub fn advance(image: &[u8], options: Options, m: Core, ram: &mut [u8; 372], pins: Pins) -> Advanced
+    requires { ⌜ (ValidCore m) × (Nibbles (now ram)) × (length (now image) ≡ 8192) × (PinsInRange pins) ⌝ }
+    ensures { λ x. ⌜ Gives (stepOf (romOf (now (image .entry))) options (record { core = m; ram = now (ram .entry) }) pins) (now (ram .exit)) x ⌝ }
+{
+    let seen = look(options.wake, m, pins);
+    let core = seen.core;
+    if seen.acts {
+        let x = act(image, options.sound, core, ram);
+        if x.stop != 0 {
+            return Advanced {
+                stop: x.stop,
+                cycles: 0,
+                core: m,
+            };
+        }
+        let after = x.core;
+        return Advanced {
+            stop: 0,
+            cycles: x.cycles as u16,
+            core: after,
+        };
+    }
+    Advanced {
+        stop: 0,
+        cycles: seen.cycles,
+        core: core,
+    }
+}
+
+fn step_refused(number: u8, m: Machine) -> Stepped
+    ensures { λ r. ⌜ r ≡ stepRefused number m ⌝ }
+{
+    Stepped {
+        number: number,
+        cycles: 0,
+        machine: m,
+    }
+}
+
+// The public step.
+pub fn step(image: &[u8], options: Options, m: Machine, frame: &[u8]) -> Stepped
+    ensures { λ r. ⌜ StepOf (now (image .entry)) options m (now (frame .entry)) r ⌝ }
+{
+    if image.len() != 8192 {
+        return step_refused(1, m);
+    }
+    if !is_valid(m) {
+        return step_refused(2, m);
+    }
+    let Frame::Seen(pins) = frame_of(frame) else {
+        return step_refused(3, m);
+    };
+    let core = m.core;
+    let mut ram = m.ram;
+    let x = advance(image, options, core, &mut ram, pins);
+    let after = x.core;
+    Stepped {
+        number: x.stop,
+        cycles: x.cycles,
+        machine: Machine {
+            core: after,
+            ram: ram,
+        },
+    }
+}
