@@ -1,0 +1,94 @@
+// A run: one step a frame, up to a stop. RAM stays in one place over all its steps.
+use frame::are_frames;
+use frame::pins_at;
+use machine::Machine;
+use machine::valid::is_valid;
+use step::Options;
+use step::advance;
+ghost use mathlib.Core.Path.{_≡_};
+ghost use mathlib.Core.Bool.{true};
+ghost use Prim.Native.Nat.{_≤_};
+ghost use lib.ListN.{length};
+ghost use Rattle.sheet.specs.Reading.{romOf};
+ghost use Rattle.frame.specs.Frame.{areFrames, framesOf};
+ghost use Rattle.machine.specs.Valid.{Valid};
+ghost use Rattle.run.specs.Run.{runOf};
+ghost use Rattle.run.specs.Answers.{RunOf, runRefused};
+
+// Document 01's number, a refusal's or a stop's or 0; the steps completed, the cycles spent and the record.
+pub struct Ran {
+    pub number: u8,
+    pub steps: u32,
+    pub cycles: u32,
+    pub machine: Machine,
+}
+
+fn run_refused(number: u8, m: Machine) -> Ran
+    ensures { λ r. ⌜ r ≡ runRefused number m ⌝ }
+{
+    Ran {
+        number: number,
+        steps: 0,
+        cycles: 0,
+        machine: m,
+    }
+}
+
+// The steps of all frames, or of those up to a stop.
+fn run_frames(image: &[u8], options: Options, m: Machine, frames: &[u8]) -> Ran
+    requires { ⌜ (Valid m) × (length (now image) ≡ 8192) × (length (now frames) ≤ 196608) × (areFrames (now frames) ≡ true) ⌝ }
+    ensures { λ r. ⌜ r ≡ runOf (romOf (now (image .entry))) options m (framesOf (now (frames .entry))) ⌝ }
+{
+    let mut core = m.core;
+    let mut ram = m.ram;
+    let mut at: usize = 0;
+    let mut steps: u32 = 0;
+    let mut cycles: u32 = 0;
+    while at < frames.len() {
+        let pins = pins_at(frames, at);
+        let x = advance(image, options, core, &mut ram, pins);
+        if x.stop != 0 {
+            return Ran {
+                number: x.stop,
+                steps: steps,
+                cycles: cycles,
+                machine: Machine {
+                    core: core,
+                    ram: ram,
+                },
+            };
+        }
+        core = x.core;
+        cycles += x.cycles as u32;
+        steps += 1;
+        at += 3;
+    }
+    Ran {
+        number: 0,
+        steps: steps,
+        cycles: cycles,
+        machine: Machine {
+            core: core,
+            ram: ram,
+        },
+    }
+}
+
+// The public run.
+pub fn run(image: &[u8], options: Options, m: Machine, frames: &[u8]) -> Ran
+    ensures { λ r. ⌜ RunOf (now (image .entry)) options m (now (frames .entry)) r ⌝ }
+{
+    if image.len() != 8192 {
+        return run_refused(1, m);
+    }
+    if !is_valid(m) {
+        return run_refused(2, m);
+    }
+    if 196608 < frames.len() {
+        return run_refused(4, m);
+    }
+    if !are_frames(frames) {
+        return run_refused(3, m);
+    }
+    run_frames(image, options, m, frames)
+}
