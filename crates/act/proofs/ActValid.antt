@@ -1,12 +1,11 @@
 -- Acting makes a valid record of a valid one that runs.
 -- Assumes nothing.
-use mathlib.Core.Path.{_≡_, refl, sym, subst}
+use mathlib.Core.Path.{_≡_, refl}
 use mathlib.Core.Bool.{Bool, true, false}
 use mathlib.Core.List.{[], _∷_}
-use Prim.Native.Nat.{ℕ, _/_, _%_, _<_}
-use native.Mathlib.Nat.{mod-lt}
+use Prim.Native.Nat.{ℕ, _<_}
 use native.Mathlib.Omega.{arith}
-use lib.Dec.{T, leb, leb→le, ltb, ltb→lt, lit<}
+use lib.Dec.{T, leb, leb→le, ltb, ltb→lt}
 use Rattle.laws.specs.Choice.{pick, both}
 use Rattle.laws.proofs.Computed.{both-left, both-right}
 use Rattle.paper.specs.ComesBack.{stack-level}
@@ -20,13 +19,12 @@ use Rattle.clock.specs.Clock.{passed, InRange}
 use Rattle.clock.proofs.Ranges.{passed-in-range}
 use Rattle.ports.specs.declared.Mode.{Mode}
 use Rattle.ports.specs.declared.Mode.the-variants.{Running}
-use Rattle.machine.specs.Stack.{CanPush, accepted}
+use Rattle.machine.specs.Stack.{accepted}
 use Rattle.machine.specs.Valid.{ValidCore, Valid}
 use Rattle.machine.specs.declared.Core.{Core}
 use Rattle.machine.specs.declared.Machine.{Machine}
 use Rattle.machine.proofs.StackValid.{accepted-valid}
-use Rattle.execute.specs.Places.{Around}
-use Rattle.execute.specs.Rows.{Done, spent, stops, executed}
+use Rattle.execute.specs.Rows.{Done, spent, stops}
 use Rattle.execute.proofs.RowsValid.{executed-valid}
 use Rattle.look.specs.Look.{timeOf}
 use Rattle.look.proofs.Ranges.{clear, is-clear}

@@ -5,14 +5,14 @@ use mathlib.Core.Bool.{Bool, true, false}
 use mathlib.Core.List.{List}
 use Prim.Native.Nat.{ℕ, _<_, _≤_}
 use native.Mathlib.Omega.{arith}
-use lib.Dec.{leb, ltb}
+use lib.Dec.{leb}
 use borrow.Author.Tests.{le-leb, lt-leb, lt-ltb, le-ltb}
 use Rattle.laws.specs.Choice.{both}
 use Rattle.sheet.specs.Reading.{readAt}
 use Rattle.sheet.specs.declared.Insn.{Insn}
 use Rattle.sheet.specs.declared.Read.{Read}
 use Rattle.ports.specs.declared.Mode.{Mode}
-use Rattle.machine.specs.Stack.{CanPush, accepted}
+use Rattle.machine.specs.Stack.{accepted}
 use Rattle.machine.specs.Valid.{Valid}
 use Rattle.machine.specs.declared.Core.{Core}
 use Rattle.machine.specs.declared.Machine.{Machine}

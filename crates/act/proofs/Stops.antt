@@ -11,7 +11,6 @@ use Rattle.sheet.specs.Table.{lineAt}
 use Rattle.sheet.specs.declared.Read.{Read}
 use Rattle.machine.specs.Stack.{accepted}
 use Rattle.machine.specs.declared.Machine.{Machine}
-use Rattle.execute.specs.Places.{Around}
 use Rattle.execute.specs.Rows.{Done, spent, stops}
 use Rattle.execute.proofs.Frame.{stop-undone}
 use Rattle.act.specs.Act.{sourceOf, acceptOf, runRead, runOne, turnOf, actOf}

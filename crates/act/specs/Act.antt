@@ -2,8 +2,6 @@
 -- Assumes nothing.
 use Prim.Native.Nat.{ℕ}
 use mathlib.Core.Bool.{Bool}
-use mathlib.Core.List.{List}
-use mathlib.Core.Path.{_≡_}
 use lib.Dec.{leb, ltb}
 use Rattle.laws.specs.Choice.{pick, both}
 use Rattle.bits.specs.Bits.{hasBit}
@@ -17,7 +15,6 @@ use Rattle.machine.specs.Due.{dueSource}
 use Rattle.machine.specs.Stack.{accepted}
 use Rattle.machine.specs.declared.Core.{Core}
 use Rattle.machine.specs.declared.Machine.{Machine}
-use Rattle.execute.specs.Places.{Around}
 use Rattle.execute.specs.Rows.{Done, spent, stops, executed}
 use Rattle.look.specs.Look.{timeOf, withTime}
 

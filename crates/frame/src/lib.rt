@@ -19,18 +19,29 @@ pub enum Frame {
     NoFrame,
 }
 
-// By a character: 48 more than its value as a hexadecimal digit, which is '@' where it is none.
-const DIGITS: [u8; 256] = *b"\
-    @@@@@@@@@@@@@@@@@@@@@@@@@@@@@@@@@@@@@@@@@@@@@@@@0123456789@@@@@@\
-    @:;<=>?@@@@@@@@@@@@@@@@@@@@@@@@@@:;<=>?@@@@@@@@@@@@@@@@@@@@@@@@@\
-    @@@@@@@@@@@@@@@@@@@@@@@@@@@@@@@@@@@@@@@@@@@@@@@@@@@@@@@@@@@@@@@@\
-    @@@@@@@@@@@@@@@@@@@@@@@@@@@@@@@@@@@@@@@@@@@@@@@@@@@@@@@@@@@@@@@@";
-
+// The value of a hexadecimal digit's character, 16 where it is none.
 fn digit(c: u8) -> u8
     ensures { λ r. ⌜ r ≡ digitOf c ⌝ }
 {
-    let at = c as usize;
-    DIGITS[at] - 48
+    if c < b'0' {
+        return 16;
+    }
+    if c <= b'9' {
+        return c - b'0';
+    }
+    if c < b'A' {
+        return 16;
+    }
+    if c <= b'F' {
+        return c - b'A' + 10;
+    }
+    if c < b'a' {
+        return 16;
+    }
+    if c <= b'f' {
+        return c - b'a' + 10;
+    }
+    16
 }
 
 // The pins at a place of a sequence, whose three characters there are digits.

@@ -1,20 +1,21 @@
 -- A look at a frame makes a valid record of a valid one; a running record acts, and what acts is running.
 -- Assumes nothing.
-use mathlib.Core.Path.{_≡_, refl}
-use mathlib.Core.Bool.{Bool, true, false, true≢false}
+use mathlib.Core.Path.{_≡_, refl, sym, _∙_}
+use mathlib.Core.Bool.{Bool, true, false}
 use Prim.Native.Nat.{ℕ}
 use Rattle.laws.specs.Choice.{pick}
+use Rattle.laws.proofs.Computed.{true→T}
 use Rattle.frame.specs.Frame.{PinsInRange}
 use Rattle.frame.specs.Edges.{rose, wakes}
 use Rattle.frame.specs.declared.Pins.{Pins}
-use Rattle.clock.specs.Clock.{eventCount, InRange}
+use Rattle.clock.specs.Clock.{InRange}
 use Rattle.clock.specs.declared.Time.{Time}
 use Rattle.clock.proofs.Ranges.{events-in-range}
 use Rattle.ports.specs.declared.Mode.{Mode}
-use Rattle.machine.specs.Valid.{ModeFits, ValidCore}
+use Rattle.machine.specs.Valid.{ModeFits, ValidInterrupts, ValidTimers, ValidCore}
 use Rattle.machine.specs.declared.Core.{Core}
 use Rattle.look.specs.declared.Looked.{Looked}
-use Rattle.look.specs.Look.{withTime, showing, edgesTimed, seen, wakingCycles, waited, lookedIn, looked}
+use Rattle.look.specs.Look.{withTime, showing, edgesTimed, edgesCounted, seen, isRunning, waited, looked}
 use Rattle.look.proofs.Ranges.{is-clear, edges-in-range}
 
 -- a valid record with another mode that fits and another frame, and with other times in range
@@ -44,14 +45,15 @@ with-time-valid m t v i =
       mode = v .mode;
     }
 
+counted-in-range : (m : Core) (new : Pins) → ValidInterrupts (m .ints) → ValidTimers (m .timers) → InRange (edgesCounted m new)
+unfolding edgesCounted
+counted-in-range m new i t =
+    events-in-range (m .ports .p28) (m .ports .p29) (rose (m .pins .p8) (new .p8) 8) (rose (m .pins .p8) (new .p8) 2) (edgesTimed m new) (edges-in-range m new i t)
+
 seen-valid : (m : Core) (new : Pins) → ValidCore m → PinsInRange new → ValidCore (seen m new)
-unfolding seen
 seen-valid m new v p =
-    let a = rose (m .pins .p8) (new .p8) 8 in
-    let b = rose (m .pins .p8) (new .p8) 2 in
-    let t = eventCount (m .ports .p28) (m .ports .p29) a b (edgesTimed m new) in
-    let i = events-in-range (m .ports .p28) (m .ports .p29) a b (edgesTimed m new) (edges-in-range m new (v .ints) (v .timers)) in
-    showing-valid (withTime m t) (m .mode) new (with-time-valid m t v i) (v .mode) p
+    let t = edgesCounted m new in
+    showing-valid (withTime m t) (m .mode) new (with-time-valid m t v (counted-in-range m new (v .ints) (v .timers))) (v .mode) p
 
 -- what holds whether it wakes or not
 either-way : (P : Looked → Type 0) (b : Bool) (x y : Looked) → P x → P y → P (pick b x y)
@@ -63,14 +65,9 @@ unfolding waited
 waited-valid enabled m new v p =
     either-way (λ (l : Looked). ValidCore (l .core)) (wakes enabled (m .pins) new) _ _ (showing-valid m Mode.Running new v tt p) (showing-valid m (m .mode) new v (v .mode) p)
 
-in-valid : (mode : Mode) (enabled : ℕ) (m : Core) (new : Pins) → ValidCore m → PinsInRange new → ValidCore (lookedIn mode enabled m new .core)
-in-valid Mode.Running enabled m new v p = seen-valid m new v p
-in-valid Mode.Sleep enabled m new v p = waited-valid enabled m new v p
-in-valid Mode.Hold enabled m new v p = waited-valid enabled m new v p
-
 pub looked-valid : (enabled : ℕ) (m : Core) (new : Pins) → ValidCore m → PinsInRange new → ValidCore (looked enabled m new .core)
 unfolding looked
-looked-valid enabled m new v p = in-valid (m .mode) enabled m new v p
+looked-valid enabled m new v p = either-way (λ (l : Looked). ValidCore (l .core)) (isRunning (m .mode)) _ _ (seen-valid m new v p) (waited-valid enabled m new v p)
 
 -- a running record acts
 pub looked-running : (enabled : ℕ) (m : Core) (new : Pins) → m .mode ≡ Mode.Running → looked enabled m new .acts ≡ true
@@ -82,12 +79,15 @@ waited-rests : (enabled : ℕ) (m : Core) (new : Pins) → waited enabled m new 
 unfolding waited
 waited-rests enabled m new = either-way (λ (l : Looked). l .acts ≡ false) (wakes enabled (m .pins) new) _ _ refl refl
 
-in-acts-running : (mode : Mode) (enabled : ℕ) (m : Core) (new : Pins) → m .mode ≡ mode → lookedIn mode enabled m new .acts ≡ true → lookedIn mode enabled m new .core .mode ≡ Mode.Running
-unfolding seen
-in-acts-running Mode.Running enabled m new e a = e
-in-acts-running Mode.Sleep enabled m new e a = let h : true ≡ false = cc (waited-rests enabled m new) in absurd (true≢false h)
-in-acts-running Mode.Hold enabled m new e a = let h : true ≡ false = cc (waited-rests enabled m new) in absurd (true≢false h)
+running-is : (mode : Mode) → isRunning mode ≡ true → mode ≡ Mode.Running
+running-is Mode.Running e = refl
+running-is Mode.Sleep e = absurd (true→T e)
+running-is Mode.Hold e = absurd (true→T e)
+
+acts-where : (t : Bool) (enabled : ℕ) (m : Core) (new : Pins) → isRunning (m .mode) ≡ t → pick t (record { core = seen m new; acts = true; cycles = 0 }) (waited enabled m new) .acts ≡ true → pick t (record { core = seen m new; acts = true; cycles = 0 }) (waited enabled m new) .core .mode ≡ Mode.Running
+acts-where true enabled m new e a = running-is (m .mode) e
+acts-where false enabled m new e a = absurd (true→T (sym (waited-rests enabled m new) ∙ a))
 
 pub acts-running : (enabled : ℕ) (m : Core) (new : Pins) → looked enabled m new .acts ≡ true → looked enabled m new .core .mode ≡ Mode.Running
 unfolding looked
-acts-running enabled m new a = in-acts-running (m .mode) enabled m new refl a
+acts-running enabled m new a = acts-where (isRunning (m .mode)) enabled m new refl a

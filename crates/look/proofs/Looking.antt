@@ -1,6 +1,6 @@
--- What a look is in each mode, what it sees where P8 is as it was, and the waking times as a table.
+-- What a look sees where P8 is as it was, and the waking times as a table.
 -- Assumes nothing.
-use mathlib.Core.Path.{_≡_, ap, _∙_}
+use mathlib.Core.Path.{_≡_, _∙_}
 use Prim.Native.Nat.{ℕ, _%_}
 use native.Mathlib.Nat.{mod-lt, mod-mod}
 use lib.Dec.{lit<}
@@ -11,16 +11,12 @@ use Rattle.frame.proofs.Still.{no-fall, no-rise}
 use Rattle.clock.proofs.Quiet.{no-event}
 use Rattle.ports.specs.declared.Mode.{Mode}
 use Rattle.machine.specs.declared.Core.{Core}
-use Rattle.look.specs.Look.{timeOf, showing, seen, wakingCycles, lookedIn, looked}
+use Rattle.look.specs.Look.{timeOf, edgesCounted, wakingCycles}
 
-pub looked-in : (mode : Mode) (enabled : ℕ) (m : Core) (new : Pins) → m .mode ≡ mode → looked enabled m new ≡ lookedIn mode enabled m new
-unfolding looked
-looked-in mode enabled m new e = ap (λ (k : Mode). lookedIn k enabled m new) e
-
--- with no edge nothing changes but the last frame
-pub seen-still : (m : Core) (new : Pins) → new .p8 ≡ m .pins .p8 → seen m new ≡ showing m (m .mode) new
-unfolding seen
-seen-still m new e =
+-- with no edge nothing is latched or counted
+pub counted-still : (m : Core) (new : Pins) → new .p8 ≡ m .pins .p8 → edgesCounted m new ≡ timeOf m
+unfolding edgesCounted
+counted-still m new e =
     rw (
       e,
       no-fall (m .pins .p8) 1,

@@ -1,7 +1,7 @@
 -- Document 01, "One step": what a step sees of its frame. Running, the edges set latches and count events; in sleep or hold it only looks for the edge that wakes. "The last frame is always updated."
 -- Assumes nothing.
 use Prim.Native.Nat.{ℕ, _%_}
-use mathlib.Core.Bool.{true, false}
+use mathlib.Core.Bool.{Bool, true, false}
 use mathlib.Core.List.{[], _∷_}
 use lib.ListN.{getD}
 use Rattle.laws.specs.Choice.{pick}
@@ -32,11 +32,12 @@ abbrev pub edgesTimed : Core → Pins → Time
 edgesTimed m new = record { base = m .timers .base; ta = m .timers .ta; tb = m .timers .tb; il = edgesLatched (m .pins) new (m .ints .il) }
 
 -- "A rising edge on P8.3 (P8.1) adds one to TA (TB) in event mode."
-unfoldable pub seen : Core → Pins → Core
-seen m new =
-    showing
-    (withTime m (eventCount (m .ports .p28) (m .ports .p29) (rose (m .pins .p8) (new .p8) 8) (rose (m .pins .p8) (new .p8) 2) (edgesTimed m new)))
-    (m .mode) new
+unfoldable pub edgesCounted : Core → Pins → Time
+edgesCounted m new =
+    eventCount (m .ports .p28) (m .ports .p29) (rose (m .pins .p8) (new .p8) 8) (rose (m .pins .p8) (new .p8) 2) (edgesTimed m new)
+
+abbrev pub seen : Core → Pins → Core
+seen m new = showing (withTime m (edgesCounted m new)) (m .mode) new
 
 -- "for sleep 32,768, 2,048 or 8,192 (bits 1..0 = 0, 1, 2)", "0 cycles for hold"
 abbrev pub wakingCycles : Mode → ℕ → ℕ
@@ -51,11 +52,12 @@ waited enabled m new =
     (record { core = showing m Mode.Running new; acts = false; cycles = wakingCycles (m .mode) (m .ports .p16) })
     (record { core = showing m (m .mode) new; acts = false; cycles = 0 })
 
--- a running record sees the frame and then acts
-abbrev pub lookedIn : Mode → ℕ → Core → Pins → Looked
-lookedIn Mode.Running enabled m new = record { core = seen m new; acts = true; cycles = 0 }
-lookedIn Mode.Sleep enabled m new = waited enabled m new
-lookedIn Mode.Hold enabled m new = waited enabled m new
+abbrev pub isRunning : Mode → Bool
+isRunning Mode.Running = true
+isRunning Mode.Sleep = false
+isRunning Mode.Hold = false
 
+-- a running record sees the frame and then acts
 unfoldable pub looked : ℕ → Core → Pins → Looked
-looked enabled m new = lookedIn (m .mode) enabled m new
+looked enabled m new =
+    pick (isRunning (m .mode)) (record { core = seen m new; acts = true; cycles = 0 }) (waited enabled m new)

@@ -12,7 +12,7 @@ ghost use Prim.Native.Nat.{_+_, _<_};
 ghost use Rattle.clock.specs.Clock.{latched};
 ghost use Rattle.ports.specs.declared.Mode.{Mode};
 ghost use Rattle.machine.specs.Valid.{ValidInterrupts, ValidTimers};
-ghost use Rattle.look.specs.Look.{edgesLatched, edgesTimed, showing, seen, wakingCycles, waited, looked};
+ghost use Rattle.look.specs.Look.{edgesCounted, isRunning, edgesLatched, edgesTimed, showing, seen, wakingCycles, waited, looked};
 
 // The scalars then, whether the step goes on to act, and the cycles of one that does not.
 pub struct Looked {
@@ -57,25 +57,38 @@ fn edges_timed(m: Core, new: Pins) -> Time
     }
 }
 
-// "A rising edge on P8.3 (P8.1) adds one to TA (TB) in event mode." Most frames leave P8 as it was: no edge then, and only the last frame changes.
-fn seen(m: Core, new: Pins) -> Core
+// "A rising edge on P8.3 (P8.1) adds one to TA (TB) in event mode." Most frames leave P8 as it was: no edge then.
+fn counted(m: Core, new: Pins) -> Time
     requires { ⌜ (ValidInterrupts (m .ints)) × (ValidTimers (m .timers)) ⌝ }
-    ensures { λ r. ⌜ r ≡ seen m new ⌝ }
+    ensures { λ r. ⌜ r ≡ edgesCounted m new ⌝ }
 {
-    let mut after = m;
-    after.pins = new;
     if new.p8 == m.pins.p8 {
-        return after;
+        return Time {
+            base: m.timers.base,
+            ta: m.timers.ta,
+            tb: m.timers.tb,
+            il: m.ints.il,
+        };
     }
     let rose_a = rose(m.pins.p8, new.p8, 8);
     let rose_b = rose(m.pins.p8, new.p8, 2);
-    let t = events(
+    events(
         edges_timed(m, new),
         m.ports.p28,
         m.ports.p29,
         rose_a,
         rose_b,
-    );
+    )
+}
+
+fn seen(m: Core, new: Pins) -> Core
+    requires { ⌜ (ValidInterrupts (m .ints)) × (ValidTimers (m .timers)) ⌝ }
+    ensures { λ r. ⌜ r ≡ seen m new ⌝ }
+{
+    let t = counted(m, new);
+    let mut after = m;
+    after.pins = new;
+    after.timers.base = t.base;
     after.timers.ta = t.ta;
     after.timers.tb = t.tb;
     after.ints.il = t.il;
@@ -138,19 +151,28 @@ fn waited(enabled: u8, m: Core, new: Pins) -> Looked
     }
 }
 
+fn is_running(mode: Mode) -> bool
+    ensures { λ r. ⌜ r ≡ isRunning mode ⌝ }
+{
+    match mode {
+        Mode::Running => true,
+        Mode::Sleep => false,
+        Mode::Hold => false,
+    }
+}
+
 // A step's look at its frame: it goes on to act where the record is running.
 pub fn look(enabled: u8, m: Core, new: Pins) -> Looked
     requires { ⌜ (ValidInterrupts (m .ints)) × (ValidTimers (m .timers)) ⌝ }
     ensures { λ r. ⌜ r ≡ looked enabled m new ⌝ }
 {
     let mode = m.mode;
-    match mode {
-        Mode::Running => Looked {
+    if is_running(mode) {
+        return Looked {
             core: seen(m, new),
             acts: true,
             cycles: 0,
-        },
-        Mode::Sleep => waited(enabled, m, new),
-        Mode::Hold => waited(enabled, m, new),
+        };
     }
+    waited(enabled, m, new)
 }

@@ -17,8 +17,8 @@ use Rattle.pointers.specs.declared.Pointed.{Pointed}
 use Rattle.turns.specs.Turns.{Turns}
 use Rattle.turns.specs.declared.Turn.{Turn}
 use Rattle.port_rows.specs.Ported.{Ported}
-use Rattle.perform.specs.Groups.{rowsOf, limitA, limitB, InGroup}
-use Rattle.perform.specs.Performs.{Performs, Shifts, Settles, Points, turnOf, turnBy}
+use Rattle.perform.specs.Groups.{rowsOf, limitA, InGroup}
+use Rattle.perform.specs.Performs.{Performs, Shifts, Settles, Points, turnOf}
 
 module _ {m : Core} {i : Insn} {g : ℕ} (v : ValidCore m) (h : InGroup g i) (n : ℕ) (e : g ≡ n) where
   pub regrouped : InGroup n i

@@ -6,7 +6,6 @@ use lib.Dec.{eqb}
 use Rattle.laws.specs.Choice.{pick}
 use Rattle.frame.specs.declared.Pins.{Pins}
 use Rattle.machine.specs.declared.Machine.{Machine}
-use Rattle.execute.specs.Rows.{Done}
 use Rattle.step.specs.Step.{stepOf}
 use Rattle.step.specs.declared.Options.{Options}
 use Rattle.run.specs.declared.Ran.{Ran}

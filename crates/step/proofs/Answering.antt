@@ -17,7 +17,6 @@ use Rattle.frame.proofs.Characters.{in-range}
 use Rattle.machine.specs.Valid.{Valid}
 use Rattle.machine.specs.declared.Machine.{Machine}
 use Rattle.machine.proofs.Validity.{valid?}
-use Rattle.execute.specs.Rows.{Done}
 use Rattle.near.specs.Quiet.{assembled}
 use Rattle.step.specs.Step.{stepOf}
 use Rattle.step.specs.Answers.{stepRefused, stepped, StepOf}
