@@ -1,0 +1,31 @@
+-- Document 01's listing, computed from the definitions.
+-- Assumes nothing.
+use mathlib.Core.Path.{_≡_, refl}
+use mathlib.Core.List.{[], _∷_, _++_}
+use Prim.Native.Nat.{ℕ}
+use Rattle.sheet.specs.Reading.{rowNumber, rowWith, romOf}
+use Rattle.sheet.specs.Table.{lines, lineAt}
+use Rattle.frame.specs.Frame.{digitOf, frameOf}
+use Rattle.clock.specs.Clock.{met, tick, passed, eventCount}
+use Rattle.alu.specs.Flags.{flagAfter}
+use Rattle.alu.specs.Making.{made}
+use Rattle.machine.specs.Due.{dueSource}
+use Rattle.machine.specs.Start.{freshMachine}
+use Rattle.execute.specs.Rows.{workOf, branchOf}
+use Rattle.execute.specs.Steps.{putStep}
+use Rattle.look.specs.Look.{edgesCounted, looked}
+use Rattle.act.specs.Act.{sourceOf, runOne, turnOf, coreAfter, actOf}
+use Rattle.step.specs.Step.{stepOf}
+use Rattle.text.specs.Digits.{characters, digit, inBase, placesOf}
+use Rattle.listing.specs.Lines.{header, stepLine}
+use Rattle.listing.specs.Script.{linesOf}
+use Rattle.listing.specs.Listing.{answerOf, toldOver}
+
+-- "D0 D3 6E 55 6E 5D 6E 5E 08, zeros after"
+abbrev rom : ℕ → ℕ
+rom = romOf (0xD0 ∷ 0xD3 ∷ 0x6E ∷ 0x55 ∷ 0x6E ∷ 0x5D ∷ 0x6E ∷ 0x5E ∷ 0x08 ∷ [])
+
+six-lines : header ++ toldOver rom freshMachine (linesOf (characters "FF1\nFF1\nFF1\nFF1\nFF1\nFF1\n"))
+    ≡ characters "PC A H L S CZS C X\n0001 0 0 0 0 011 1 00\n0002 3 0 0 0 001 1 00\n0004 8 0 0 0 001 2 00\n0006 5 0 0 0 000 2 00\n0008 3 0 0 0 000 2 00\n0009 3 0 0 0 001 1 00\n"
+unfolding rowNumber rowWith lines lineAt digitOf frameOf met tick passed eventCount flagAfter made dueSource workOf branchOf putStep edgesCounted looked sourceOf runOne turnOf coreAfter actOf stepOf digit inBase placesOf stepLine answerOf
+six-lines = refl

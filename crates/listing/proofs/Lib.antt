@@ -1,0 +1,5 @@
+pub mod Ends
+pub mod Telling
+pub mod Feeding
+pub mod Parts
+pub mod Examples

@@ -1,0 +1,108 @@
+// The runner's listing: one line of a script answered, and the lines of a part of a script. The lines' text is in line.rt, a script's lines are in script.rt.
+pub mod line;
+pub mod script;
+
+use crate::script::line_end;
+use frame::Frame;
+use frame::frame_of;
+use machine::Core;
+use step::Options;
+use step::advance;
+ghost use mathlib.Core.Path.{_≡_};
+ghost use Prim.Native.Nat.{_+_, _≤_};
+ghost use lib.ListN.{length};
+ghost use Rattle.sheet.specs.Reading.{romOf};
+ghost use Rattle.machine.specs.Valid.{ValidCore, Nibbles};
+ghost use Rattle.listing.specs.Listing.{answerOf};
+ghost use Rattle.listing.specs.Tells.{Tells, Feeds};
+
+// The record after a line but for RAM, whether the line is the last, and the place after what was written.
+pub struct Told {
+    pub core: Core,
+    pub ended: bool,
+    pub at: usize,
+}
+
+// The record after the lines but for RAM, whether one of them is the last, how many characters they had, and the place after what was written.
+pub struct Fed {
+    pub core: Core,
+    pub ended: bool,
+    pub used: usize,
+    pub at: usize,
+}
+
+// A line of the script, without its LF: its step on the RAM that is lent, or a refusal, and its text.
+pub fn tell(
+    image: &[u8],
+    m: Core,
+    ram: &mut [u8; 372],
+    text: &[u8],
+    out: &mut [u8],
+    from: usize,
+) -> Told
+    requires { ⌜ (length (now image) ≡ 8192) × (ValidCore m) × (Nibbles (now ram)) × (from + 26 ≤ length (now out)) ⌝ }
+    ensures { λ r. ⌜ Tells (answerOf (romOf (now (image .entry))) (record { core = m; ram = now (ram .entry) }) (now (text .entry))) (now (out .entry)) (now (out .exit)) from (now (ram .exit)) r ⌝ }
+{
+    let Frame::Seen(pins) = frame_of(text) else {
+        let end = line::refused(out, from, 3);
+        return Told {
+            core: m,
+            ended: true,
+            at: end,
+        };
+    };
+    let options = Options {
+        wake: 255,
+        sound: false,
+    };
+    let x = advance(image, options, m, ram, pins);
+    let core = x.core;
+    let end = line::line(out, from, core, x.cycles, x.stop);
+    Told {
+        core: core,
+        ended: x.stop != 0,
+        at: end,
+    }
+}
+
+fn so_far(core: Core, ended: bool, used: usize, at: usize) -> Fed
+    ensures { λ r. ⌜ r ≡ record { core = core; ended = ended; used = used; at = at } ⌝ }
+{
+    Fed {
+        core: core,
+        ended: ended,
+        used: used,
+        at: at,
+    }
+}
+
+// The whole lines of a part of the script, up to the last of the listing, or as many as there is room for.
+pub fn feed(
+    image: &[u8],
+    m: Core,
+    ram: &mut [u8; 372],
+    part: &[u8],
+    out: &mut [u8],
+    from: usize,
+) -> Fed
+    requires { ⌜ (length (now image) ≡ 8192) × (ValidCore m) × (Nibbles (now ram)) × (from ≤ length (now out)) ⌝ }
+    ensures { λ r. ⌜ Feeds (romOf (now (image .entry))) (record { core = m; ram = now (ram .entry) }) (now (part .entry)) (now (out .entry)) (now (out .exit)) from (now (ram .exit)) r ⌝ }
+{
+    let mut core = m;
+    let mut used = 0;
+    let mut at = from;
+    while out.len() - at >= 26 {
+        let end = line_end(part, used);
+        if end == part.len() {
+            return so_far(core, false, used, at);
+        }
+        let told = tell(image, core, ram, &part[used..end], out, at);
+        core = told.core;
+        used = end + 1;
+        at = told.at;
+        if told.ended {
+            return so_far(core, true, used, at);
+        }
+    }
+    so_far(core, false, used, at)
+}

@@ -1,0 +1,209 @@
+// runner IMAGE: the listing of an image for the script on standard input.
+// All that it has to say is written before it reads on, so that a person at a terminal sees each answer. The script is read in parts; of a line that is not whole yet at most three characters are kept.
+use libc::STDERR_FILENO;
+use libc::STDIN_FILENO;
+use libc::STDOUT_FILENO;
+use listing::feed;
+use listing::line::header;
+use listing::line::refused;
+use listing::tell;
+use machine::Core;
+use machine::start::fresh;
+ghost use mathlib.Core.Path.{_≡_};
+ghost use mathlib.Core.Bool.{true, false};
+ghost use Prim.Native.Nat.{_+_, _≤_};
+ghost use lib.ListN.{length};
+ghost use Rattle.machine.specs.Valid.{ValidCore, Nibbles};
+
+// After a turn: the record but for RAM, and which part of the buffer is still to be told.
+struct Rest {
+    core: Core,
+    ended: bool,
+    from: usize,
+    to: usize,
+}
+
+fn usage() {
+    io::write_all(STDERR_FILENO, b"usage: runner IMAGE < SCRIPT\n");
+}
+
+// The first n characters.
+fn show(out: &[u8], n: usize)
+    requires { ⌜ n ≤ length (now out) ⌝ }
+{
+    io::write_all(STDOUT_FILENO, &out[..n]);
+}
+
+fn refuse_image() {
+    let mut out = io::buffer();
+    let n = refused(&mut out, 0, 1);
+    show(&out, n);
+}
+
+// The characters from a place on, moved to the front.
+fn to_front(part: &mut [u8], from: usize, count: usize)
+    requires { ⌜ from + count ≤ length (now part) ⌝ }
+{
+    let mut i = 0;
+    while i < count {
+        part[i] = part[from + i];
+        i += 1;
+    }
+}
+
+// How many characters more were read behind those that are kept: none at the end of the script.
+fn read_behind(part: &mut [u8], kept: usize) -> usize
+    requires { ⌜ kept ≤ length (now part) ⌝ }
+    ensures { λ r. ⌜ kept + r ≤ length (now (part .entry)) ⌝ }
+{
+    let behind = &mut part[kept..];
+    let got = libc::read(STDIN_FILENO, behind);
+    io::count(got, behind)
+}
+
+// What no LF ends: the last line, if there is one, or the beginning of a line that is too long.
+fn tell_last(image: &[u8], m: Core, ram: &mut [u8; 372], line: &[u8], out: &mut [u8])
+    requires { ⌜ (length (now image) ≡ 8192) × (ValidCore m) × (Nibbles (now ram)) × (26 ≤ length (now out)) ⌝ }
+{
+    if line.len() == 0 {
+        return;
+    }
+    let told = tell(image, m, ram, line, out, 0);
+    show(out, told.at);
+}
+
+// After the last turn.
+fn over(m: Core) -> Rest
+    ensures { λ r. ⌜ r ≡ record { core = m; ended = true; from = 0; to = 0 } ⌝ }
+{
+    Rest {
+        core: m,
+        ended: true,
+        from: 0,
+        to: 0,
+    }
+}
+
+// No whole line is left: the rest of the part goes to its front, and more is read behind it. A frame has three characters, so a longer line is bad however it goes on.
+fn more(
+    image: &[u8],
+    m: Core,
+    ram: &mut [u8; 372],
+    part: &mut [u8],
+    from: usize,
+    to: usize,
+    out: &mut [u8],
+) -> Rest
+    requires { ⌜ (length (now image) ≡ 8192) × (ValidCore m) × (Nibbles (now ram)) × (from ≤ to) × (to ≤ length (now part)) × (26 ≤ length (now out)) ⌝ }
+    ensures { λ r. ⌜ (r .ended ≡ false → (ValidCore (r .core)) × (Nibbles (now (ram .exit)))) × (r .from ≤ r .to) × (r .to ≤ length (now (part .entry))) ⌝ }
+{
+    let kept = to - from;
+    if kept > 3 {
+        tell_last(image, m, ram, &part[from..to], out);
+        return over(m);
+    }
+    to_front(part, from, kept);
+    let n = read_behind(part, kept);
+    if n == 0 {
+        tell_last(image, m, ram, &part[..kept], out);
+        return over(m);
+    }
+    Rest {
+        core: m,
+        ended: false,
+        from: 0,
+        to: kept + n,
+    }
+}
+
+// The whole lines that are there and find room in the output; where there is none, more of the script.
+fn turn(
+    image: &[u8],
+    m: Core,
+    ram: &mut [u8; 372],
+    part: &mut [u8],
+    from: usize,
+    to: usize,
+    out: &mut [u8],
+) -> Rest
+    requires { ⌜ (length (now image) ≡ 8192) × (ValidCore m) × (Nibbles (now ram)) × (from ≤ to) × (to ≤ length (now part)) × (26 ≤ length (now out)) ⌝ }
+    ensures { λ r. ⌜ (r .ended ≡ false → (ValidCore (r .core)) × (Nibbles (now (ram .exit)))) × (r .from ≤ r .to) × (r .to ≤ length (now (part .entry))) ⌝ }
+{
+    let fed = feed(image, m, ram, &part[from..to], out, 0);
+    show(out, fed.at);
+    let core = fed.core;
+    let next = from + fed.used;
+    if fed.ended {
+        return Rest {
+            core: core,
+            ended: true,
+            from: next,
+            to: to,
+        };
+    }
+    if next == from {
+        return more(image, core, ram, part, from, to, out);
+    }
+    Rest {
+        core: core,
+        ended: false,
+        from: next,
+        to: to,
+    }
+}
+
+// A proved loop has to end, and nothing says that a script does: no run uses up the turns.
+fn session(image: &[u8], m: Core, ram: &mut [u8; 372], part: &mut [u8], out: &mut [u8])
+    requires { ⌜ (length (now image) ≡ 8192) × (ValidCore m) × (Nibbles (now ram)) × (26 ≤ length (now out)) ⌝ }
+{
+    let mut core = m;
+    let mut from = 0;
+    let mut to = 0;
+    let mut turns = u64::MAX;
+    while turns > 0 {
+        let rest = turn(image, core, ram, part, from, to, out);
+        if rest.ended {
+            return;
+        }
+        core = rest.core;
+        from = rest.from;
+        to = rest.to;
+        turns -= 1;
+    }
+}
+
+fn run(image: &[u8])
+    requires { ⌜ length (now image) ≡ 8192 ⌝ }
+{
+    let mut part = io::large_buffer();
+    let mut out = io::large_buffer();
+    let n = header(&mut out, 0);
+    show(&out, n);
+    let m = fresh();
+    let core = m.core;
+    let mut ram = m.ram;
+    session(image, core, &mut ram, &mut part, &mut out);
+}
+
+fn main() {
+    let mut path = io::buffer();
+    let n = os::arg(1, &mut path);
+    let file = os::open_read(&path[..n]);
+    if file < 0 {
+        refuse_image();
+        usage();
+        return;
+    }
+    let mut image = [0u8; 8193];
+    let size = io::read_full(file, &mut image);
+    libc::close(file);
+    if size != 8192 {
+        refuse_image();
+        return;
+    }
+    if 2 < os::arg_count() {
+        usage();
+        return;
+    }
+    run(&image[..size]);
+}
