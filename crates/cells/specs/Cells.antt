@@ -11,7 +11,7 @@ use Rattle.sheet.specs.Reading.{insn}
 use Rattle.sheet.specs.declared.Insn.{Insn}
 use Rattle.machine.specs.Valid.{ValidRegisters, Nibbles}
 use Rattle.machine.specs.declared.Core.{Core}
-use Rattle.execute.specs.Places.{Around, cellOf, weightOf}
+use Rattle.execute.specs.Places.{Around, cellOf}
 use Rattle.execute.specs.Rows.{Done, executed}
 use Rattle.near.specs.declared.Act.{Act}
 use Rattle.near.specs.Quiet.{assembled, doneAs}
@@ -37,12 +37,6 @@ pub record Stores (c : Cell) (m : Core) (row a v : ℕ) (s : Stored) : Type 0 wh
 -- the row takes RAM from l to k and gives what x says
 pub record Does (m : Core) (row a b : ℕ) (l k : List ℕ) (x : Act) : Type 0 where
   pub same : (rom : ℕ → ℕ) (sound : Bool) → doneAs m x k ≡ performedOn m row a b rom sound l
-
--- the weight of the bit that an operand names
-pub record Weighs (number r : ℕ) : Type 0 where
-  pub value : r ≡ weightOf number
-  pub some : 0 < r
-  pub small : r < 9
 
 -- what a row on the RAM that is lent asks: its operand is below the limit
 pub record Fits (rows : List ℕ) (limit : ℕ) (m : Core) (i : Insn) (l : List ℕ) : Type 0 where

@@ -1,5 +1,4 @@
 // The rows that read the nibble by HL.
-use crate::weight;
 use alu::and;
 use alu::minus;
 use alu::minus_cf;
@@ -20,6 +19,7 @@ use near::ends::acc_summed;
 use near::ends::compared;
 use near::ends::stopped;
 use near::ends::tested;
+use near::weight;
 use sheet::Insn;
 use sheet::rows;
 ghost use mathlib.Core.Path.{_≡_};

@@ -1,5 +1,4 @@
 // The rows that read the nibble by y.
-use crate::weight;
 use alu::minus;
 use bits::has_bit;
 use machine::Core;
@@ -9,6 +8,7 @@ use near::Act;
 use near::ends::compared;
 use near::ends::stopped;
 use near::ends::tested;
+use near::weight;
 use sheet::Insn;
 use sheet::rows;
 ghost use mathlib.Core.Path.{_≡_};

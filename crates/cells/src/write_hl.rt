@@ -1,6 +1,5 @@
 // The rows that write the nibble by HL.
 use crate::Stored;
-use crate::weight;
 use alu::and;
 use alu::minus;
 use alu::or;
@@ -20,6 +19,7 @@ use near::ends::lr_summed;
 use near::ends::stopped;
 use near::ends::summed;
 use near::ends::went_on;
+use near::weight;
 use sheet::Insn;
 use sheet::rows;
 ghost use mathlib.Core.Path.{_≡_};

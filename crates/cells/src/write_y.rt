@@ -1,6 +1,5 @@
 // The rows that write the nibble by y.
 use crate::Stored;
-use crate::weight;
 use alu::plus;
 use bits::with_bit;
 use bits::without_bit;
@@ -12,6 +11,7 @@ use near::Act;
 use near::ends::stopped;
 use near::ends::summed;
 use near::ends::went_on;
+use near::weight;
 use sheet::Insn;
 use sheet::rows;
 ghost use mathlib.Core.Path.{_≡_};

@@ -1,27 +1,14 @@
 // Rows that compare or test registers, and NOP: CMPH, CMPIA, CMPL, TFA, TFCFC, TTCFS, TZS, NOP.
 use crate::Act;
 use crate::ends;
+use crate::weight;
 use machine::Core;
 use sheet::rows;
 ghost use mathlib.Core.Path.{_≡_};
 ghost use mathlib.Core.Bool.{true};
-ghost use Prim.Native.Nat.{_<_};
-ghost use Rattle.execute.specs.Places.{weightOf};
 ghost use Rattle.near.specs.Quiet.{Quiet, Low};
 ghost use Rattle.laws.specs.Among.{among};
 ghost use Rattle.near.specs.Groups.{asks};
-
-// The weight of the bit that b names.
-fn weight(b: u8) -> u8
-    ensures { λ w. ⌜ (w ≡ weightOf b) × (0 < w) ⌝ }
-{
-    match b {
-        0 => 1,
-        1 => 2,
-        2 => 4,
-        _ => 8,
-    }
-}
 
 pub fn asked(m: Core, row: u8, k: u8) -> Act
     requires { ⌜ (Low m k) × (among asks row ≡ true) ⌝ }

@@ -6,6 +6,7 @@ pub mod makes;
 pub mod moves;
 
 use machine::Registers;
+ghost use Rattle.near.specs.Weighs.{Weighs};
 
 // What such a row leaves: a stop or 0, its cycles, PC and the registers.
 pub struct Act {
@@ -13,4 +14,16 @@ pub struct Act {
     pub cycles: u8,
     pub pc: u16,
     pub regs: Registers,
+}
+
+// The weight of the bit that an operand names.
+pub fn weight(number: u8) -> u8
+    ensures { λ r. ⌜ Weighs number r ⌝ }
+{
+    match number {
+        0 => 1,
+        1 => 2,
+        2 => 4,
+        _ => 8,
+    }
 }

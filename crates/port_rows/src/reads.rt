@@ -2,10 +2,10 @@
 use crate::ends::after_read;
 use alu::Made;
 use bits::has_bit;
-use cells::weight;
 use machine::Core;
 use near::ends::acc_logical;
 use near::ends::tested;
+use near::weight;
 use ports::read_port;
 use sheet::rows;
 use turns::Turn;

@@ -2,8 +2,8 @@
 use crate::ends::written;
 use bits::with_bit;
 use bits::without_bit;
-use cells::weight;
 use machine::Core;
+use near::weight;
 use ports::Ports;
 use ports::latch;
 use sheet::rows;

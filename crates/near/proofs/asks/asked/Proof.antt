@@ -56,7 +56,7 @@ returns-3 : tie.Need-returns-3
 returns-3 c = rw (c .before .before .match .keys3, c .lessened2 .ensures, c .before .minus3 .ensures) (cmpl _ _)
 
 returns-4 : tie.Need-returns-4
-returns-4 c = rw (c .before .before .before .match .keys4, c .tested .ensures, c .before .has-bit .ensures, c .before .before .weight .ensures .0) (tfa _ _)
+returns-4 c = rw (c .before .before .before .match .keys4, c .tested .ensures, c .before .has-bit .ensures, c .before .before .weight .ensures .value) (tfa _ _)
 
 returns-5 : tie.Need-returns-5
 returns-5 c = rw (c .before .before .match .keys5, c .cf-tested .ensures) (tfcfc _ _)

@@ -1,9 +1,9 @@
--- `cells::weight` meets its contract.
+-- `near::weight` meets its contract.
 -- Assumes nothing.
 use native.Mathlib.Omega.{arith}
 use borrow.Author.Tests.{ne-eqb}
-use Rattle.cells.proofs.weight.Statement.{statement}
-use Rattle.cells.proofs.weight.Tie as tie
+use Rattle.near.proofs.weight.Statement.{statement}
+use Rattle.near.proofs.weight.Tie as tie
 
 returns : tie.Need-returns
 returns c = record { value = rw (c .match .keys1); some = omega arith; small = omega arith }
