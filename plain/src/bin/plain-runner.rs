@@ -1,0 +1,76 @@
+//! `plain-runner IMAGE < SCRIPT`: document 01's listing of a run, a step a line.
+
+use plain::{fresh, numbers, step, Machine, Options, FRAME_LENGTH, IMAGE_SIZE};
+use std::fs::File;
+use std::io::{self, BufRead, BufReader, BufWriter, Read, Write};
+
+const HEADER: &str = "PC A H L S CZS C X";
+
+fn main() {
+    // A reader that has gone away is no fault of the run.
+    let _ = list_run(std::env::args().nth(1));
+}
+
+fn list_run(image_name: Option<String>) -> io::Result<()> {
+    let mut output = BufWriter::new(io::stdout().lock());
+    if image_name.is_none() {
+        eprintln!("usage: plain-runner IMAGE < SCRIPT");
+    }
+    let Some(image) = image_name.and_then(|name| read_image(&name)) else {
+        writeln!(output, "refused {:02}", numbers::IMAGE_SIZE)?;
+        return output.flush();
+    };
+    writeln!(output, "{HEADER}")?;
+    let mut script = BufReader::new(io::stdin().lock());
+    let options = Options { wake: 0xFF, sound: false };
+    let mut machine = fresh();
+    while let Some(line) = next_line(&mut script, &mut output)? {
+        match step(&image, options, &machine, &line) {
+            Ok(stepped) => {
+                machine = stepped.machine;
+                write_step(&mut output, &machine, stepped.cycles, stepped.stop)?;
+                if stepped.stop != numbers::NONE {
+                    break;
+                }
+            }
+            Err(number) => {
+                writeln!(output, "refused {number:02}")?;
+                break;
+            }
+        }
+    }
+    output.flush()
+}
+
+/// The image, if it can be read and is as long as an image.
+fn read_image(name: &str) -> Option<Vec<u8>> {
+    let mut image = Vec::new();
+    let file = File::open(name).ok()?;
+    file.take(IMAGE_SIZE as u64 + 1).read_to_end(&mut image).ok()?;
+    (image.len() == IMAGE_SIZE).then_some(image)
+}
+
+/// The next line without its LF, or as much of it as shows that it is no frame. The output is
+/// flushed before the script may have to be waited for.
+fn next_line(script: &mut BufReader<impl Read>, output: &mut impl Write) -> io::Result<Option<Vec<u8>>> {
+    if !script.buffer().contains(&b'\n') {
+        output.flush()?;
+    }
+    let mut line = Vec::new();
+    script.take(FRAME_LENGTH as u64 + 1).read_until(b'\n', &mut line)?;
+    if line.is_empty() {
+        return Ok(None);
+    }
+    if line.last() == Some(&b'\n') {
+        line.pop();
+    }
+    Ok(Some(line))
+}
+
+fn write_step(output: &mut impl Write, m: &Machine, cycles: u32, stop: u8) -> io::Result<()> {
+    writeln!(
+        output,
+        "{:04X} {:X} {:X} {:X} {:X} {}{}{} {} {:02}",
+        m.pc, m.acc, m.hr, m.lr, m.sp, m.cf as u8, m.zf as u8, m.sf as u8, cycles, stop
+    )
+}

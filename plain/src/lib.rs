@@ -1,0 +1,21 @@
+//! The EM73862 as document 01 describes it, with document 01's numbers as results.
+
+mod code;
+mod display;
+mod execute;
+mod frame;
+mod machine;
+mod ports;
+mod rows;
+mod stack;
+mod step;
+
+pub mod numbers;
+
+pub use code::{read, write, Insn, IMAGE_SIZE};
+pub use display::{display, DISPLAY_SIZE};
+pub use execute::{add, short_call_target, subtract};
+pub use frame::{Frame, FRAME_LENGTH};
+pub use machine::{fresh, is_valid, reset, Machine, Mode, Options, Ports, RAM_SIZE};
+pub use rows::{Row, SheetRow, SHEET};
+pub use step::{run, step, Ran, Stepped, MOST_FRAMES};

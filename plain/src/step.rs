@@ -1,0 +1,277 @@
+//! One step, as document 01's "One step" numbers its phases.
+
+use crate::code::{fetch, whole_image};
+use crate::execute::{execute, Surroundings};
+use crate::frame::{Frame, FRAME_LENGTH};
+use crate::machine::{is_valid, Machine, Mode, Options, TIME_BASE_SIZE};
+use crate::numbers;
+
+const IL5: u8 = 1 << 5;
+const IL3: u8 = 1 << 3;
+const IL2: u8 = 1 << 2;
+const IL1: u8 = 1 << 1;
+const IL0: u8 = 1 << 0;
+
+/// The interrupt sources, first to last: latch and entry.
+const SOURCES: [(u8, u16); 5] = [
+    (IL5, 0x002),
+    (IL3, 0x006),
+    (IL2, 0x008),
+    (IL1, 0x00A),
+    (IL0, 0x00C),
+];
+
+const ACCEPTANCE_CYCLES: u32 = 2;
+
+/// The most frames that a run takes.
+pub const MOST_FRAMES: usize = 65_536;
+
+/// What a step gives.
+#[derive(Clone, Debug, PartialEq, Eq)]
+pub struct Stepped {
+    pub machine: Machine,
+    pub cycles: u32,
+    /// 0 if none.
+    pub stop: u8,
+}
+
+/// What a run gives.
+#[derive(Clone, Debug, PartialEq, Eq)]
+pub struct Ran {
+    pub machine: Machine,
+    pub steps: u32,
+    pub cycles: u64,
+    /// 0 if none.
+    pub stop: u8,
+}
+
+/// One step. Refuses with 1, 2 and 3.
+pub fn step(image: &[u8], options: Options, machine: &Machine, frame: &[u8]) -> Result<Stepped, u8> {
+    let image = whole_image(image)?;
+    if !is_valid(machine) {
+        return Err(numbers::RECORD_RANGE);
+    }
+    let frame = Frame::parse(frame).ok_or(numbers::NO_FRAME)?;
+    let mut machine = machine.clone();
+    let around = Surroundings { image, options, frame };
+    Ok(match advance(&mut machine, &around) {
+        Ok(cycles) => Stepped { machine, cycles, stop: numbers::NONE },
+        Err(stop) => Stepped { machine, cycles: 0, stop },
+    })
+}
+
+/// "A run checks all frames first, makes one step a frame, and ends early at a stop." Refuses
+/// with 1, 2, 4 and 3, in this order.
+pub fn run(image: &[u8], options: Options, machine: &Machine, frames: &[u8]) -> Result<Ran, u8> {
+    let image = whole_image(image)?;
+    if !is_valid(machine) {
+        return Err(numbers::RECORD_RANGE);
+    }
+    if frames.len() > MOST_FRAMES * FRAME_LENGTH {
+        return Err(numbers::TOO_MANY_FRAMES);
+    }
+    if frames.chunks(FRAME_LENGTH).any(|text| Frame::parse(text).is_none()) {
+        return Err(numbers::NO_FRAME);
+    }
+    let mut ran = Ran { machine: machine.clone(), steps: 0, cycles: 0, stop: numbers::NONE };
+    for frame in frames.chunks(FRAME_LENGTH).filter_map(Frame::parse) {
+        let around = Surroundings { image, options, frame };
+        match advance(&mut ran.machine, &around) {
+            Ok(cycles) => {
+                ran.steps += 1;
+                ran.cycles += cycles as u64;
+            }
+            Err(stop) => {
+                ran.stop = stop;
+                break;
+            }
+        }
+    }
+    Ok(ran)
+}
+
+/// Makes one step and gives its cycles; or gives the stop and leaves the record as it was.
+fn advance(m: &mut Machine, around: &Surroundings) -> Result<u32, u8> {
+    let cycles = match m.mode {
+        Mode::Running => advance_running(m, around)?,
+        Mode::Sleep | Mode::Hold => look_for_wake(m, around),
+    };
+    m.last_frame = around.frame;
+    Ok(cycles)
+}
+
+fn advance_running(m: &mut Machine, around: &Surroundings) -> Result<u32, u8> {
+    let (il, ta, tb) = (m.il, m.ta, m.tb);
+    look_for_edges(m, around.frame);
+    match act(m, around) {
+        Ok(cycles) => {
+            // "Phase 3 is left out" where the row entered sleep or hold.
+            if m.mode == Mode::Running {
+                pass_time(m, around.frame, cycles);
+            }
+            Ok(cycles)
+        }
+        Err(stop) => {
+            (m.il, m.ta, m.tb) = (il, ta, tb);
+            Err(stop)
+        }
+    }
+}
+
+/// Phase 1: "A falling edge on P8.2 sets IL5, on P8.0 sets IL0. A rising edge on P8.3 (P8.1) adds
+/// one to TA (TB) in event mode."
+fn look_for_edges(m: &mut Machine, frame: Frame) {
+    let falling = m.last_frame.p8 & !frame.p8;
+    let rising = !m.last_frame.p8 & frame.p8;
+    if falling & 0b0100 != 0 {
+        m.il |= IL5;
+    }
+    if falling & 0b0001 != 0 {
+        m.il |= IL0;
+    }
+    if rising & 0b1000 != 0 && timer_mode(m.ports.p28) == TimerMode::Event {
+        count_ta(m);
+    }
+    if rising & 0b0010 != 0 && timer_mode(m.ports.p29) == TimerMode::Event {
+        count_tb(m);
+    }
+}
+
+/// Phase 2: accepts an interrupt, or else executes one instruction. Gives the cycles.
+fn act(m: &mut Machine, around: &Surroundings) -> Result<u32, u8> {
+    if let Some((latch, entry)) = due_source(m) {
+        m.accept(latch, entry)?;
+        return Ok(ACCEPTANCE_CYCLES);
+    }
+    let decoded = fetch(around.image, m.pc).ok_or(numbers::UNASSIGNED)?;
+    execute(m, around, decoded)?;
+    Ok(decoded.row.cycles())
+}
+
+/// "If EI is set and a latch is set and allowed by its mask, accept the first of INT0, TRGA,
+/// TRGB, TBI, INT1."
+fn due_source(m: &Machine) -> Option<(u8, u16)> {
+    if !m.ei {
+        return None;
+    }
+    let due = m.il & allowed_latches(m.mask);
+    SOURCES.into_iter().find(|(latch, _)| due & latch != 0)
+}
+
+/// MASK2 allows TRGA, MASK1 TRGB and TBI, MASK0 INT1; "INT0 needs EI only".
+fn allowed_latches(mask: u8) -> u8 {
+    let mut allowed = IL5;
+    if mask & 0b0100 != 0 {
+        allowed |= IL3;
+    }
+    if mask & 0b0010 != 0 {
+        allowed |= IL2 | IL1;
+    }
+    if mask & 0b0001 != 0 {
+        allowed |= IL0;
+    }
+    allowed
+}
+
+/// Phase 3: "For each cycle the time base gains 8, modulo 2^22."
+fn pass_time(m: &mut Machine, frame: Frame, cycles: u32) {
+    for _ in 0..cycles {
+        m.time_base = (m.time_base + 8) % TIME_BASE_SIZE;
+        if timer_counts(m.ports.p28, frame.p8 & 0b1000 != 0, m.time_base) {
+            count_ta(m);
+        }
+        if timer_counts(m.ports.p29, frame.p8 & 0b0010 != 0, m.time_base) {
+            count_tb(m);
+        }
+        if let Some(exponent) = time_base_exponent(m.ports.p25) {
+            if is_multiple(m.time_base, exponent) {
+                m.il |= IL1;
+            }
+        }
+    }
+}
+
+#[derive(PartialEq, Eq)]
+enum TimerMode {
+    Stop,
+    Event,
+    Timer,
+    PulseWidth,
+}
+
+/// "Bits 3..2 are the mode: 0 stop, 1 event."
+fn timer_mode(setting: u8) -> TimerMode {
+    match setting >> 2 {
+        0 => TimerMode::Stop,
+        1 => TimerMode::Event,
+        2 => TimerMode::Timer,
+        _ => TimerMode::PulseWidth,
+    }
+}
+
+/// "At multiples of 2^10, 2^14, 2^18 or 2^22 (P28, P29 bits 1..0 = 0 to 3) a timer in mode 2
+/// counts, and in mode 3 if its pin is 1."
+fn timer_counts(setting: u8, pin: bool, time_base: u32) -> bool {
+    let enabled = match timer_mode(setting) {
+        TimerMode::Stop | TimerMode::Event => false,
+        TimerMode::Timer => true,
+        TimerMode::PulseWidth => pin,
+    };
+    enabled && is_multiple(time_base, 10 + 4 * (setting & 3) as u32)
+}
+
+/// "TBI sets IL1 at multiples of 2^k; P25 = 4,5,6,7,12,13,14,15 gives
+/// k = 10,11,12,13,9,8,15,17; 0 to 3 is off."
+fn time_base_exponent(p25: u8) -> Option<u32> {
+    match p25 {
+        4 => Some(10),
+        5 => Some(11),
+        6 => Some(12),
+        7 => Some(13),
+        12 => Some(9),
+        13 => Some(8),
+        14 => Some(15),
+        15 => Some(17),
+        _ => None,
+    }
+}
+
+fn is_multiple(time_base: u32, exponent: u32) -> bool {
+    time_base % (1 << exponent) == 0
+}
+
+/// "Passing 4095 to 0 sets IL3 (TA) or IL2 (TB)."
+fn count_ta(m: &mut Machine) {
+    m.ta = (m.ta + 1) % 4096;
+    if m.ta == 0 {
+        m.il |= IL3;
+    }
+}
+
+fn count_tb(m: &mut Machine) {
+    m.tb = (m.tb + 1) % 4096;
+    if m.tb == 0 {
+        m.il |= IL2;
+    }
+}
+
+/// "In sleep or hold a step only looks for a falling edge on an enabled wake pin. None: 0 cycles.
+/// One: running again." Gives the cycles.
+fn look_for_wake(m: &mut Machine, around: &Surroundings) -> u32 {
+    let falling = m.last_frame.wake_pins() & !around.frame.wake_pins();
+    if falling & around.options.wake == 0 {
+        return 0;
+    }
+    m.mode = Mode::Running;
+    wake_cycles(m.ports.p16)
+}
+
+/// "0 cycles for hold, for sleep 32,768, 2,048 or 8,192 (bits 1..0 = 0, 1, 2)."
+fn wake_cycles(p16: u8) -> u32 {
+    match p16 & 3 {
+        0 => 32_768,
+        1 => 2_048,
+        2 => 8_192,
+        _ => 0,
+    }
+}
