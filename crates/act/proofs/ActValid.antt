@@ -2,19 +2,14 @@
 -- Assumes nothing.
 use mathlib.Core.Path.{_≡_, refl}
 use mathlib.Core.Bool.{Bool, true, false}
-use mathlib.Core.List.{[], _∷_}
 use Prim.Native.Nat.{ℕ, _<_}
-use native.Mathlib.Omega.{arith}
 use lib.Dec.{T, leb, leb→le, ltb, ltb→lt}
 use Rattle.laws.specs.Choice.{pick, both}
 use Rattle.laws.proofs.Computed.{both-left, both-right}
 use Rattle.paper.specs.ComesBack.{stack-level}
-use Rattle.sheet.specs.Code.{digits}
-use Rattle.sheet.specs.Fields.{InFields}
-use Rattle.sheet.specs.Reading.{readAt, fetched, wrapped}
-use Rattle.sheet.specs.declared.Insn.{Insn}
+use Rattle.sheet.specs.Reading.{readAt}
 use Rattle.sheet.specs.declared.Read.{Read}
-use Rattle.sheet.proofs.Operands.{AreDigits, in-fields}
+use Rattle.reader.proofs.Rows.{read-in-fields}
 use Rattle.clock.specs.Clock.{passed, InRange}
 use Rattle.clock.proofs.Ranges.{passed-in-range}
 use Rattle.ports.specs.declared.Mode.{Mode}
@@ -64,14 +59,6 @@ pub after-valid : (n : ℕ) (m : Core) → ValidCore m → ValidCore (coreAfter 
 unfolding coreAfter
 after-valid n m v = in-mode-valid (m .mode) n m v
 
--- the digits of three bytes
-are-digits : (a b c : ℕ) → a < 256 → b < 256 → c < 256 → AreDigits (digits (a ∷ b ∷ c ∷ []))
-are-digits a b c h k l = (omega arith, (omega arith, (omega arith, (omega arith, (omega arith, (omega arith, tt))))))
-
--- what is read at an address is an instruction of the sheet
-pub read-in-fields : (rom : ℕ → ℕ) → ((at : ℕ) → rom at < 256) → (at : ℕ) (i : Insn) → readAt rom at ≡ Read.Row i → InFields i
-read-in-fields rom bytes at i e = in-fields (digits (fetched rom at)) (are-digits (rom at) (rom (wrapped at 1)) (rom (wrapped at 2)) (bytes at) (bytes (wrapped at 1)) (bytes (wrapped at 2))) i e
-
 -- one of two records that are valid
 either-valid : (t : Bool) (x y : Done) → (T t → Valid (x .machine)) → Valid (y .machine) → Valid (pick t x y .machine)
 either-valid true x y h k = h tt
@@ -88,7 +75,7 @@ module _ (rom : ℕ → ℕ) (sound : Bool) (m : Machine) (valid : Valid m) (run
 
   read-valid : (r : Read) → readAt rom (m .core .pc) ≡ r → Valid (runRead rom sound m r .machine)
   read-valid (Read.Row i) e =
-      let f = read-in-fields rom bytes (m .core .pc) i e in
+      let f = read-in-fields rom (m .core .pc) i e bytes in
       executed-valid (record { rom = rom; sound = sound; insn = i }) m valid running bytes (f .row) (f .a)
   read-valid Read.Unassigned e = valid
 

@@ -71,13 +71,14 @@ abbrev pub going : ℕ → ℕ → ℕ → Node
 going next other cycles = record { kind = 1; next = next; other = other; cost = cycles }
 
 -- "Branches make it known; one at a known place has only its target, at an unknown place also the next instruction."
+abbrev pub forked : Bool → ℕ → ℕ → ℕ → Node
+forked known on target cycles = going (pick known (place target true) (place on true)) (place target true) cycles
+
 abbrev pub nodeBy : ℕ → Bool → Insn → ℕ → ℕ → Way → Node
 nodeBy at known i bytes cycles Way.nowhere = excluded
 nodeBy at known i bytes cycles Way.end = ending cycles
 nodeBy at known i bytes cycles (Way.onward set) = going (place (wrapped at bytes) set) (place (wrapped at bytes) set) cycles
-nodeBy at known i bytes cycles (Way.branches t) =
-    let target = place (targetOf t at (i .a)) true in
-    going (pick known target (place (wrapped at bytes) true)) target cycles
+nodeBy at known i bytes cycles (Way.branches t) = forked known (wrapped at bytes) (targetOf t at (i .a)) cycles
 
 abbrev pub nodeRow : ℕ → Bool → Insn → Line → Node
 nodeRow at known i l = nodeBy at known i (l .bytes) (l .cycles) (wayOf i l)

@@ -4,7 +4,7 @@ use mathlib.Core.Path.{sym, _∙_}
 use denote.Ref.{now}
 use Rattle.sheet.specs.Reading.{romOf}
 use borrow.Author.Needs.{needs}
-use Rattle.act.proofs.ActValid.{read-in-fields}
+use Rattle.reader.proofs.Rows.{read-in-fields}
 use Rattle.act.proofs.Acting.{none-read, row-read}
 use Rattle.act.proofs.run_one.Statement.{statement}
 use Rattle.act.proofs.run_one.Tie as tie
@@ -25,7 +25,7 @@ returns : tie.Need-returns
 returns c = rw (c .stopped .ensures) (none-read _ _ _ _ (sym (c .before .before .before .read-at .ensures) ∙ c .before .enum-told .given .1))
 
 perform-requires : tie.Need-perform-requires
-perform-requires c κs = (record { core = c .before .before .before .before .before .before .pre .0; ram = c .before .before .before .before .before .before .pre .1; insn = read-in-fields (romOf (now (c .before .before .before .before .before .before .args .image))) (λ at. c .before .before .before .before .before .shared-slice-known .given at .fits) _ _ (sym (c .before .before .before .before .read-at .ensures) ∙ c .before .before .insn .given .1) }, c .before .before .before .before .before .before .pre .2)
+perform-requires c κs = (record { core = c .before .before .before .before .before .before .pre .0; ram = c .before .before .before .before .before .before .pre .1; insn = read-in-fields (romOf (now (c .before .before .before .before .before .before .args .image))) _ _ (sym (c .before .before .before .before .read-at .ensures) ∙ c .before .before .insn .given .1) (λ at. c .before .before .before .before .before .shared-slice-known .given at .fits) }, c .before .before .before .before .before .before .pre .2)
 
 returns-2 : tie.Need-returns-2
 returns-2 c = row-read _ _ _ _ _ _ _ (sym (c .before .before .before .before .before .read-at .ensures) ∙ c .before .before .before .insn .given .1) (c .perform .ensures)
