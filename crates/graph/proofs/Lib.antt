@@ -1,0 +1,5 @@
+pub mod Reach
+pub mod Pigeon
+pub mod Unique
+pub mod Agree
+pub mod HasPath
