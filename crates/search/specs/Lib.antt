@@ -1,0 +1,3 @@
+pub mod Marks
+pub mod Search
+pub mod Lowest
