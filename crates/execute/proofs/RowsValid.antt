@@ -47,11 +47,11 @@ fitsOperation n (Operation.IL⟵IL-and-r e) = leb n 64
 fitsOperation n Operation.no-operation = true
 
 -- one computation over the sheet's lines
-line-fits : (k : ℕ) → k < 108 → T (fitsOperation (fieldA (lineAt k .codes)) (lineAt k .operation))
+pub line-fits : (k : ℕ) → k < 108 → T (fitsOperation (fieldA (lineAt k .codes)) (lineAt k .operation))
 unfolding lineAt
 line-fits k h = at (λ k. fitsOperation (fieldA (lineAt k .codes)) (lineAt k .operation)) 108 tt k h
 
-target-lt : (n : ℕ) (t : Target) (pc a : ℕ) → pc < 8192 → a < n → T (fitsTarget n t) → targetOf t pc a < 8192
+pub target-lt : (n : ℕ) (t : Target) (pc a : ℕ) → pc < 8192 → a < n → T (fitsTarget n t) → targetOf t pc a < 8192
 target-lt n Target.page pc a h k t = omega (arith, leb→le n 64 t)
 target-lt n Target.half pc a h k t = omega (arith, leb→le n 4096 t)
 target-lt n Target.whole pc a h k t = omega (arith, leb→le n 8192 t)
