@@ -1,0 +1,12 @@
+pub mod Pigeon
+pub mod Paths
+pub mod RowStops
+pub mod RowMode
+pub mod Lines
+pub mod Standing
+pub mod Rows
+pub mod Nodes
+pub mod Steps
+pub mod Going
+pub mod Runs
+pub mod Demand
