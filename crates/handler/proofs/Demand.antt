@@ -14,6 +14,7 @@ use Rattle.handler.proofs.Paths.{longest-path, longest-most}
 use Rattle.handler.proofs.Standing.{Standing, address-place}
 use Rattle.handler.proofs.Runs.{run-from}
 
+-- "N is the largest sum of cycles to an RTI, RTI included": a path has it, and none has more
 module _ {rom : ℕ → ℕ} {start N : ℕ} {path : List ℕ} (bound : HasBound rom start N path) where
   pub attained : Path (flowGraph rom) (startOf start) path × (sum (flowCost rom) path ≡ N)
   attained = (longest-path (bound .longest), sym (bound .sum))
@@ -27,4 +28,4 @@ enters-standing {start = start} e = record { at = e .at ∙ sym (address-place s
 
 pub demand-3 : Demand3
 demand-3 rom bytes start N start-lt path bound o m enters frames shown enough =
-    run-from rom bytes o (startOf start) (omega arith) (bound .sound) frames m (startOf start) N (enters .valid) (enters-standing enters) here (not-exceeded bound) shown enough
+    run-from rom o bytes (startOf start) (omega arith) (bound .sound) frames m (startOf start) N (enters .valid) (enters-standing enters) here (not-exceeded bound) shown enough

@@ -8,5 +8,7 @@ pub mod Rows
 pub mod Nodes
 pub mod Steps
 pub mod Going
+pub mod Buffers
 pub mod Runs
 pub mod Demand
+pub mod DemandOfRun

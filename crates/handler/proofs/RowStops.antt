@@ -21,13 +21,15 @@ use Rattle.execute.specs.Places.{Around, Got, cellOf, portOf, getOf, touched, p
 use Rattle.execute.specs.Steps.{firstOf, made-of, putStep, exchangeStep, stepOf}
 use Rattle.execute.specs.Rows.{Done, worked, workOf, branchOf, callOf, latchesOf, performed}
 
+-- "a named stop"
 abbrev pub Named : ℕ → Type 0
 Named n = (31 ≤ n) × (n ≤ 34)
 
+-- 0 stands for no stop
 abbrev pub NoneOrNamed : ℕ → Type 0
 NoneOrNamed n = (n ≡ 0) ⊎ Named n
 
--- what has no stop; the stops of document 01's table
+-- no stop; then document 01's table
 none : NoneOrNamed 0
 none = inl refl
 
@@ -48,6 +50,7 @@ pub picked : {A : Type 0} (P : A → Type 0) (t : Bool) (x y : A) → P x → P 
 picked P true x y h k = h
 picked P false x y h k = k
 
+-- of two stops the first
 first-stop : (s t : ℕ) → NoneOrNamed s → NoneOrNamed t → NoneOrNamed (firstOf s t)
 first-stop s t (inl e) k = rw (eq-eqb s 0 e) k
 first-stop s t (inr h) (inl e) = rw (ne-eqb s 0 (omega arith), eq-eqb t 0 e) (inr h)

@@ -12,7 +12,7 @@ use Rattle.step.specs.Step.{stepOf}
 use Rattle.step.specs.declared.Options.{Options}
 use Rattle.step.proofs.StepValid.{step-valid}
 use Rattle.run.specs.Run.{runOf}
-use Rattle.graph.specs.Graph.{Graph, Edge, Reach, Path, ends, goes, sum, AtMost, Sound}
+use Rattle.graph.specs.Graph.{Graph, Edge, Reach, Path, sum, AtMost, Sound}
 use Rattle.flow.specs.Flow.{flowGraph, flowCost}
 use Rattle.handler.specs.Handler.{EndsWithin, AllInRange}
 use Rattle.handler.proofs.Paths.{reach-snoc, on-or-ends, has-path}
@@ -32,8 +32,8 @@ rest-most : (rom : ℕ → ℕ) (v w B : ℕ) → Edge (flowGraph rom) v w → A
 unfolding sum
 rest-most rom v w B e most l p = omega (arith, most (v ∷ l) (Path.goes e p))
 
-module _ (rom : ℕ → ℕ) (bytes : (at : ℕ) → rom at < 256) (o : Options) where
-  -- of a run that ends after a step that completes
+module _ (rom : ℕ → ℕ) (o : Options) where
+  -- a run that ends, after a step that completes
   ends-later : (m : Machine) (pins : Pins) (others : List Pins) (v B : ℕ) → 0 < flowCost rom v → stepOf rom o m pins .stop ≡ 0 → stepOf rom o m pins .cycles ≡ flowCost rom v
       → EndsWithin rom o (stepOf rom o m pins .machine) others (B - flowCost rom v) → EndsWithin rom o m (pins ∷ others) B
   ends-later m pins others v B pos z c q =
@@ -49,7 +49,7 @@ module _ (rom : ℕ → ℕ) (bytes : (at : ℕ) → rom at < 256) (o : Options)
         cycles = rw next (omega (arith, q .cycles));
       }
 
-  module _ (s : ℕ) (s-lt : s < 16384) (sound : Sound (flowGraph rom) s) where
+  module _ (bytes : (at : ℕ) → rom at < 256) (s : ℕ) (s-lt : s < 16384) (sound : Sound (flowGraph rom) s) where
     -- a place that is reached costs something, and no more than the paths from it
     cost-le : (v B : ℕ) → Reach (flowGraph rom) s v → AtMost (flowGraph rom) (flowCost rom) v B → (0 < flowCost rom v) × (flowCost rom v ≤ B)
     cost-le v B r most =

@@ -15,7 +15,7 @@ use Rattle.frame.specs.declared.Pins.{Pins}
 use Rattle.machine.specs.Valid.{Valid}
 use Rattle.machine.specs.declared.Machine.{Machine}
 use Rattle.execute.specs.Places.{Around}
-use Rattle.execute.specs.Rows.{Done, stops, executed}
+use Rattle.execute.specs.Rows.{Done, executed}
 use Rattle.look.specs.Look.{seen, looked}
 use Rattle.act.specs.Act.{sourceOf, runRead, runOne, turnOf, afterTime, actOf}
 use Rattle.act.proofs.ActValid.{read-in-fields}
@@ -50,6 +50,7 @@ module _ (rom : ℕ → ℕ) (o : Options) (m : Machine) (pins : Pins) (v : ℕ)
     abbrev around : Around
     around = record { rom = rom; sound = o .sound; insn = i }
 
+    -- the row there is executed, and a stop of it undoes the step
     row-is : stepOf rom o m pins ≡ undone m (afterTime (executed around looking))
     row-is = step-is ∙ ap (λ (r : Read). undone m (afterTime (runRead rom (o .sound) looking r))) read
 

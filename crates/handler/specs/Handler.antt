@@ -1,23 +1,27 @@
 -- Demand 3: "Every emulated run from there (running, SF set, EI clear, frames enough) reaches the return or a named stop having spent at most N, for any pins."
 -- Assumes nothing.
 use mathlib.Core.Path.{_≡_}
+use mathlib.Core.Logic.{_⊎_}
 use mathlib.Core.Bool.{true, false}
 use mathlib.Core.List.{List, [], _∷_, _++_}
-use Prim.Native.Nat.{ℕ, suc, _+_, _≤_, _<_}
-use lib.ListN.{length}
+use Prim.Native.Nat.{ℕ, suc, _+_, _*_, _≤_, _<_}
+use lib.ListN.{length, take}
 use Rattle.sheet.specs.Operation.Operation.{return-FLAG}
 use Rattle.sheet.specs.Table.{lineAt}
-use Rattle.sheet.specs.Reading.{readAt}
+use Rattle.sheet.specs.Reading.{readAt, romOf}
 use Rattle.sheet.specs.declared.Insn.{Insn}
 use Rattle.sheet.specs.declared.Read.{Read}
-use Rattle.frame.specs.Frame.{PinsInRange}
+use Rattle.frame.specs.Frame.{frameAt, areFrames, framesOf, PinsInRange}
 use Rattle.frame.specs.declared.Pins.{Pins}
+use Rattle.frame.specs.declared.Frame.the-variants.{Seen}
 use Rattle.ports.specs.declared.Mode.the-variants.{Running}
 use Rattle.machine.specs.Valid.{Valid}
 use Rattle.machine.specs.declared.Machine.{Machine}
 use Rattle.step.specs.Step.{stepOf}
 use Rattle.step.specs.declared.Options.{Options}
 use Rattle.run.specs.Run.{runOf}
+use Rattle.run.specs.Answers.{RunOf}
+use Rattle.run.specs.declared.Ran.{Ran}
 use Rattle.flow.specs.Bound.{HasBound}
 
 -- a record at the start of a handler: "running, SF set, EI clear"
@@ -65,3 +69,25 @@ Demand3 =
     → (o : Options) (m : Machine) → Enters m start
     → (frames : List Pins) → AllInRange frames → N ≤ length frames
     → EndsWithin rom o m frames N
+
+-- the call run answers q to the frames before a handler's last step and r to those with its frame, the last: the step executes RTI, or it is a named stop
+pub record RunEnds (rom : ℕ → ℕ) (o : Options) (last : Pins) (before N : ℕ) (q r : Ran) : Type 0 where
+  pub completes : q .number ≡ 0
+  pub cycles : r .cycles ≤ N
+  pub ends : ((r .number ≡ 0) × (r .steps ≡ suc before) × Returns rom o (q .machine) last) ⊎ ((31 ≤ r .number) × (r .number ≤ 34))
+
+-- the last frame stands in the buffer behind so many others, and any answers of the call that conform end so
+pub record RunEndsWithin (image : List ℕ) (o : Options) (m : Machine) (frames : List ℕ) (N : ℕ) : Type 0 where
+  pub before : ℕ
+  pub steps : suc before ≤ N
+  pub last : Pins
+  pub shown : frameAt frames (3 * before) ≡ Seen last
+  pub answers : (q r : Ran) → RunOf image o m (take (3 * before) frames) q → RunOf image o m (take (3 * suc before) frames) r → RunEnds (romOf image) o last before N q r
+
+-- the same demand of the call run, on a buffer of frames that it does not refuse
+abbrev pub Demand3OfRun : Type 0
+Demand3OfRun =
+    (image : List ℕ) → length image ≡ 8192 → ((at : ℕ) → romOf image at < 256) → (start N : ℕ) → start < 8192 → (path : List ℕ) → HasBound (romOf image) start N path
+    → (o : Options) (m : Machine) → Enters m start
+    → (frames : List ℕ) → areFrames frames ≡ true → length frames ≤ 196608 → N ≤ length (framesOf frames)
+    → RunEndsWithin image o m frames N

@@ -1,0 +1,70 @@
+-- Demand 3 of the call run: on the frames up to the step that ends the handler it answers within N cycles, with RTI executed or a named stop.
+-- Assumes nothing.
+use mathlib.Core.Path.{_≡_, refl, ap, _∙_}
+use mathlib.Core.Logic.{inl, inr}
+use mathlib.Core.Bool.{true}
+use mathlib.Core.List.{List, [], _∷_, _++_}
+use Prim.Native.Nat.{ℕ, suc, _+_, _*_, _≤_}
+use native.Mathlib.Omega.{arith}
+use lib.ListN.{length, take, length-take, length-append}
+use lib.Seq.{take-suc, take-append-seam, getD-append-seam}
+use borrow.Author.Tests.{eq-eqb, ne-eqb}
+use Rattle.sheet.specs.Reading.{romOf}
+use Rattle.frame.specs.Frame.{areFrames, framesOf}
+use Rattle.frame.specs.declared.Pins.{Pins}
+use Rattle.frame.specs.declared.Frame.the-variants.{Seen}
+use Rattle.frame.proofs.Sequence.{length-frames, frame-number}
+use Rattle.machine.specs.Valid.{Valid}
+use Rattle.machine.specs.declared.Machine.{Machine}
+use Rattle.step.specs.Step.{stepOf}
+use Rattle.step.specs.declared.Options.{Options}
+use Rattle.run.specs.Run.{runOf}
+use Rattle.run.specs.Answers.{RunOf}
+use Rattle.run.specs.declared.Ran.{Ran}
+use Rattle.handler.specs.Handler.{Ends, EndsWithin, RunEnds, RunEndsWithin, Demand3OfRun}
+use Rattle.handler.proofs.Going.{run-rest}
+use Rattle.handler.proofs.Buffers.{frames-take, are-take, all-in-range}
+use Rattle.handler.proofs.Demand.{demand-3}
+
+-- the list with the element in its midst, up to that and with it
+take-with : (before : List Pins) (last : Pins) (after : List Pins) → take (suc (length before)) (before ++ (last ∷ after)) ≡ before ++ (last ∷ [])
+take-with before last after =
+    take-suc (before ++ (last ∷ after)) (length before) last (rw length-append (omega arith))
+    ∙ rw (take-append-seam before (last ∷ after), getD-append-seam before last after last)
+
+module _ (rom : ℕ → ℕ) (o : Options) (m : Machine) (N : ℕ) (before : List Pins) (last : Pins) (z : runOf rom o m before .number ≡ 0) where
+  abbrev at-last : Machine
+  at-last = runOf rom o m before .machine
+
+  -- the run's answer by how its last step ends
+  run-ends : runOf rom o m before .cycles + stepOf rom o at-last last .cycles ≤ N → Ends rom o at-last last → RunEnds rom o last (length before) N (runOf rom o m before) (runOf rom o m (before ++ (last ∷ [])))
+  run-ends c (Ends.returns t) = rw (run-rest rom o before (last ∷ []) m z, eq-eqb (stepOf rom o at-last last .stop) 0 (t .completes)) (record { completes = z; cycles = c; ends = inl (refl, refl, t) })
+  run-ends c (Ends.stops a b) = rw (run-rest rom o before (last ∷ []) m z, ne-eqb (stepOf rom o at-last last .stop) 0 (omega arith)) (record { completes = z; cycles = omega arith; ends = inr (a, b) })
+
+module _ (image : List ℕ) (o : Options) (m : Machine) (frames : List ℕ) (len : length image ≡ 8192) (valid : Valid m) (good : areFrames frames ≡ true) (few : length frames ≤ 196608) where
+  -- the call's answer to the first k frames
+  answer-is : (k : ℕ) (l : List Pins) (r : Ran) → 3 * k ≤ length frames → take k (framesOf frames) ≡ l → RunOf image o m (take (3 * k) frames) r → r ≡ runOf (romOf image) o m l
+  answer-is k l r h e a = a .runs len valid (rw length-take (omega arith)) (are-take k frames h good) ∙ ap (runOf (romOf image) o m) (frames-take k frames h ∙ e)
+
+  ends-by-call : (N : ℕ) → N ≤ length (framesOf frames) → EndsWithin (romOf image) o m (framesOf frames) N → RunEndsWithin image o m frames N
+  ends-by-call N enough e =
+      let k = length (e .before) in
+      let room : 3 * N ≤ length frames = omega (arith, length-frames frames good) in
+      record {
+        before = k;
+        steps = e .steps;
+        last = e .last;
+        shown = frame-number frames k (e .last) good (omega (arith, e .steps)) ∙ ap Seen (rw (e .parts) (getD-append-seam (e .before) (e .last) (e .after) (e .last)));
+        answers =
+            λ q r a b.
+            rw (
+              answer-is k (e .before) q (omega (arith, e .steps)) (rw (e .parts) (take-append-seam (e .before) (e .last ∷ e .after))) a,
+              answer-is (suc k) (e .before ++ (e .last ∷ [])) r (omega (arith, e .steps)) (rw (e .parts) (take-with (e .before) (e .last) (e .after))) b,
+            )
+            (run-ends (romOf image) o m N (e .before) (e .last) (e .completes) (e .cycles) (e .ends));
+      }
+
+pub demand-3-of-run : Demand3OfRun
+demand-3-of-run image len bytes start N start-lt path bound o m enters frames good few enough =
+    ends-by-call image o m frames len (enters .valid) good few N enough
+    (demand-3 (romOf image) bytes start N start-lt path bound o m enters (framesOf frames) (all-in-range frames good) enough)
