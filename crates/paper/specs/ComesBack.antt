@@ -15,6 +15,10 @@ answered vs = record { number = 0; values = vs }
 abbrev pub refused : ℕ → Paper
 refused n = record { number = n; values = [] }
 
+-- a refusal with what the table has under "Returned"
+abbrev pub refusedWith : ℕ → ℕ → Paper
+refusedWith n value = record { number = n; values = value ∷ [] }
+
 -- the table's numbers, with its words
 abbrev pub image-is-not-8192-bytes : ℕ
 image-is-not-8192-bytes = 1
@@ -36,6 +40,15 @@ not-to-be-written = 11
 
 abbrev pub address-over-8191 : ℕ
 address-over-8191 = 20
+
+abbrev pub excluded-instruction-reachable : ℕ
+excluded-instruction-reachable = 21
+
+abbrev pub repetition-reachable : ℕ
+repetition-reachable = 22
+
+abbrev pub path-buffer-too-short : ℕ
+path-buffer-too-short = 23
 
 abbrev pub unassigned-code : ℕ
 unassigned-code = 30

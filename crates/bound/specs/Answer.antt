@@ -1,0 +1,51 @@
+-- Document 01, "What comes back": what the call bound answers by the table's numbers, and what becomes of the path buffer.
+-- Assumes nothing.
+use mathlib.Core.Path.{_≡_}
+use mathlib.Core.List.{List, [], _∷_, _++_}
+use Prim.Native.Nat.{ℕ, _+_, _*_, _/_, _%_, _≤_, _<_}
+use lib.ListN.{length, drop}
+use Rattle.paper.specs.ComesBack.{Paper, answered, refused, refusedWith, image-is-not-8192-bytes, address-over-8191, excluded-instruction-reachable, repetition-reachable, path-buffer-too-short}
+use Rattle.sheet.specs.Reading.{romOf}
+use Rattle.graph.specs.Graph.{Least, Bad, Loops}
+use Rattle.flow.specs.Flow.{addressOf, flowGraph, startOf}
+use Rattle.flow.specs.Bound.{HasBound}
+use Rattle.bound.specs.declared.Bounded.{Bounded}
+
+-- document 01's number and value for each case of the answer
+abbrev pub paperOf : Bounded → Paper
+paperOf Bounded.ImageSize = refused image-is-not-8192-bytes
+paperOf Bounded.AddressRange = refused address-over-8191
+paperOf (Bounded.Excluded address) = refusedWith excluded-instruction-reachable address
+paperOf (Bounded.Repeats address) = refusedWith repetition-reachable address
+paperOf (Bounded.Short bytes) = refusedWith path-buffer-too-short bytes
+paperOf (Bounded.Longest cycles) = answered (cycles ∷ [])
+
+-- the lowest address of a place with P
+abbrev pub LowestAddress : (ℕ → Type 0) → ℕ → Type 0
+LowestAddress P = Least (λ address. (v : ℕ) × P v × (addressOf v ≡ address))
+
+-- "The path is its addresses, two bytes each, low first"
+unfoldable pub addressBytes : List ℕ → List ℕ
+addressBytes [] = []
+addressBytes (v ∷ l) = addressOf v % 256 ∷ addressOf v / 256 % 256 ∷ addressBytes l
+
+module _ (rom : ℕ → ℕ) (start : ℕ) where
+  -- an excluded place that is reachable; a reachable place that can be reached from itself in one or more steps
+  abbrev pub IsExcluded : ℕ → Type 0
+  IsExcluded v = Bad (flowGraph rom) (startOf start) v
+
+  abbrev pub IsRepeated : ℕ → Type 0
+  IsRepeated v = Loops (flowGraph rom) (startOf start) v
+
+  -- "If an excluded place is reachable: 21. Else if a reachable place can be reached from itself ..: 22. Else N .. Bytes after it stay.": path becomes path′
+  pub data FlowAnswer (path path′ : List ℕ) : Paper → Type 0 where
+    gives-21 : {address : ℕ} → LowestAddress IsExcluded address → path′ ≡ path → FlowAnswer path path′ (refusedWith excluded-instruction-reachable address)
+    gives-22 : {address : ℕ} → ((v : ℕ) → IsExcluded v → ⊥) → LowestAddress IsRepeated address → path′ ≡ path → FlowAnswer path path′ (refusedWith repetition-reachable address)
+    gives-23 : {N : ℕ} {l : List ℕ} → HasBound rom start N l → length path < 2 * length l → path′ ≡ path → FlowAnswer path path′ (refusedWith path-buffer-too-short (2 * length l))
+    gives-N : {N : ℕ} {l : List ℕ} → HasBound rom start N l → 2 * length l ≤ length path → path′ ≡ addressBytes l ++ drop (2 * length l) path → FlowAnswer path path′ (answered (N ∷ []))
+
+-- refusals in the table's order: 1, 20, 21, 22, 23
+pub data BoundAnswer (image : List ℕ) (start : ℕ) (path path′ : List ℕ) : Paper → Type 0 where
+  gives-1 : (length image ≡ 8192 → ⊥) → path′ ≡ path → BoundAnswer image start path path′ (refused image-is-not-8192-bytes)
+  gives-20 : length image ≡ 8192 → 8191 < start → path′ ≡ path → BoundAnswer image start path path′ (refused address-over-8191)
+  by-flow : {p : Paper} → length image ≡ 8192 → start ≤ 8191 → FlowAnswer (romOf image) start path path′ p → BoundAnswer image start path path′ p
