@@ -1,0 +1,4 @@
+pub mod Settling
+pub mod Sweeps
+pub mod Meaning
+pub mod Stuck
