@@ -8,14 +8,14 @@ use native.Mathlib.Decide.{ℕ-discrete}
 use native.Mathlib.Omega.{arith}
 use lib.ListN.{length, getD, set, length-set}
 use lib.Seq.{getD-set-same, getD-set-other}
-use Rattle.graph.specs.Laid.{graphOf, costOf, Laid, Costs, Inside}
+use Rattle.graph.specs.Laid.{graphOf, costOf, Laid, Costs}
 use Rattle.graph.proofs.Reach.{reach-inside}
 use Rattle.graph.proofs.Agree.{Agree, agree-sym, reach-to}
 use Rattle.search.specs.Marks.{Marked, Room}
 use Rattle.search.specs.Search.{Search, Reached}
 use Rattle.search.proofs.Search.{search-end, search-listed}
 use Rattle.flow.specs.Flow.{nodeOf, flowGraph, flowCost}
-use Rattle.flow.proofs.Inside.{node-good}
+use Rattle.flow.proofs.Inside.{node-good, flow-inside}
 use Rattle.explore.specs.Explored.{Sized, Empty, Lays, Holds, Explored}
 
 pub record Nothing (k nx o c : List ℕ) (v : ℕ) : Type 0 where
@@ -77,14 +77,9 @@ laying-more {rom} {k} {nx} {o} {c} {k′} {nx′} {o′} {c′} {q} {q′} {head
     before i h (yes e) = rw e (holds-here (l .sized) lt lays)
     before i h (no ne) = holds-kept (l .sized) lt lays (getD q i 0) (ℕ-discrete (getD q i 0) (getD q head 0)) (l .done i (omega arith))
 
--- edges lead from places of the image to places of the image
-inside : {rom : ℕ → ℕ} → ((at : ℕ) → rom at < 256) → Inside (flowGraph rom) 16384
-unfolding flowGraph
-inside {rom} bytes = record { edge = λ v w l e. ⊎-elim (λ n. rw n (node-good rom bytes v l .next-lt)) (λ n. rw n (node-good rom bytes v l .other-lt)) (e .1) }
-
 -- what is reached from a place of the image is one
-pub inside-image : {rom : ℕ → ℕ} → ((at : ℕ) → rom at < 256) → {s count head : ℕ} {m q : List ℕ} → s < 16384 → length m ≡ 16384 → Search (flowGraph rom) s m q count head → head < count → getD q head 0 < 16384
-inside-image bytes h len search lt = reach-inside (inside bytes) (search .sound _ lt) h
+pub inside-image : {rom : ℕ → ℕ} → ((at : ℕ) → rom at < 256) → {s count head : ℕ} {m q : List ℕ} → s < 16384 → Search (flowGraph rom) s m q count head → head < count → getD q head 0 < 16384
+inside-image {rom} bytes h search lt = reach-inside (flow-inside rom bytes) (search .sound _ lt) h
 
 module _ {rom : ℕ → ℕ} (bytes : (at : ℕ) → rom at < 256) {k nx o c q : List ℕ} {head : ℕ} (l : Laying rom k nx o c q head) where
   laid : Laid k nx o 16384

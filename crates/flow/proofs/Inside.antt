@@ -1,6 +1,7 @@
 -- A node's followers are places of the image, and what is not excluded costs something.
 -- Assumes nothing.
 use mathlib.Core.Path.{_≡_, refl}
+use mathlib.Core.Logic.{_⊎_, ⊎-elim}
 use mathlib.Core.Bool.{Bool, true, false}
 use Prim.Native.Nat.{ℕ, _<_, _≤_}
 use native.Mathlib.Omega.{arith}
@@ -17,7 +18,9 @@ use Rattle.sheet.specs.declared.Read.{Read}
 use Rattle.reader.proofs.Rows.{read-in-fields}
 use Rattle.execute.specs.Columns.{setsEi}
 use Rattle.execute.proofs.RowsValid.{fitsOperation, line-fits, target-lt}
-use Rattle.flow.specs.Flow.{Way, place, addressOf, isKnown, isOne, writesP16, wayBy, forked, nodeBy, nodeRead, nodeOf}
+use Rattle.graph.specs.Graph.{GoesOn, Ends}
+use Rattle.graph.specs.Laid.{Inside}
+use Rattle.flow.specs.Flow.{Way, place, addressOf, isKnown, isOne, writesP16, wayBy, forked, nodeBy, nodeRead, nodeOf, flowGraph, flowCost}
 use Rattle.flow.specs.declared.Node.{Node}
 
 pub record Good (x : Node) : Type 0 where
@@ -75,3 +78,12 @@ read-good rom bytes address known l Read.Unassigned e = record { next-lt = omega
 pub node-good : (rom : ℕ → ℕ) → ((at : ℕ) → rom at < 256) → (v : ℕ) → v < 16384 → Good (nodeOf rom v)
 unfolding nodeOf
 node-good rom bytes v l = read-good rom bytes (addressOf v) (isKnown v) (omega arith) (readAt rom (addressOf v)) refl
+
+-- edges lead from places of the image to places of the image
+pub flow-inside : (rom : ℕ → ℕ) → ((at : ℕ) → rom at < 256) → Inside (flowGraph rom) 16384
+unfolding flowGraph
+flow-inside rom bytes = record { edge = λ v w l e. ⊎-elim (λ n. rw n (node-good rom bytes v l .next-lt)) (λ n. rw n (node-good rom bytes v l .other-lt)) (e .1) }
+
+pub cost-pos : (rom : ℕ → ℕ) → ((at : ℕ) → rom at < 256) → (v : ℕ) → v < 16384 → GoesOn (flowGraph rom) v ⊎ Ends (flowGraph rom) v → 0 < flowCost rom v
+unfolding flowGraph flowCost
+cost-pos rom bytes v l k = ⊎-elim (λ on. node-good rom bytes v l .on-pos on) (λ end. node-good rom bytes v l .end-pos end) k

@@ -10,7 +10,7 @@ use Rattle.graph.specs.Graph.{here, Path, sum, AtMost}
 use Rattle.flow.specs.Flow.{flowGraph, flowCost, startOf}
 use Rattle.flow.specs.Bound.{HasBound}
 use Rattle.handler.specs.Handler.{Enters, Demand3}
-use Rattle.handler.proofs.Paths.{longest-path, longest-most}
+use Rattle.graph.proofs.Unique.{longest-path, longest-most}
 use Rattle.handler.proofs.Standing.{Standing, address-place}
 use Rattle.handler.proofs.Runs.{run-from}
 

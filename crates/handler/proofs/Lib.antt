@@ -1,11 +1,8 @@
-pub mod Pigeon
-pub mod Paths
 pub mod RowStops
 pub mod RowMode
 pub mod Lines
 pub mod Standing
 pub mod Rows
-pub mod Nodes
 pub mod Steps
 pub mod Going
 pub mod Buffers

@@ -15,8 +15,9 @@ use Rattle.run.specs.Run.{runOf}
 use Rattle.graph.specs.Graph.{Graph, Edge, Reach, Path, sum, AtMost, Sound}
 use Rattle.flow.specs.Flow.{flowGraph, flowCost}
 use Rattle.handler.specs.Handler.{EndsWithin, AllInRange}
-use Rattle.handler.proofs.Paths.{reach-snoc, on-or-ends, has-path}
-use Rattle.handler.proofs.Nodes.{cost-pos, flow-inside}
+use Rattle.graph.proofs.Reach.{reach-snoc, reach-inside}
+use Rattle.graph.proofs.HasPath.{on-or-ends, has-path}
+use Rattle.flow.proofs.Inside.{cost-pos, flow-inside}
 use Rattle.handler.proofs.Standing.{Standing}
 use Rattle.handler.proofs.Steps.{StepFollows, ends, goes-on, step-follows}
 use Rattle.handler.proofs.Going.{run-next}
@@ -54,7 +55,7 @@ module _ (rom : ℕ → ℕ) (o : Options) where
     cost-le : (v B : ℕ) → Reach (flowGraph rom) s v → AtMost (flowGraph rom) (flowCost rom) v B → (0 < flowCost rom v) × (flowCost rom v ≤ B)
     cost-le v B r most =
         let p = has-path (flow-inside rom bytes) s-lt sound v r in
-        (cost-pos rom bytes v (on-or-ends sound v r), omega (arith, path-first (flowCost rom) (p .1), most (p .0) (p .1)))
+        (cost-pos rom bytes v (reach-inside (flow-inside rom bytes) r s-lt) (on-or-ends sound v r), omega (arith, path-first (flowCost rom) (p .1), most (p .0) (p .1)))
 
     -- with at most B left to spend, and B frames or more
     pub run-from : (frames : List Pins) (m : Machine) (v B : ℕ) → Valid m → Standing (m .core) v → Reach (flowGraph rom) s v → AtMost (flowGraph rom) (flowCost rom) v B

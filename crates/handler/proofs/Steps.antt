@@ -18,7 +18,8 @@ use Rattle.execute.specs.Places.{Around}
 use Rattle.execute.specs.Rows.{Done, executed}
 use Rattle.look.specs.Look.{seen, looked}
 use Rattle.act.specs.Act.{sourceOf, runRead, runOne, turnOf, afterTime, actOf}
-use Rattle.act.proofs.ActValid.{read-in-fields}
+use Rattle.reader.proofs.Rows.{read-in-fields}
+use Rattle.execute.proofs.RowsValid.{line-fits}
 use Rattle.step.specs.Step.{undone, stepOf}
 use Rattle.step.specs.declared.Options.{Options}
 use Rattle.step.proofs.StepValid.{stop-undoes}
@@ -27,7 +28,7 @@ use Rattle.flow.specs.Flow.{isKnown, nodeRow, nodeRead, nodeOf, flowGraph, flow
 use Rattle.flow.specs.declared.Node.{Node}
 use Rattle.handler.specs.Handler.{Ends}
 use Rattle.handler.proofs.RowStops.{picked}
-use Rattle.handler.proofs.Lines.{line-fits, line-branches}
+use Rattle.handler.proofs.Lines.{line-branches}
 use Rattle.handler.proofs.Standing.{Standing, stands-after}
 use Rattle.handler.proofs.Rows.{RowFollows, stops-named, returns, goes, Allowed, not-allowed, row-follows}
 
@@ -81,7 +82,7 @@ module _ (rom : ℕ → ℕ) (o : Options) (m : Machine) (pins : Pins) (v : ℕ)
   module _ (bytes : (at : ℕ) → rom at < 256) (valid : Valid m) where
     read-follows : (r : Read) → readAt rom (m .core .pc) ≡ r → Allowed (nodeRead (m .core .pc) (isKnown v) r) → StepFollows rom o m pins v
     read-follows (Read.Row i) e k =
-        let f = read-in-fields rom bytes (m .core .pc) i e in
+        let f = read-in-fields rom (m .core .pc) i e bytes in
         let l = lineAt (i .row) in
         lifted i e (row-follows (around i e) l looking (valid .core .regs .lr) (stands .running) (stands .ei) (isKnown v) (stands .sf) (fieldA (l .codes)) (l .operation) (line-fits (i .row) (f .row)) (line-branches (i .row) (f .row)) k)
     read-follows Read.Unassigned e k = absurd (not-allowed k)
