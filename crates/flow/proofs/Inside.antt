@@ -28,7 +28,7 @@ pub record Good (x : Node) : Type 0 where
   pub other-lt : x .other < 16384
   pub on-pos : x .kind ≡ 1 → 0 < x .cost
   pub end-pos : x .kind ≡ 2 → 0 < x .cost
-  pub le : x .cost ≤ 65536
+  pub le : x .cost ≤ 3
 
 -- a row takes one cycle to three
 cycles-of : (row : ℕ) → 0 < row → row < 108 → T (both (leb 1 (lineAt row .cycles)) (leb (lineAt row .cycles) 3))

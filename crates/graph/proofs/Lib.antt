@@ -3,3 +3,4 @@ pub mod Pigeon
 pub mod Unique
 pub mod Agree
 pub mod HasPath
+pub mod Length
