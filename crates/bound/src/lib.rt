@@ -3,8 +3,8 @@
 pub enum Bounded {
     ImageSize,
     AddressRange,
-    Excluded(u16),
-    Repeats(u16),
+    Excluded(usize),
+    Repeats(usize),
     Short(usize),
-    Longest(u32),
+    Longest(usize),
 }

@@ -1,0 +1,31 @@
+-- What the bounder says of an answer, and a line of its path, as characters.
+-- Assumes nothing.
+use Prim.Native.Nat.{ℕ, _-_}
+use mathlib.Core.List.{List, [], _∷_, _++_}
+use lib.ListN.{length}
+use Rattle.text.specs.Digits.{characters, hex, inBase, decimal, blanks}
+use Rattle.text.specs.Listing.{columnsOf}
+use Rattle.bound.specs.declared.Bounded.{Bounded}
+
+-- a refusal by its number, in two digits, and what comes with it
+abbrev pub refusedText : ℕ → List ℕ
+refusedText n = characters "refused " ++ inBase 10 2 n
+
+abbrev pub refusedAt : ℕ → ℕ → List ℕ
+refusedAt n address = refusedText n ++ (characters " " ++ hex 4 address)
+
+-- an address in four hexadecimal digits, bytes and cycles in decimal
+abbrev pub summaryOf : Bounded → List ℕ
+summaryOf Bounded.ImageSize = refusedText 1
+summaryOf Bounded.AddressRange = refusedText 20
+summaryOf (Bounded.Excluded address) = refusedAt 21 address
+summaryOf (Bounded.Repeats address) = refusedAt 22 address
+summaryOf (Bounded.Short bytes) = refusedText 23 ++ (characters " " ++ decimal bytes)
+summaryOf (Bounded.Longest cycles) = characters "N " ++ decimal cycles
+
+-- as the lister's line, then a blank and the total of cycles so far, right-aligned in five characters
+abbrev pub aligned : ℕ → List ℕ → List ℕ
+aligned n text = blanks (n - length text) ++ text
+
+abbrev pub pathLineOf : (ℕ → ℕ) → ℕ → ℕ → List ℕ
+pathLineOf rom at total = columnsOf rom at ++ (characters " " ++ (aligned 5 (decimal total) ++ (10 ∷ [])))
