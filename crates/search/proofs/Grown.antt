@@ -69,3 +69,7 @@ room-grown r gr a b = record { len = omega (arith, r .len); small = omega (arith
 
 pub listed-queue : {m q : List ℕ} {t : ℕ} → Listed m q t → length m ≤ 16384 → Queue q t (length m)
 listed-queue {m} {q} li small = record { len = li .len; small = small; le = li .le; below = λ i l. marked-lt m (getD q i 0) (li .marked i l) }
+
+-- of as many places, where the number has another name
+pub queue-at : {q : List ℕ} {t n n′ : ℕ} → n′ ≡ n → Queue q t n → Queue q t n′
+queue-at e h = rw e h

@@ -9,7 +9,7 @@ use native.Mathlib.Decide.{decLt}
 use lib.ListN.{length, getD, set}
 use Rattle.graph.specs.Graph.{Graph}
 use Rattle.graph.specs.Laid.{Laid}
-use Rattle.search.specs.Marks.{Blank, Queue}
+use Rattle.search.specs.Marks.{Blank}
 use Rattle.search.proofs.Zeros.{cases-set}
 use Rattle.sums.specs.Dist.{Dist, Idle, IdleOn, Settled, Swept, Within}
 
@@ -45,9 +45,6 @@ within-set {l} {n} i x h lt w = record { at = λ j. cases-set (λ y. y < n) l i 
 
 pub within-at : {l : List ℕ} {n n′ : ℕ} → n′ ≡ n → Within l n → Within l n′
 within-at e w = rw e w
-
-pub queue-at : {q : List ℕ} {t n n′ : ℕ} → n′ ≡ n → Queue q t n → Queue q t n′
-queue-at e w = rw e w
 
 pub successor-lt : {k nx o : List ℕ} {n v w : ℕ} → Laid k nx o n → v < n → (w ≡ getD nx v 0) ⊎ (w ≡ getD o v 0) → w < n
 successor-lt {v = v} laid l e = ⊎-elim (λ h. rw h (laid .next-lt v l)) (λ h. rw h (laid .other-lt v l)) e

@@ -8,7 +8,8 @@ use Rattle.graph.proofs.Reach.{laid-at, costs-at}
 use Rattle.graph.specs.Laid.{graphOf, costOf, Laid, Costs}
 use Rattle.search.proofs.Zeros.{wide16, zeros-le}
 use Rattle.search.specs.Marks.{Queue}
-use Rattle.sums.proofs.Sweeps.{swept-none, swept-more, swept-end, queue-at}
+use Rattle.sums.proofs.Sweeps.{swept-none, swept-more, swept-end}
+use Rattle.search.proofs.Grown.{queue-at}
 use Rattle.sums.specs.Dist.{Swept}
 use Rattle.sums.proofs.sweep.Statement.{statement}
 use Rattle.sums.proofs.sweep.Tie as tie
