@@ -1,9 +1,10 @@
 -- Laws on what is reached.
 -- Assumes nothing.
-use mathlib.Core.Logic.{⊎-elim}
+use mathlib.Core.Logic.{_⊎_, ⊎-elim}
 use mathlib.Core.Path.{_≡_}
 use mathlib.Core.List.{List}
 use Prim.Native.Nat.{ℕ, _<_}
+use lib.ListN.{getD}
 use Rattle.graph.specs.Graph.{Graph, Edge, Reach, here, step}
 use Rattle.graph.specs.Laid.{graphOf, Laid, Costs, Inside}
 
@@ -29,6 +30,10 @@ laid-inside laid = record { edge = λ v w l e. ⊎-elim (λ h. rw h (laid .next-
 
 pub reach-lt : {k nx o : List ℕ} {n : ℕ} → Laid k nx o n → {u v : ℕ} → Reach (graphOf k nx o) u v → u < n → v < n
 reach-lt laid r l = reach-inside (laid-inside laid) r l
+
+-- what follows a place is a place
+pub successor-lt : {k nx o : List ℕ} {n v w : ℕ} → Laid k nx o n → v < n → (w ≡ getD nx v 0) ⊎ (w ≡ getD o v 0) → w < n
+successor-lt {v = v} laid l e = ⊎-elim (λ h. rw h (laid .next-lt v l)) (λ h. rw h (laid .other-lt v l)) e
 
 -- of as many places, where the number has another name
 pub laid-at : {k nx o : List ℕ} {n n′ : ℕ} → n′ ≡ n → Laid k nx o n → Laid k nx o n′

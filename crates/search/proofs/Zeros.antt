@@ -6,11 +6,11 @@ use Prim.Native.Nat.{ℕ, zero, suc, _+_, _≤_, _<_}
 use native.Mathlib.Nat.{not-suc-le-zero, le-of-suc-le-suc}
 use native.Mathlib.Omega.{arith}
 use native.Mathlib.Decide.{ℕ-discrete, decLt}
-use lib.ListN.{length, getD, set, List·getD-eq-default}
+use lib.ListN.{length, getD, set, replicate, List·getD-eq-default}
 use lib.Seq.{getD-set-same, getD-set-other}
 use mir.Val.{Fits}
 use mir.Syntax.{w16, w64}
-use Rattle.search.specs.Marks.{Marked, Blank, BlankTo, zeros}
+use Rattle.search.specs.Marks.{Marked, Blank, BlankTo, Within, zeros}
 
 pub zeros-set : (l : List ℕ) (i x : ℕ) → i < length l → getD l i 0 ≡ 0 → zeros (set l i (suc x)) + 1 ≡ zeros l
 unfolding zeros
@@ -59,6 +59,24 @@ blank-end m i l h = record { at = λ k. go k (decLt k i) }
     go : (k : ℕ) → Dec (k < i) → getD m k 0 ≡ 0
     go k (yes y) = h .below k y
     go k (no n) = List·getD-eq-default m 0 {n = k} (omega arith)
+
+-- an array as it is declared
+pub blank-zeros : (n : ℕ) → Blank (replicate n 0)
+blank-zeros n = record { at = at n }
+  where
+    at : (k i : ℕ) → getD {A = ℕ} (replicate k 0) i 0 ≡ 0
+    at zero i = refl
+    at (suc k) zero = refl
+    at (suc k) (suc i) = at k i
+
+pub within-blank : {l : List ℕ} {n : ℕ} → 0 < n → Blank l → Within l n
+within-blank h b = record { at = λ i. omega (arith, b .at i) }
+
+pub within-set : {l : List ℕ} {n : ℕ} (i x : ℕ) → i < length l → x < n → Within l n → Within (set l i x) n
+within-set {l} {n} i x h lt w = record { at = λ j. cases-set (λ y. y < n) l i j x h (λ _. lt) (λ _. w .at j) }
+
+pub within-at : {l : List ℕ} {n n′ : ℕ} → n′ ≡ n → Within l n → Within l n′
+within-at e w = rw e w
 
 pub wide16 : {x : ℕ} → Fits w16 x → Fits w64 x
 wide16 {x} h = record { fits = omega (arith, h .fits) }

@@ -26,6 +26,10 @@ pub record Blank (m : List ℕ) : Type 0 where
 pub record BlankTo (m : List ℕ) (n : ℕ) : Type 0 where
   pub below : (i : ℕ) → i < n → getD m i 0 ≡ 0
 
+-- every element is below n
+pub record Within (l : List ℕ) (n : ℕ) : Type 0 where
+  pub at : (i : ℕ) → getD l i 0 < n
+
 -- n places at most, and room in the queue for each that is not marked
 pub record Room (m q : List ℕ) (count : ℕ) : Type 0 where
   pub len : length q ≡ length m

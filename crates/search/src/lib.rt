@@ -1,7 +1,8 @@
 // The places that are reached from a place, and the lowest of them that is excluded.
 ghost use mathlib.Core.Path.{_≡_};
-ghost use Prim.Native.Nat.{_<_};
-ghost use lib.ListN.{length};
+ghost use mathlib.Core.Logic.{_⊎_};
+ghost use Prim.Native.Nat.{_<_, _≤_};
+ghost use lib.ListN.{length, getD};
 ghost use Rattle.graph.specs.Graph.{Edge};
 ghost use Rattle.graph.specs.Laid.{graphOf, Laid};
 ghost use Rattle.search.specs.Marks.{Marked, Blank, Room, Grown, Queue, Listed};
@@ -42,6 +43,17 @@ fn visit(
     let t = mark(m, q, count, a);
     let b = other[v] as usize;
     mark(m, q, t, b)
+}
+
+// The place that follows v and is to be tried after so many: next, then other.
+pub fn successor(next: &[u16], other: &[u16], tried: u8, v: usize) -> usize
+    requires { ⌜ (v < length (now next)) × (v < length (now other)) × (length (now next) ≤ 16384) × (length (now other) ≤ 16384) ⌝ }
+    ensures { λ r. ⌜ (r ≡ getD (now (next .entry)) v 0) ⊎ (r ≡ getD (now (other .entry)) v 0) ⌝ }
+{
+    if tried == 0 {
+        return next[v] as usize;
+    }
+    other[v] as usize
 }
 
 pub fn clear(m: &mut [u8])

@@ -40,7 +40,3 @@ pub record Swept (g : Graph) (c : ℕ → ℕ) (q d : List ℕ) (t : ℕ) (d′ 
   pub dist : Dist g c d′
   pub count : zeros d′ + r ≡ zeros d
   pub idle : r ≡ 0 → IdleOn g d′ q t
-
--- every element is below n
-pub record Within (l : List ℕ) (n : ℕ) : Type 0 where
-  pub at : (i : ℕ) → getD l i 0 < n

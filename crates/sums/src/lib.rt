@@ -1,11 +1,11 @@
 // The greatest sum of costs from each place to an end, for the places from which every way ends.
+use search::successor;
 ghost use mathlib.Core.Path.{_≡_};
 ghost use Prim.Native.Nat.{_<_, _≤_, max};
-ghost use mathlib.Core.Logic.{_⊎_};
-ghost use lib.ListN.{length, getD};
+ghost use lib.ListN.{length};
 ghost use Rattle.graph.specs.Laid.{graphOf, costOf, Laid, Costs};
-ghost use Rattle.search.specs.Marks.{Blank, Queue};
-ghost use Rattle.sums.specs.Dist.{Dist, IdleOn, Settled, Swept, Within};
+ghost use Rattle.search.specs.Marks.{Blank, Within, Queue};
+ghost use Rattle.sums.specs.Dist.{Dist, IdleOn, Settled, Swept};
 
 fn greater(a: u32, b: u32) -> u32
     ensures { λ r. ⌜ r ≡ max a b ⌝ }
@@ -66,16 +66,6 @@ fn sweep(
         i += 1;
     }
     changed
-}
-
-fn successor(next: &[u16], other: &[u16], tried: u8, v: usize) -> usize
-    requires { ⌜ (v < length (now next)) × (v < length (now other)) × (length (now next) ≤ 16384) × (length (now other) ≤ 16384) ⌝ }
-    ensures { λ r. ⌜ (r ≡ getD (now (next .entry)) v 0) ⊎ (r ≡ getD (now (other .entry)) v 0) ⌝ }
-{
-    if tried == 0 {
-        return next[v] as usize;
-    }
-    other[v] as usize
 }
 
 // Settles v, which the walk from s leaves. Returns the place that v was entered from, or the number of places where the walk is over.

@@ -3,7 +3,8 @@
 use borrow.Author.Needs.{needs}
 use lib.ListN.{length-set}
 use native.Mathlib.Omega.{arith}
-use Rattle.sums.proofs.Sweeps.{within-at, within-set, successor-lt}
+use Rattle.graph.proofs.Reach.{successor-lt}
+use Rattle.search.proofs.Zeros.{within-at, within-set}
 use Rattle.sums.proofs.go_deep.Statement.{statement}
 use Rattle.sums.proofs.go_deep.Tie as tie
 

@@ -9,7 +9,7 @@ use Rattle.graph.proofs.Reach.{laid-at, costs-at}
 use Rattle.graph.specs.Laid.{graphOf, costOf, Laid, Costs}
 use Rattle.search.specs.Marks.{zeros, Queue}
 use Rattle.sums.proofs.Settling.{dist-blank}
-use Rattle.sums.proofs.Sweeps.{within-blank}
+use Rattle.search.proofs.Zeros.{within-blank}
 use Rattle.search.proofs.Grown.{queue-at}
 use Rattle.sums.specs.Dist.{Dist, IdleOn}
 use Rattle.sums.proofs.sums.Statement.{statement}

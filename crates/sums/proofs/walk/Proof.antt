@@ -6,7 +6,8 @@ use mathlib.Core.Path.{_≡_, refl, _∙_}
 use native.Mathlib.Omega.{arith}
 use Rattle.graph.proofs.Reach.{laid-at, costs-at}
 use Rattle.graph.specs.Laid.{graphOf, costOf, Laid, Costs}
-use Rattle.sums.specs.Dist.{Dist, Within}
+use Rattle.search.specs.Marks.{Within}
+use Rattle.sums.specs.Dist.{Dist}
 use Rattle.sums.proofs.walk.Statement.{statement}
 use Rattle.sums.proofs.walk.Tie as tie
 

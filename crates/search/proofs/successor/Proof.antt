@@ -1,11 +1,11 @@
--- `sums::successor` meets its contract.
+-- `search::successor` meets its contract.
 -- Assumes nothing.
 use borrow.Author.Needs.{needs}
 use mathlib.Core.Logic.{inl, inr}
 use mathlib.Core.Path.{refl}
 use Rattle.search.proofs.Zeros.{wide16}
-use Rattle.sums.proofs.successor.Statement.{statement}
-use Rattle.sums.proofs.successor.Tie as tie
+use Rattle.search.proofs.successor.Statement.{statement}
+use Rattle.search.proofs.successor.Tie as tie
 
 mul-result : tie.Need-mul-result
 mul-result c = search needs
