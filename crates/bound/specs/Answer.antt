@@ -9,6 +9,7 @@ use Rattle.sheet.specs.Reading.{romOf}
 use Rattle.graph.specs.Graph.{Least, Bad, Loops}
 use Rattle.flow.specs.Flow.{addressOf, flowGraph, startOf}
 use Rattle.flow.specs.Bound.{HasBound}
+use Rattle.longest.specs.declared.Found.{Found}
 use Rattle.bound.specs.declared.Bounded.{Bounded}
 
 -- document 01's number and value for each case of the answer
@@ -19,6 +20,13 @@ paperOf (Bounded.Excluded address) = refusedWith excluded-instruction-reachable 
 paperOf (Bounded.Repeats address) = refusedWith repetition-reachable address
 paperOf (Bounded.Short bytes) = refusedWith path-buffer-too-short bytes
 paperOf (Bounded.Longest cycles) = answered (cycles ∷ [])
+
+-- a place of the graph is answered by its address
+abbrev pub answerOf : Found → Bounded
+answerOf (Found.Excluded v) = Bounded.Excluded (addressOf v)
+answerOf (Found.Repeats v) = Bounded.Repeats (addressOf v)
+answerOf (Found.Short bytes) = Bounded.Short bytes
+answerOf (Found.Longest cycles) = Bounded.Longest cycles
 
 -- the lowest address of a place with P
 abbrev pub LowestAddress : (ℕ → Type 0) → ℕ → Type 0

@@ -1,4 +1,17 @@
 // The handler bound: the most cycles that any path of the flow rules takes from an address to RTI, and the path.
+use explore::explore;
+use longest::Found;
+use longest::longest;
+ghost use mathlib.Core.Path.{_≡_};
+ghost use Prim.Native.Nat.{_<_};
+ghost use lib.ListN.{length};
+ghost use Rattle.sheet.specs.Reading.{romOf};
+ghost use Rattle.search.specs.Marks.{Blank};
+ghost use Rattle.flow.specs.Flow.{flowGraph, flowCost};
+ghost use Rattle.explore.specs.Explored.{Empty};
+ghost use Rattle.longest.specs.Means.{Means};
+ghost use Rattle.bound.specs.Answer.{answerOf, paperOf, BoundAnswer};
+
 // What the call answers; specs/Answer.antt gives document 01's number and value for each.
 pub enum Bounded {
     ImageSize,
@@ -7,4 +20,66 @@ pub enum Bounded {
     Repeats(usize),
     Short(usize),
     Longest(usize),
+}
+
+// The bound from a place, with empty arrays lent to lay the graph in.
+fn bound_in(
+    image: &[u8],
+    s: usize,
+    path: &mut [u8],
+    kind: &mut [u8],
+    next: &mut [u16],
+    other: &mut [u16],
+    cost: &mut [u32],
+    marks: &mut [u8],
+    queue: &mut [u16],
+) -> Found
+    requires { ⌜ (length (now image) ≡ 8192) × (s < 16384) × Empty (now kind) (now next) (now other) (now cost) × Blank (now marks) × (length (now marks) ≡ 16384) × (length (now queue) ≡ 16384) ⌝ }
+    ensures { λ r. ⌜ Means (flowGraph (romOf (now (image .entry)))) (flowCost (romOf (now (image .entry)))) s (now (path .entry)) (now (path .exit)) r ⌝ }
+{
+    let count = explore(image, s, kind, next, other, cost, marks, queue);
+    longest(kind, next, other, cost, s, marks, queue, count, path)
+}
+
+// A place is named by its address.
+fn answer(found: Found) -> Bounded
+    ensures { λ r. ⌜ r ≡ answerOf found ⌝ }
+{
+    match found {
+        Found::Excluded(v) => Bounded::Excluded(v / 2),
+        Found::Repeats(v) => Bounded::Repeats(v / 2),
+        Found::Short(bytes) => Bounded::Short(bytes),
+        Found::Longest(cycles) => Bounded::Longest(cycles),
+    }
+}
+
+// The public bound.
+pub fn bound(image: &[u8], address: u32, path: &mut [u8]) -> Bounded
+    ensures { λ r. ⌜ BoundAnswer (now (image .entry)) address (now (path .entry)) (now (path .exit)) (paperOf r) ⌝ }
+{
+    if image.len() != 8192 {
+        return Bounded::ImageSize;
+    }
+    if 8191 < address {
+        return Bounded::AddressRange;
+    }
+    let start = 2 * address as usize + 1;
+    let mut kind = [0u8; 16384];
+    let mut next = [0u16; 16384];
+    let mut other = [0u16; 16384];
+    let mut cost = [0u32; 16384];
+    let mut marks = [0u8; 16384];
+    let mut queue = [0u16; 16384];
+    let found = bound_in(
+        image,
+        start,
+        path,
+        &mut kind,
+        &mut next,
+        &mut other,
+        &mut cost,
+        &mut marks,
+        &mut queue,
+    );
+    answer(found)
 }

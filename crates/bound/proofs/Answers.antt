@@ -1,0 +1,42 @@
+-- From what the search of the graph says to what the call answers.
+-- Assumes nothing.
+use mathlib.Core.Path.{_≡_, refl, sym, ap₂, _∙_}
+use mathlib.Core.List.{List, [], _∷_, _++_}
+use Prim.Native.Nat.{ℕ, _*_, _/_, _%_}
+use native.Mathlib.Omega.{arith}
+use lib.ListN.{length, drop}
+use Rattle.graph.specs.Laid.{graphOf, costOf}
+use Rattle.graph.proofs.Agree.{Agree}
+use Rattle.graph.proofs.Unique.{least-address}
+use Rattle.route.specs.Route.{encode}
+use Rattle.longest.specs.Means.{Means}
+use Rattle.longest.specs.declared.Found.{Found}
+use Rattle.flow.specs.Flow.{flowGraph, flowCost, startOf}
+use Rattle.explore.specs.Explored.{Explored}
+use Rattle.bound.specs.Answer.{answerOf, paperOf, addressBytes, FlowAnswer, gives-21, gives-22, gives-23, gives-N}
+
+-- what was laid is the flow graph, as far as it is reached
+pub explored-agrees : {rom : ℕ → ℕ} {s count : ℕ} {k nx o c m q : List ℕ} → Explored rom s k nx o c m q count → Agree (graphOf k nx o) (flowGraph rom) (costOf c) (flowCost rom) s
+unfolding flowGraph flowCost graphOf costOf
+explored-agrees x =
+    record {
+      kind = λ v r. x .holds v (x .reached .complete v r) .kind;
+      next = λ v r on. x .holds v (x .reached .complete v r) .next;
+      other = λ v r on. x .holds v (x .reached .complete v r) .other;
+      cost = λ v r in-it. x .holds v (x .reached .complete v r) .cost;
+    }
+
+-- the labels of places are their addresses
+encoded : (l : List ℕ) → encode l ≡ addressBytes l
+unfolding encode addressBytes
+encoded [] = refl
+encoded (v ∷ l) =
+    let high : v / 512 % 256 ≡ v / 2 / 256 % 256 = omega arith in
+    ap₂ (λ (h : ℕ) (t : List ℕ). v / 2 % 256 ∷ h ∷ t) high (encoded l)
+
+pub answers : (rom : ℕ → ℕ) (start : ℕ) (p p′ : List ℕ) (found : Found) → Means (flowGraph rom) (flowCost rom) (startOf start) p p′ found → FlowAnswer rom start p p′ (paperOf (answerOf found))
+unfolding Means
+answers rom start p p′ (Found.Excluded v) m = gives-21 (least-address (m .lowest)) (m .kept)
+answers rom start p p′ (Found.Repeats v) m = gives-22 (m .no-bad) (least-address (m .lowest)) (m .kept)
+answers rom start p p′ (Found.Short n) m = rw (m .needs) (gives-23 (record { sound = m .sound; longest = m .longest; sum = refl }) (rw (m .needs) at (m .short)) (m .kept))
+answers rom start p p′ (Found.Longest n) m = gives-N (record { sound = m .sound; longest = m .longest; sum = m .total }) (m .room) (rw (encoded (m .path)) at (m .bytes))
