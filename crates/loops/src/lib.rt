@@ -1,4 +1,5 @@
 // The lowest of the places that are reached from a place that is reached from itself.
+use components::components;
 use search::reach;
 ghost use mathlib.Core.Path.{_≡_};
 ghost use Prim.Native.Nat.{_<_};
@@ -142,9 +143,10 @@ fn find(
 ) -> usize
     requires { ⌜ Laid (now kind) (now next) (now other) (length (now marks)) × (s < length (now marks))
         × Reached (graphOf (now kind) (now next) (now other)) s (now marks) × Listed (now marks) (now queue) count
-        × (length (now rank) ≡ length (now marks)) × (length (now m) ≡ length (now marks)) × (length (now q) ≡ length (now marks)) ⌝ }
+        × (length (now rank) ≡ length (now marks)) × (length (now m) ≡ length (now marks)) × (length (now q) ≡ length (now marks)) × (length (now marks) ≡ 16384) ⌝ }
     ensures { λ r. ⌜ Scan (λ v. Marked (now (marks .entry)) v × ReachPlus (graphOf (now (kind .entry)) (now (next .entry)) (now (other .entry))) v v) (length (now (marks .entry))) r ⌝ }
 {
+    components(kind, next, other, s, rank);
     let steady = never_rises(kind, next, other, rank, queue, count);
     scan(kind, next, other, marks, rank, steady, m, q)
 }

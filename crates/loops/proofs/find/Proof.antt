@@ -1,18 +1,22 @@
--- `loops::find` meets its contract.
+-- `loops::find` meets its contract: whatever the ranks are, they rule a place out only where none rises.
 -- Assumes nothing.
 use borrow.Author.Needs.{needs}
 use mathlib.Core.Path.{_∙_, sym}
+use native.Mathlib.Omega.{arith}
 use Rattle.graph.proofs.Reach.{laid-at}
 use Rattle.loops.proofs.Ranks.{steady-of}
 use Rattle.search.proofs.Grown.{listed-queue, queue-at}
 use Rattle.loops.proofs.find.Statement.{statement}
 use Rattle.loops.proofs.find.Tie as tie
 
+components-requires : tie.Need-components-requires
+components-requires c κs = (laid-at (sym (c .before .before .before .before .before .before .before .before .before .pre .7)) (c .before .before .before .before .before .before .before .before .before .pre .0), omega (arith, c .before .before .before .before .before .before .before .before .before .pre .1, c .before .before .before .before .before .before .before .before .before .pre .7), c .before .before .before .before .before .before .before .before .before .pre .4 ∙ c .before .before .before .before .before .before .before .before .before .pre .7)
+
 never-rises-requires : tie.Need-never-rises-requires
-never-rises-requires c κs = (laid-at (c .before .before .before .before .before .before .before .before .before .pre .4) (c .before .before .before .before .before .before .before .before .before .pre .0), queue-at (c .before .before .before .before .before .before .before .before .before .pre .4) (listed-queue (c .before .before .before .before .before .before .before .before .before .pre .3) (c .before .before .before .before .before .before .before .before .before .pre .0 .small)))
+never-rises-requires c κs = (laid-at (c .before .before .before .components .kept .1 .1 .1 .1 .0 ∙ c .before .before .before .before .before .before .before .before .before .before .before .before .before .pre .4) (c .before .before .before .before .before .before .before .before .before .before .before .before .before .pre .0), queue-at (c .before .before .before .components .kept .1 .1 .1 .1 .0 ∙ c .before .before .before .before .before .before .before .before .before .before .before .before .before .pre .4) (listed-queue (c .before .before .before .before .before .before .before .before .before .before .before .before .before .pre .3) (c .before .before .before .before .before .before .before .before .before .before .before .before .before .pre .0 .small)))
 
 scan-requires : tie.Need-scan-requires
-scan-requires c κs = (laid-at (c .before .before .before .before .before .before .before .before .before .before .before .before .before .pre .5) (c .before .before .before .before .before .before .before .before .before .before .before .before .before .pre .0), c .before .before .before .before .before .before .before .before .before .before .before .before .before .pre .6 ∙ sym (c .before .before .before .before .before .before .before .before .before .before .before .before .before .pre .5), sym (c .before .before .before .before .before .before .before .before .before .before .before .before .before .pre .5), c .before .before .before .before .before .before .before .before .before .before .before .before .before .pre .4 ∙ sym (c .before .before .before .before .before .before .before .before .before .before .before .before .before .pre .5), λ h. steady-of (c .before .before .before .before .before .before .before .before .before .before .before .before .before .pre .2) (c .before .before .before .before .before .before .before .before .before .before .before .before .before .pre .3) (c .before .before .before .never-rises .ensures h))
+scan-requires c κs = (laid-at (c .before .before .before .before .before .before .before .before .before .before .before .before .before .before .before .before .before .pre .5) (c .before .before .before .before .before .before .before .before .before .before .before .before .before .before .before .before .before .pre .0), c .before .before .before .before .before .before .before .before .before .before .before .before .before .before .before .before .before .pre .6 ∙ sym (c .before .before .before .before .before .before .before .before .before .before .before .before .before .before .before .before .before .pre .5), sym (c .before .before .before .before .before .before .before .before .before .before .before .before .before .before .before .before .before .pre .5), c .before .before .before .before .before .before .before .components .kept .1 .1 .1 .1 .0 ∙ c .before .before .before .before .before .before .before .before .before .before .before .before .before .before .before .before .before .pre .4 ∙ sym (c .before .before .before .before .before .before .before .before .before .before .before .before .before .before .before .before .before .pre .5), λ h. steady-of (c .before .before .before .before .before .before .before .before .before .before .before .before .before .before .before .before .before .pre .2) (c .before .before .before .before .before .before .before .before .before .before .before .before .before .before .before .before .before .pre .3) (c .before .before .before .never-rises .ensures h))
 
 same-length : tie.Need-same-length
 same-length c = search needs
@@ -29,4 +33,4 @@ returns c = search needs
 pub find-spec : {M : Type 1} → statement M
 find-spec =
     tie.close
-    (tie.spec never-rises-requires scan-requires same-length same-length-2 same-length-3 returns)
+    (tie.spec components-requires never-rises-requires scan-requires same-length same-length-2 same-length-3 returns)

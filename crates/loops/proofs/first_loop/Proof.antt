@@ -17,7 +17,7 @@ slice-aggregate-find-3 : tie.Need-slice-aggregate-find-3
 slice-aggregate-find-3 c = search needs
 
 find-requires : tie.Need-find-requires
-find-requires c κs = (laid-at (c .before .before .before .before .before .before .before .before .pre .2) (c .before .before .before .before .before .before .before .before .pre .0), omega (arith, c .before .before .before .before .before .before .before .before .pre .1, c .before .before .before .before .before .before .before .before .pre .2), c .before .before .before .before .before .before .before .before .pre .3, c .before .before .before .before .before .before .before .before .pre .4, sym (c .before .before .before .before .before .before .before .before .pre .2), sym (c .before .before .before .before .before .before .before .before .pre .2), sym (c .before .before .before .before .before .before .before .before .pre .2))
+find-requires c κs = (laid-at (c .before .before .before .before .before .before .before .before .pre .2) (c .before .before .before .before .before .before .before .before .pre .0), omega (arith, c .before .before .before .before .before .before .before .before .pre .1, c .before .before .before .before .before .before .before .before .pre .2), c .before .before .before .before .before .before .before .before .pre .3, c .before .before .before .before .before .before .before .before .pre .4, sym (c .before .before .before .before .before .before .before .before .pre .2), sym (c .before .before .before .before .before .before .before .before .pre .2), sym (c .before .before .before .before .before .before .before .before .pre .2), c .before .before .before .before .before .before .before .before .pre .2)
 
 returns : tie.Need-returns
 returns c = rw (c .before .before .before .before .before .before .before .before .before .before .before .before .pre .2) at (c .before .before .before .find .ensures)
