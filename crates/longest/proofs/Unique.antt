@@ -7,7 +7,8 @@ use native.Mathlib.Omega.{arith}
 use lib.ListN.{length, drop}
 use Rattle.graph.specs.Graph.{Graph, here, sum}
 use Rattle.graph.proofs.Unique.{least-unique, longest-path, longest-unique}
-use Rattle.graph.proofs.Agree.{Agree, longest-to, sum-same, bad-to, agree-sym, least-bad-to, least-loop-to, sound-to}
+use Rattle.graph.proofs.Agree.{Agree, reach-to, longest-to, sum-same, bad-to, agree-sym, least-bad-to, least-loop-to, sound-to}
+use Rattle.search.specs.Search.{Reached}
 use Rattle.route.specs.Route.{encode}
 use Rattle.longest.specs.Means.{Means}
 use Rattle.longest.specs.declared.Found.{Found}
@@ -39,6 +40,10 @@ module _ (g : Graph) (c : ℕ → ℕ) (s : ℕ) (p : List ℕ) where
       )
 
 module _ {g g′ : Graph} {c c′ : ℕ → ℕ} {s : ℕ} (a : Agree g g′ c c′ s) where
+  -- the marks of a search of one are marks of the other
+  pub reached-to : {m : List ℕ} → Reached g s m → Reached g′ s m
+  reached-to r = record { sound = λ v h. reach-to a (r .sound v h); complete = λ v h. r .complete v (reach-to (agree-sym a) h) }
+
   pub means-to : (p p′ : List ℕ) (r : Found) → Means g c s p p′ r → Means g′ c′ s p p′ r
   unfolding Means
   means-to p p′ (Excluded v) m = record { lowest = least-bad-to a (m .lowest); kept = m .kept }
