@@ -31,7 +31,7 @@ pub record Good (x : Node) : Type 0 where
   pub le : x .cost ≤ 3
 
 -- a row takes one cycle to three
-cycles-of : (row : ℕ) → 0 < row → row < 108 → T (both (leb 1 (lineAt row .cycles)) (leb (lineAt row .cycles) 3))
+pub cycles-of : (row : ℕ) → 0 < row → row < 108 → T (both (leb 1 (lineAt row .cycles)) (leb (lineAt row .cycles) 3))
 unfolding lineAt lines
 cycles-of row s h = modus (leb 1 row) _ (at (λ row. implies (leb 1 row) (both (leb 1 (lineAt row .cycles)) (leb (lineAt row .cycles) 3))) 108 tt row h) (le→leb 1 row s)
 

@@ -3,6 +3,8 @@
 use Prim.Native.Nat.{ℕ, _-_}
 use mathlib.Core.List.{List, [], _∷_, _++_}
 use lib.ListN.{length}
+use Rattle.sheet.specs.Reading.{readAt, cyclesOf}
+use Rattle.sheet.specs.declared.Read.{Read}
 use Rattle.text.specs.Digits.{characters, hex, inBase, decimal, blanks}
 use Rattle.text.specs.Listing.{columnsOf}
 use Rattle.bound.specs.declared.Bounded.{Bounded}
@@ -29,3 +31,11 @@ aligned n text = blanks (n - length text) ++ text
 
 abbrev pub pathLineOf : (ℕ → ℕ) → ℕ → ℕ → List ℕ
 pathLineOf rom at total = columnsOf rom at ++ (characters " " ++ (aligned 5 (decimal total) ++ (10 ∷ [])))
+
+-- the cycles of the row at an address, 0 where there is none
+abbrev pub cyclesRead : Read → ℕ
+cyclesRead (Read.Row i) = cyclesOf (i .row)
+cyclesRead Read.Unassigned = 0
+
+abbrev pub cyclesAt : (ℕ → ℕ) → ℕ → ℕ
+cyclesAt rom at = cyclesRead (readAt rom at)

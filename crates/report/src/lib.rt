@@ -1,5 +1,7 @@
 // What the bounder says, as characters in a buffer: each function answers the place after what it wrote.
 use bound::Bounded;
+use reader::read_at;
+use sheet::Read;
 use text::digits::blanks;
 use text::digits::decimal;
 use text::digits::number;
@@ -13,7 +15,7 @@ ghost use lib.ListN.{length, getD};
 ghost use Rattle.laws.specs.Writing.{Wrote};
 ghost use Rattle.sheet.specs.Reading.{romOf};
 ghost use Rattle.bound.specs.Answer.{paperOf};
-ghost use Rattle.report.specs.Report.{refusedText, refusedAt, summaryOf, pathLineOf};
+ghost use Rattle.report.specs.Report.{refusedText, refusedAt, summaryOf, pathLineOf, cyclesAt};
 
 fn refused(out: &mut [u8], from: usize, n: u32) -> usize
     requires { ⌜ from + 10 ≤ length (now out) ⌝ }
@@ -69,4 +71,16 @@ pub fn path_line(out: &mut [u8], from: usize, image: &[u8], at: u16, total: u32)
     let start = blanks(out, gap, shift);
     let last = decimal(out, start, total);
     put(out, last, b'\n')
+}
+
+// The cycles of the row at an address, 0 where there is none.
+pub fn cycles_at(image: &[u8], at: u16) -> u32
+    requires { ⌜ (length (now image) ≡ 8192) × (at < 8192) ⌝ }
+    ensures { λ r. ⌜ (r ≡ cyclesAt (romOf (now (image .entry))) at) × (r ≤ 3) ⌝ }
+{
+    let Read::Row(_) = read_at(image, at) else {
+        return 0;
+    };
+    let cost = sheet::timing(image[at as usize]);
+    cost.cycles as u32
 }
