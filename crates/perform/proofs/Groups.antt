@@ -1,35 +1,18 @@
--- The table of groups puts each row of the sheet into a group that has it, with its operands below the group's limits; and a number of a group that is no other's.
+-- The words of groups put each row of the sheet into a group that has it, with its operands below the group's limits; and a number of a group that is no other's.
 -- Assumes nothing.
-use mathlib.Core.Path.{_≡_, sym, subst}
+use mathlib.Core.Path.{_≡_, sym, ap, subst, _∙_}
 use mathlib.Core.Bool.{Bool}
-use mathlib.Core.List.{List, [], _∷_}
-use Prim.Native.Nat.{ℕ, suc, _+_, _-_, _<_, _≤_}
+use mathlib.Core.List.{List}
+use Prim.Native.Nat.{ℕ, _+_, _*_, _/_, _%_, _^_, _<_, _≤_}
 use native.Mathlib.Omega.{arith}
 use lib.Dec.{T, eqb, eqb→eq, leb, leb→le, le→leb}
-use lib.ListN.{getD}
 use Rattle.laws.specs.Among.{among}
-use Rattle.laws.specs.Choice.{pick, both}
-use Rattle.laws.proofs.Computed.{listed, listed-at, below, implies, at, modus, both-left, both-right, T→true, NoKey, out, rest-at}
+use Rattle.laws.specs.Choice.{both}
+use Rattle.laws.proofs.Computed.{below, implies, at, modus, both-left, both-right, T→true, NoKey, out, rest-at}
 use Rattle.sheet.specs.Fields.{fieldA, fieldB, InFields}
 use Rattle.sheet.specs.Table.{lines, lineAt}
 use Rattle.sheet.specs.declared.Insn.{Insn}
-use Rattle.perform.specs.Groups.{groups, rowsOf, limitA, limitB, InGroup}
-
--- the first group that has a row
-abbrev groupFrom : ℕ → List (List ℕ) → ℕ → ℕ
-groupFrom g [] row = g
-groupFrom g (rows ∷ others) row = pick (among rows row) g (groupFrom (suc g) others row)
-
-abbrev pub groupOf : ℕ → ℕ
-groupOf row = groupFrom 0 groups row
-
--- the code's table: `a` is group 0
-unfoldable pub letters : List ℕ
-letters = listed (λ row. 97 + groupOf row) 0 108
-
-pub letter-of : (row : ℕ) → row < 108 → getD letters row 0 ≡ 97 + groupOf row
-unfolding letters
-letter-of row h = listed-at (λ row. 97 + groupOf row) 108 row h
+use Rattle.perform.specs.Groups.{rowsOf, groupOf, limitA, limitB, InGroup, Packs}
 
 -- what is tested of each row but row 0, which is none
 abbrev belongs : ℕ → ℕ → Bool
@@ -64,7 +47,17 @@ sorted-by i h =
     (at (λ row. implies (leb 1 row) (belongs row (groupOf row))) 108 all-belong (i .row) (h .row))
     (le→leb 1 (i .row) (h .some)))
 
-pub by-letter : (i : Insn) (letter : ℕ) → InFields i → letter ≡ getD letters (i .row) 0 → InGroup (letter - 97) i
-by-letter i letter h e =
-    let f : letter - 97 ≡ groupOf (i .row) = rw (e, letter-of (i .row) (h .row)) (omega arith) in
-    subst (λ (g : ℕ). InGroup g i) (sym f) (sorted-by i h)
+-- eight groups in a word, by one test
+packed : (n w : ℕ) → T (below 8 (λ k. eqb (w / 2 ^ (8 * k) % 256) (groupOf (8 * n + k)))) → Packs n w
+packed n w t =
+    record { same = λ k h. eqb→eq (w / 2 ^ (8 * k) % 256) (groupOf (8 * n + k)) (at (λ k. eqb (w / 2 ^ (8 * k) % 256) (groupOf (8 * n + k))) 8 t k h) }
+
+pub packed-at : (k n w : ℕ) → n ≡ k → T (below 8 (λ j. eqb (w / 2 ^ (8 * j) % 256) (groupOf (8 * k + j)))) → Packs n w
+packed-at k n w e t = subst (λ (n : ℕ). Packs n w) (sym e) (packed k w t)
+
+-- a row's byte of the word is its group
+pub unpacked : (i : Insn) (w : ℕ) → InFields i → Packs (i .row / 8) w → InGroup (w / 2 ^ (8 * (i .row % 8)) % 256) i
+unpacked i w h p =
+    let row : 8 * (i .row / 8) + i .row % 8 ≡ i .row = omega arith in
+    let same : w / 2 ^ (8 * (i .row % 8)) % 256 ≡ groupOf (i .row) = p .same (i .row % 8) (omega arith) ∙ ap groupOf row in
+    subst (λ (g : ℕ). InGroup g i) (sym same) (sorted-by i h)

@@ -1,11 +1,12 @@
 -- Which function executes a row: its group's, by number.
 -- Assumes nothing.
-use Prim.Native.Nat.{ℕ, _<_}
+use Prim.Native.Nat.{ℕ, suc, _+_, _*_, _/_, _%_, _^_, _<_}
 use mathlib.Core.Bool.{true}
 use mathlib.Core.List.{List, [], _∷_}
 use mathlib.Core.Path.{_≡_}
 use lib.ListN.{getD}
 use Rattle.laws.specs.Among.{among}
+use Rattle.laws.specs.Choice.{pick}
 use Rattle.sheet.specs.declared.Insn.{Insn}
 use Rattle.near.specs.Groups as near
 use Rattle.cells.specs.Groups as cells
@@ -41,6 +42,14 @@ groups =
 abbrev pub rowsOf : ℕ → List ℕ
 rowsOf g = getD groups g []
 
+-- the first group that has a row
+abbrev groupFrom : ℕ → List (List ℕ) → ℕ → ℕ
+groupFrom g [] row = g
+groupFrom g (rows ∷ others) row = pick (among rows row) g (groupFrom (suc g) others row)
+
+abbrev pub groupOf : ℕ → ℕ
+groupOf row = groupFrom 0 groups row
+
 -- what the operands of a group's rows stay below
 abbrev pub limitA : ℕ → ℕ
 limitA g =
@@ -56,3 +65,7 @@ pub record InGroup (g : ℕ) (i : Insn) : Type 0 where
   pub a : i .a < limitA g
   pub b : i .b < limitB
   pub few : g < 25
+
+-- the groups of the eight rows from row 8n on, a byte a row from the lowest up
+pub record Packs (n w : ℕ) : Type 0 where
+  pub same : (k : ℕ) → k < 8 → w / 2 ^ (8 * k) % 256 ≡ groupOf (8 * n + k)

@@ -14,35 +14,42 @@ use sheet::Insn;
 use turns::Turn;
 ghost use mathlib.Core.Path.{_≡_};
 ghost use lib.ListN.{length};
+ghost use Prim.Native.Nat.{_<_};
 ghost use Rattle.sheet.specs.Fields.{InFields};
 ghost use Rattle.sheet.specs.Reading.{romOf};
-ghost use Rattle.perform.specs.Groups.{InGroup};
+ghost use Rattle.perform.specs.Groups.{InGroup, Packs};
 ghost use Rattle.perform.specs.Performs.{Ready, Performs, turnOf, turnBy};
 
-// By a row's number, a letter a row and a line for each section of the sheet: its group, of which `a` is group 0. Row 0 is none.
-const GROUPS: [u8; 108] = *b"\
-    z\
-    hgqrajaalkkkmkaa\
-    bb\
-    gmbgbbkbbkbbkbgk\
-    bgkbgkg\
-    laakn\
-    ddd\
-    ihgccc\
-    kvvmkvvmicgwwiw\
-    uut\
-    wxvvy\
-    ccc\
-    sssst\
-    c\
-    eeeeffffffoooopppppp";
+// The groups of the eight rows from row 8n on, a byte a row from the lowest up, and 25 for what is no row. They are found by a match: an array that is indexed is stored to the stack at each use.
+fn groups_from(n: u8) -> u64
+    requires { ⌜ n < 14 ⌝ }
+    ensures { λ w. ⌜ Packs n w ⌝ }
+{
+    match n {
+        0 => 0x00_09_00_11_10_06_07_19,
+        1 => 0x00_0A_0C_0A_0A_0A_0B_00,
+        2 => 0x01_06_01_0C_06_01_01_00,
+        3 => 0x0A_01_01_0A_01_01_0A_01,
+        4 => 0x06_01_0A_06_01_0A_06_01,
+        5 => 0x03_0D_0A_00_00_0B_06_0A,
+        6 => 0x02_02_02_06_07_08_03_03,
+        7 => 0x0C_15_15_0A_0C_15_15_0A,
+        8 => 0x14_16_08_16_16_06_02_08,
+        9 => 0x02_18_15_15_17_16_13_14,
+        10 => 0x02_13_12_12_12_12_02_02,
+        11 => 0x05_05_05_05_04_04_04_04,
+        12 => 0x0F_0F_0E_0E_0E_0E_05_05,
+        _ => 0x19_19_19_19_0F_0F_0F_0F,
+    }
+}
 
 fn group_of(i: Insn) -> u8
     requires { ⌜ InFields i ⌝ }
     ensures { λ g. ⌜ InGroup g i ⌝ }
 {
-    let at = i.row as usize;
-    GROUPS[at] - 97
+    let eight = groups_from(i.row / 8);
+    let at = 8 * (i.row % 8);
+    ((eight >> at) % 256) as u8
 }
 
 // The scalars with what a row changed of them.

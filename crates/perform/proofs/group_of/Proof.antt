@@ -1,25 +1,28 @@
 -- `perform::group_of` meets its contract.
 -- Assumes nothing.
-use mathlib.Core.Path.{refl}
 use native.Mathlib.Omega.{arith}
 use borrow.Author.Needs.{needs}
-use Rattle.perform.proofs.Groups.{letters, letter-of, by-letter}
+use Rattle.perform.proofs.Groups.{unpacked}
 use Rattle.perform.proofs.group_of.Statement.{statement}
 use Rattle.perform.proofs.group_of.Tie as tie
 
-cast-at : tie.Need-cast-at
-cast-at c = search needs
+groups-from-requires : tie.Need-groups-from-requires
+groups-from-requires c κs = omega (arith, c .before .pre .row)
 
-array-read-result : tie.Need-array-read-result
-array-read-result c = search needs
+mul-at : tie.Need-mul-at
+mul-at c = search needs
 
-sub-result : tie.Need-sub-result
-unfolding letters
-sub-result c = rw (letter-of (c .before .args .i .row) (c .before .pre .row)) (omega arith)
+cast-result : tie.Need-cast-result
+cast-result c = search needs
+
+shr-result : tie.Need-shr-result
+shr-result c = omega arith
+
+cast-result-2 : tie.Need-cast-result-2
+cast-result-2 c = omega arith
 
 returns : tie.Need-returns
-unfolding letters
-returns c = by-letter _ _ (c .before .pre) refl
+returns c = unpacked _ _ (c .before .before .before .pre) (c .before .groups-from .ensures)
 
 pub group-of-spec : {M : Type 1} → statement M
-group-of-spec = tie.close (tie.spec cast-at array-read-result sub-result returns)
+group-of-spec = tie.close (tie.spec groups-from-requires mul-at cast-result shr-result cast-result-2 returns)
