@@ -50,7 +50,7 @@ unfolding edgesCounted
 counted-in-range m new i t =
     events-in-range (m .ports .p28) (m .ports .p29) (rose (m .pins .p8) (new .p8) 8) (rose (m .pins .p8) (new .p8) 2) (edgesTimed m new) (edges-in-range m new i t)
 
-seen-valid : (m : Core) (new : Pins) → ValidCore m → PinsInRange new → ValidCore (seen m new)
+pub seen-valid : (m : Core) (new : Pins) → ValidCore m → PinsInRange new → ValidCore (seen m new)
 seen-valid m new v p =
     let t = edgesCounted m new in
     showing-valid (withTime m t) (m .mode) new (with-time-valid m t v (counted-in-range m new (v .ints) (v .timers))) (v .mode) p
@@ -75,11 +75,11 @@ unfolding looked
 looked-running enabled m new e = rw e
 
 -- one that waits does not, so that what acts was running, and is running still
-waited-rests : (enabled : ℕ) (m : Core) (new : Pins) → waited enabled m new .acts ≡ false
+pub waited-rests : (enabled : ℕ) (m : Core) (new : Pins) → waited enabled m new .acts ≡ false
 unfolding waited
 waited-rests enabled m new = either-way (λ (l : Looked). l .acts ≡ false) (wakes enabled (m .pins) new) _ _ refl refl
 
-running-is : (mode : Mode) → isRunning mode ≡ true → mode ≡ Mode.Running
+pub running-is : (mode : Mode) → isRunning mode ≡ true → mode ≡ Mode.Running
 running-is Mode.Running e = refl
 running-is Mode.Sleep e = absurd (true→T e)
 running-is Mode.Hold e = absurd (true→T e)

@@ -12,7 +12,7 @@ ghost use Prim.Native.Nat.{_+_, _<_};
 ghost use Rattle.clock.specs.Clock.{latched};
 ghost use Rattle.ports.specs.declared.Mode.{Mode};
 ghost use Rattle.machine.specs.Valid.{ValidInterrupts, ValidTimers};
-ghost use Rattle.look.specs.Look.{edgesCounted, isRunning, edgesLatched, edgesTimed, showing, seen, wakingCycles, waited, looked};
+ghost use Rattle.look.specs.Look.{edgesCounted, isRunning, edgesLatched, edgesTimed, showing, seen, wakingCycles, waited};
 
 // The scalars then, whether the step goes on to act, and the cycles of one that does not.
 pub struct Looked {
@@ -57,19 +57,11 @@ fn edges_timed(m: Core, new: Pins) -> Time
     }
 }
 
-// "A rising edge on P8.3 (P8.1) adds one to TA (TB) in event mode." Most frames leave P8 as it was: no edge then.
+// "A rising edge on P8.3 (P8.1) adds one to TA (TB) in event mode."
 fn counted(m: Core, new: Pins) -> Time
     requires { ⌜ (ValidInterrupts (m .ints)) × (ValidTimers (m .timers)) ⌝ }
     ensures { λ r. ⌜ r ≡ edgesCounted m new ⌝ }
 {
-    if new.p8 == m.pins.p8 {
-        return Time {
-            base: m.timers.base,
-            ta: m.timers.ta,
-            tb: m.timers.tb,
-            il: m.ints.il,
-        };
-    }
     let rose_a = rose(m.pins.p8, new.p8, 8);
     let rose_b = rose(m.pins.p8, new.p8, 2);
     events(
@@ -81,10 +73,16 @@ fn counted(m: Core, new: Pins) -> Time
     )
 }
 
-fn seen(m: Core, new: Pins) -> Core
+// What a running record sees. Most frames leave P8 as it was: no edge then.
+pub fn seen(m: Core, new: Pins) -> Core
     requires { ⌜ (ValidInterrupts (m .ints)) × (ValidTimers (m .timers)) ⌝ }
     ensures { λ r. ⌜ r ≡ seen m new ⌝ }
 {
+    if new.p8 == m.pins.p8 {
+        let mut still = m;
+        still.pins = new;
+        return still;
+    }
     let t = counted(m, new);
     let mut after = m;
     after.pins = new;
@@ -131,7 +129,7 @@ fn awake(m: Core, new: Pins) -> Core
 }
 
 // "In sleep or hold a step only looks for a falling edge on an enabled wake pin."
-fn waited(enabled: u8, m: Core, new: Pins) -> Looked
+pub fn waited(enabled: u8, m: Core, new: Pins) -> Looked
     ensures { λ r. ⌜ r ≡ waited enabled m new ⌝ }
 {
     let mode = m.mode;
@@ -151,7 +149,7 @@ fn waited(enabled: u8, m: Core, new: Pins) -> Looked
     }
 }
 
-fn is_running(mode: Mode) -> bool
+pub fn is_running(mode: Mode) -> bool
     ensures { λ r. ⌜ r ≡ isRunning mode ⌝ }
 {
     match mode {
@@ -159,20 +157,4 @@ fn is_running(mode: Mode) -> bool
         Mode::Sleep => false,
         Mode::Hold => false,
     }
-}
-
-// A step's look at its frame: it goes on to act where the record is running.
-pub fn look(enabled: u8, m: Core, new: Pins) -> Looked
-    requires { ⌜ (ValidInterrupts (m .ints)) × (ValidTimers (m .timers)) ⌝ }
-    ensures { λ r. ⌜ r ≡ looked enabled m new ⌝ }
-{
-    let mode = m.mode;
-    if is_running(mode) {
-        return Looked {
-            core: seen(m, new),
-            acts: true,
-            cycles: 0,
-        };
-    }
-    waited(enabled, m, new)
 }

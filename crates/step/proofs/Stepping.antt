@@ -5,15 +5,16 @@ use mathlib.Core.Bool.{true, false}
 use mathlib.Core.List.{List}
 use Prim.Native.Nat.{ℕ}
 use borrow.Author.Tests.{eq-eqb, ne-eqb}
+use Rattle.frame.specs.Frame.{PinsInRange}
 use Rattle.frame.specs.declared.Pins.{Pins}
-use Rattle.ports.specs.declared.Mode.the-variants.{Running}
+use Rattle.machine.specs.Valid.{ValidCore}
 use Rattle.machine.specs.declared.Core.{Core}
 use Rattle.execute.specs.Rows.{Done}
 use Rattle.near.specs.Quiet.{assembled}
 use Rattle.turns.specs.declared.Turn.{Turn}
-use Rattle.look.specs.Look.{looked}
+use Rattle.look.specs.Look.{seen, isRunning, waited, looked}
 use Rattle.look.specs.declared.Looked.{Looked}
-use Rattle.look.proofs.LookValid.{acts-running}
+use Rattle.look.proofs.LookValid.{seen-valid, running-is, waited-rests}
 use Rattle.act.specs.Act.{actOf}
 use Rattle.act.specs.Gives as act
 use Rattle.act.proofs.Stops.{act-keeps-ram}
@@ -21,9 +22,25 @@ use Rattle.step.specs.Step.{stepOf}
 use Rattle.step.specs.Gives.{Gives}
 use Rattle.step.specs.declared.Options.{Options}
 
--- what goes on to act is running
-pub seen-running : (enabled : ℕ) (m : Core) (pins : Pins) (v : Looked) → v ≡ looked enabled m pins → v .acts ≡ true → v .core .mode ≡ Running
-seen-running enabled m pins v e t = rw e (acts-running enabled m pins (ap (λ (v : Looked). v .acts) (sym e) ∙ t))
+-- what a running record sees, with which it goes on to act
+abbrev pub sight : Core → Looked
+sight core = record { core = core; acts = true; cycles = 0 }
+
+pub sees : (enabled : ℕ) (m : Core) (pins : Pins) (core : Core) → core ≡ seen m pins → isRunning (m .mode) ≡ true → sight core ≡ looked enabled m pins
+unfolding looked
+sees enabled m pins core s r = rw (s, r)
+
+-- what it sees is valid and running
+pub seen-runs : (m : Core) (pins : Pins) (core : Core) → core ≡ seen m pins → isRunning (m .mode) ≡ true → ValidCore m → PinsInRange pins → act.Runs core
+seen-runs m pins core s r v p = record { valid = rw s (seen-valid m pins v p); running = rw s (running-is (m .mode) r) }
+
+-- one that does not run only looks
+pub waits : (enabled : ℕ) (m : Core) (pins : Pins) (v : Looked) → v ≡ waited enabled m pins → isRunning (m .mode) ≡ false → v ≡ looked enabled m pins
+unfolding looked
+waits enabled m pins v s r = rw (s, r)
+
+pub rests : (enabled : ℕ) (m : Core) (pins : Pins) (v : Looked) → v ≡ waited enabled m pins → v .acts ≡ false
+rests enabled m pins v s = rw s (waited-rests enabled m pins)
 
 module _ (rom : ℕ → ℕ) (o : Options) (m : Core) (l : List ℕ) (pins : Pins) (v : Looked) (e : v ≡ looked (o .wake) m pins) where
   pub only-looked : v .acts ≡ false → Gives (stepOf rom o (assembled m l) pins) l (record { stop = 0; cycles = v .cycles; core = v .core })

@@ -3,7 +3,9 @@ use act::act;
 use frame::Frame;
 use frame::Pins;
 use frame::frame_of;
-use look::look;
+use look::is_running;
+use look::seen;
+use look::waited;
 use machine::Core;
 use machine::Machine;
 use machine::valid::is_valid;
@@ -41,9 +43,9 @@ pub fn advance(image: &[u8], options: Options, m: Core, ram: &mut [u8; 372], pin
     requires { ⌜ (ValidCore m) × (Nibbles (now ram)) × (length (now image) ≡ 8192) × (PinsInRange pins) ⌝ }
     ensures { λ x. ⌜ Gives (stepOf (romOf (now (image .entry))) options (record { core = m; ram = now (ram .entry) }) pins) (now (ram .exit)) x ⌝ }
 {
-    let seen = look(options.wake, m, pins);
-    let core = seen.core;
-    if seen.acts {
+    let mode = m.mode;
+    if is_running(mode) {
+        let core = seen(m, pins);
         let x = act(image, options.sound, core, ram);
         if x.stop != 0 {
             return Advanced {
@@ -59,9 +61,11 @@ pub fn advance(image: &[u8], options: Options, m: Core, ram: &mut [u8; 372], pin
             core: after,
         };
     }
+    let asleep = waited(options.wake, m, pins);
+    let core = asleep.core;
     Advanced {
         stop: 0,
-        cycles: seen.cycles,
+        cycles: asleep.cycles,
         core: core,
     }
 }

@@ -1,15 +1,10 @@
 -- `look::counted` meets its contract.
 -- Assumes nothing.
-use mathlib.Core.Path.{sym}
 use borrow.Author.Needs.{needs}
 use Rattle.look.specs.Look.{edgesCounted}
 use Rattle.look.proofs.Ranges.{edges-in-range}
-use Rattle.look.proofs.Looking.{counted-still}
 use Rattle.look.proofs.counted.Statement.{statement}
 use Rattle.look.proofs.counted.Tie as tie
-
-returns : tie.Need-returns
-returns c = sym (counted-still _ _ (c .if1 .taken))
 
 rose-requires : tie.Need-rose-requires
 rose-requires c κs = search needs
@@ -21,13 +16,13 @@ edges-timed-requires : tie.Need-edges-timed-requires
 edges-timed-requires c κs = search needs
 
 events-requires : tie.Need-events-requires
-events-requires c κs = let e = c .before .before .before .before .before .before .args in rw (c .edges-timed .ensures) (edges-in-range (e .m) (e .new) (c .before .before .before .before .before .before .pre .0) (c .before .before .before .before .before .before .pre .1))
+events-requires c κs = let e = c .before .before .before .args in rw (c .edges-timed .ensures) (edges-in-range (e .m) (e .new) (c .before .before .before .pre .0) (c .before .before .before .pre .1))
 
-returns-2 : tie.Need-returns-2
+returns : tie.Need-returns
 unfolding edgesCounted
-returns-2 c = rw (c .events .ensures, c .before .edges-timed .ensures, c .before .before .before .rose .ensures, c .before .before .rose2 .ensures)
+returns c = rw (c .events .ensures, c .before .edges-timed .ensures, c .before .before .before .rose .ensures, c .before .before .rose2 .ensures)
 
 pub counted-spec : {M : Type 1} → statement M
 counted-spec =
     tie.close
-    (tie.spec returns rose-requires rose-requires-2 edges-timed-requires events-requires returns-2)
+    (tie.spec rose-requires rose-requires-2 edges-timed-requires events-requires returns)
