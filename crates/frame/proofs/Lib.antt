@@ -1,3 +1,4 @@
 pub mod Characters
 pub mod Sequence
 pub mod Still
+pub mod Alike
