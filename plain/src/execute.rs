@@ -180,10 +180,8 @@ pub fn execute(m: &mut Machine, around: &Surroundings, decoded: Decoded) -> Resu
             m.sf = true;
         }
 
-        // Branch: "SBR keeps PC bits 12..6 and LBR bit 12 of its own first byte."
-        Row::Sbr => return m.branch((own_address & !0x3F) | a, next),
-        Row::Lbr => return m.branch((own_address & 0x1000) | a, next),
-        Row::Slbr => return m.branch(a, next),
+        // Branch
+        Row::Sbr | Row::Lbr | Row::Slbr => return m.branch(branch_target(row, a, own_address), next),
 
         // Compare
         Row::Cmp => m.compare_with_carry(k, m.ram[b as usize]),
@@ -317,6 +315,15 @@ pub fn execute(m: &mut Machine, around: &Surroundings, decoded: Decoded) -> Resu
     }
     m.pc = next;
     Ok(())
+}
+
+/// "SBR keeps PC bits 12..6 and LBR bit 12 of its own first byte." SLBR names the whole address.
+pub fn branch_target(row: Row, field: u16, own_address: u16) -> u16 {
+    match row {
+        Row::Sbr => (own_address & !0x3F) | field,
+        Row::Lbr => (own_address & 0x1000) | field,
+        _ => field,
+    }
 }
 
 /// A sum of nibbles, and whether it has a carry.

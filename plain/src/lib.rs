@@ -1,5 +1,6 @@
 //! The EM73862 as document 01 describes it, with document 01's numbers as results.
 
+mod bound;
 mod code;
 mod display;
 mod execute;
@@ -12,6 +13,7 @@ mod step;
 
 pub mod numbers;
 
+pub use bound::{bound, Bound, MOST_PATH_BYTES};
 pub use code::{read, write, Insn, IMAGE_SIZE};
 pub use display::{display, DISPLAY_SIZE};
 pub use execute::{add, short_call_target, subtract};
