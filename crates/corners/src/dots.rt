@@ -1,11 +1,11 @@
 // Document 01, "Display": "Row c, dot s is bit s mod 4 of RAM 20h + 16c + s/4 (rounded down). Forty bytes, five a row, low nibble first; all zero unless P27 is 11xx. Later bytes stay."
-use crate::say::count;
-use crate::say::digits;
-use crate::say::flag;
-use crate::say::say;
 use display::display;
 use machine::Machine;
 use machine::start::fresh;
+use telling::say::count;
+use telling::say::digits;
+use telling::say::flag;
+use telling::say::say;
 ghost use Prim.Native.Nat.{_<_, _≤_};
 
 // RAM 24h holds 10, and one more nibble 15.

@@ -1,16 +1,16 @@
 // Document 01, "What comes back": images, frames and runs at their limits, and the order of the refusals.
-use crate::say::answer;
-use crate::say::count;
-use crate::say::digits;
-use crate::say::last_frame;
-use crate::say::say;
-use crate::say::sound_is;
-use crate::say::step_at;
 use machine::Machine;
 use machine::start::fresh;
 use run::Ran;
 use run::run;
 use step::step;
+use telling::say::answer;
+use telling::say::count;
+use telling::say::digits;
+use telling::say::last_frame;
+use telling::say::say;
+use telling::say::sound_is;
+use telling::say::step_at;
 ghost use Prim.Native.Nat.{_≤_};
 
 // A record outside its ranges.

@@ -1,13 +1,13 @@
 // Document 01, "Worked values": "RAM 0F3h and 17Fh exist; 0F4h and 180h stop with 31 by HL." The bank is P9.3.
-use crate::say::answer;
-use crate::say::count;
-use crate::say::digits;
-use crate::say::last_frame;
-use crate::say::say;
-use crate::say::sound_is;
-use crate::say::step_at;
 use machine::Machine;
 use machine::start::fresh;
+use telling::say::answer;
+use telling::say::count;
+use telling::say::digits;
+use telling::say::last_frame;
+use telling::say::say;
+use telling::say::sound_is;
+use telling::say::step_at;
 
 // 9 at RAM 0F3h, 6 at 17Fh, 5 in ACC, and HL.
 fn pointed(p9: u8, hr: u8, lr: u8) -> Machine {

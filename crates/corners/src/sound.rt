@@ -1,13 +1,13 @@
 // Document 01, "Instructions": "Reading or testing P4 or P8 gives the frame's pins and sets the latch to 15; P4 reads 1110 plus P4.0, or 15 with SOUND enabled."
-use crate::say::answer;
-use crate::say::count;
-use crate::say::flag;
-use crate::say::say;
-use crate::say::sound_is;
-use crate::say::step_at;
 use machine::Machine;
 use machine::start::fresh;
 use ports::Ports;
+use telling::say::answer;
+use telling::say::count;
+use telling::say::flag;
+use telling::say::say;
+use telling::say::sound_is;
+use telling::say::step_at;
 
 // The fresh record with 5 in the latch of P4.
 fn latched() -> Machine {

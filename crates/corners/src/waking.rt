@@ -1,16 +1,16 @@
 // Document 01, "One step": "In sleep or hold a step only looks for a falling edge on an enabled wake pin."
-use crate::records::with_mode;
-use crate::say::answer;
-use crate::say::count;
-use crate::say::digits;
-use crate::say::last_frame;
-use crate::say::mode;
-use crate::say::say;
-use crate::say::step_at;
 use machine::Machine;
 use machine::start::fresh;
 use ports::Mode;
 use step::Options;
+use telling::say::answer;
+use telling::say::count;
+use telling::say::digits;
+use telling::say::last_frame;
+use telling::say::mode;
+use telling::say::say;
+use telling::say::step_at;
+use telling::whole::with_mode;
 
 // A step at an image of NOPs, and what it leaves of the mode, P16, PC, the latches and the last frame.
 fn stepped(name: &[u8], wake: u8, m: Machine, frame: &[u8]) {

@@ -12,6 +12,7 @@ use machine::Machine;
 use machine::Pointers;
 use machine::Registers;
 use machine::Timers;
+use machine::start::fresh;
 use ports::Mode;
 use ports::Ports;
 
@@ -142,6 +143,33 @@ pub fn greatest() -> Machine {
     let ram = [15u8; 372];
     Machine {
         core: core,
+        ram: ram,
+    }
+}
+
+// The fresh record in a mode, with a value in P16.
+pub fn with_mode(mode: Mode, p16: u8) -> Machine {
+    let m = fresh();
+    let core = m.core;
+    let regs = core.regs;
+    let ptrs = core.ptrs;
+    let ints = core.ints;
+    let timers = core.timers;
+    let mut ports = core.ports;
+    ports.p16 = p16;
+    let pins = core.pins;
+    let ram = m.ram;
+    Machine {
+        core: Core {
+            regs: regs,
+            pc: core.pc,
+            ptrs: ptrs,
+            ints: ints,
+            timers: timers,
+            ports: ports,
+            pins: pins,
+            mode: mode,
+        },
         ram: ram,
     }
 }

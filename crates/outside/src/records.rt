@@ -1,9 +1,4 @@
 // Document 01, "The record": one record a field and a tie that is outside its range, which step, run, reset and display refuse with 2; and records that are within it and not fresh.
-use crate::say::count;
-use crate::say::say;
-use crate::say::sound_is;
-use crate::whole::greatest;
-use crate::whole::whole;
 use display::display;
 use frame::Pins;
 use machine::Core;
@@ -14,6 +9,12 @@ use ports::Mode;
 use ports::Ports;
 use run::run;
 use step::step;
+use telling::say::count;
+use telling::say::say;
+use telling::say::sound_is;
+use telling::whole::greatest;
+use telling::whole::whole;
+use telling::whole::with_mode;
 ghost use Prim.Native.Nat.{_<_};
 
 // The four calls that take a record.
@@ -32,33 +33,6 @@ fn four(name: &[u8], m: Machine) {
     count(b", reset ", reset(m).refusal as u32);
     count(b", display ", display(m, &mut out) as u32);
     say(b"\n");
-}
-
-// The fresh record in a mode, with a value in P16.
-pub fn with_mode(mode: Mode, p16: u8) -> Machine {
-    let m = fresh();
-    let core = m.core;
-    let regs = core.regs;
-    let ptrs = core.ptrs;
-    let ints = core.ints;
-    let timers = core.timers;
-    let mut ports = core.ports;
-    ports.p16 = p16;
-    let pins = core.pins;
-    let ram = m.ram;
-    Machine {
-        core: Core {
-            regs: regs,
-            pc: core.pc,
-            ptrs: ptrs,
-            ints: ints,
-            timers: timers,
-            ports: ports,
-            pins: pins,
-            mode: mode,
-        },
-        ram: ram,
-    }
 }
 
 fn registers(name: &[u8], acc: u8, hr: u8, lr: u8) {

@@ -1,11 +1,11 @@
--- `corners::say::digits` meets its contract.
+-- `telling::say::digits` meets its contract.
 -- Assumes nothing.
 use mathlib.Core.Path.{sym}
 use native.Mathlib.Omega.{arith}
 use lib.Seq.{length-take-le}
 use borrow.Author.Needs.{needs}
-use Rattle.corners.proofs.say.digits.Statement.{statement}
-use Rattle.corners.proofs.say.digits.Tie as tie
+use Rattle.telling.proofs.say.digits.Statement.{statement}
+use Rattle.telling.proofs.say.digits.Tie as tie
 
 say-requires : tie.Need-say-requires
 say-requires c κs = search needs
