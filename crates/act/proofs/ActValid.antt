@@ -1,11 +1,12 @@
 -- Acting makes a valid record of a valid one that runs.
 -- Assumes nothing.
 use mathlib.Core.Path.{_≡_, refl}
-use mathlib.Core.Bool.{Bool, true, false}
+use mathlib.Core.Bool.{Bool}
 use Prim.Native.Nat.{ℕ, _<_}
-use lib.Dec.{T, leb, leb→le, ltb, ltb→lt}
-use Rattle.laws.specs.Choice.{pick, both}
+use lib.Dec.{leb, leb→le, ltb, ltb→lt}
+use Rattle.laws.specs.Choice.{both}
 use Rattle.laws.proofs.Computed.{both-left, both-right}
+use Rattle.laws.proofs.Choices.{picked-by}
 use Rattle.paper.specs.ComesBack.{stack-level}
 use Rattle.sheet.specs.Reading.{readAt}
 use Rattle.sheet.specs.declared.Read.{Read}
@@ -60,16 +61,13 @@ unfolding coreAfter
 after-valid n m v = in-mode-valid (m .mode) n m v
 
 -- one of two records that are valid
-either-valid : (t : Bool) (x y : Done) → (T t → Valid (x .machine)) → Valid (y .machine) → Valid (pick t x y .machine)
-either-valid true x y h k = h tt
-either-valid false x y h k = k
 
 module _ (rom : ℕ → ℕ) (sound : Bool) (m : Machine) (valid : Valid m) (running : m .core .mode ≡ Running) (bytes : (at : ℕ) → rom at < 256) where
   accept-valid : (source : ℕ) → source < 6 → Valid (acceptOf m source .machine)
   unfolding acceptOf
   accept-valid source h =
       let sp = m .core .ptrs .sp in
-      either-valid (both (leb 1 sp) (leb sp 13)) (spent 2 (accepted m source)) (stops stack-level m)
+      picked-by (λ (d : Done). Valid (d .machine)) (both (leb 1 sp) (leb sp 13)) (spent 2 (accepted m source)) (stops stack-level m)
       (λ q. accepted-valid m source valid (record { above = leb→le 1 sp (both-left (leb 1 sp) (leb sp 13) q); below = leb→le sp 13 (both-right (leb 1 sp) (leb sp 13) q) }) h)
       valid
 
@@ -86,7 +84,7 @@ module _ (rom : ℕ → ℕ) (sound : Bool) (m : Machine) (valid : Valid m) (run
   pub turn-valid : Valid (turnOf rom sound m .machine)
   unfolding turnOf
   turn-valid =
-      either-valid (ltb (sourceOf (m .core)) 6) (acceptOf m (sourceOf (m .core))) (runOne rom sound m)
+      picked-by (λ (d : Done). Valid (d .machine)) (ltb (sourceOf (m .core)) 6) (acceptOf m (sourceOf (m .core))) (runOne rom sound m)
       (λ q. accept-valid (sourceOf (m .core)) (ltb→lt (sourceOf (m .core)) 6 q)) run-valid
 
   pub act-valid : Valid (actOf rom sound m .machine)

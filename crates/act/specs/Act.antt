@@ -11,7 +11,7 @@ use Rattle.sheet.specs.declared.Read.{Read}
 use Rattle.clock.specs.Clock.{passed}
 use Rattle.clock.specs.declared.Rates.{Rates}
 use Rattle.ports.specs.declared.Mode.{Mode}
-use Rattle.machine.specs.Due.{dueSource}
+use Rattle.due.specs.Due.{dueSource}
 use Rattle.machine.specs.Stack.{accepted}
 use Rattle.machine.specs.declared.Core.{Core}
 use Rattle.machine.specs.declared.Machine.{Machine}

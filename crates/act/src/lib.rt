@@ -1,9 +1,9 @@
 // What a running record does once it has seen the frame: it accepts an interrupt or executes one row, then time passes.
 use clock::Rates;
 use clock::Time;
+use due::due_source;
 use machine::Core;
 use machine::Machine;
-use machine::due::due_source;
 use perform::perform;
 use ports::Mode;
 use reader::read_at;

@@ -1,10 +1,9 @@
 -- From what the search of the graph says to what the call answers.
 -- Assumes nothing.
-use mathlib.Core.Path.{_≡_, refl, sym, ap₂, _∙_}
-use mathlib.Core.List.{List, [], _∷_, _++_}
-use Prim.Native.Nat.{ℕ, _*_, _/_, _%_}
+use mathlib.Core.Path.{_≡_, refl, ap₂}
+use mathlib.Core.List.{List, [], _∷_}
+use Prim.Native.Nat.{ℕ, _/_, _%_}
 use native.Mathlib.Omega.{arith}
-use lib.ListN.{length, drop}
 use Rattle.graph.specs.Laid.{graphOf, costOf}
 use Rattle.graph.proofs.Agree.{Agree}
 use Rattle.graph.proofs.Unique.{least-address}

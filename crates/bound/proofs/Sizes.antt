@@ -1,13 +1,12 @@
 -- How large what the call answers can be: an address of the image, the bytes of a path of at most 16,384 places, and what that many rows take.
 -- Assumes nothing.
-use mathlib.Core.Path.{_≡_}
 use mathlib.Core.List.{List}
 use Prim.Native.Nat.{ℕ, _<_, _≤_}
 use native.Mathlib.Omega.{arith}
 use lib.ListN.{length, getD}
 use Rattle.paper.specs.ComesBack.{Paper}
 use Rattle.sheet.specs.Reading.{romOf}
-use Rattle.graph.specs.Graph.{Reach, Path}
+use Rattle.graph.specs.Graph.{Reach}
 use Rattle.graph.proofs.Reach.{reach-inside}
 use Rattle.graph.proofs.Length.{path-length, sum-at-most}
 use Rattle.graph.proofs.Unique.{longest-path}

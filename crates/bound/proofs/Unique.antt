@@ -8,7 +8,6 @@ use lib.Dec.{eqb}
 use lib.ListN.{length, drop, getD}
 use Rattle.laws.specs.Choice.{pick}
 use Rattle.paper.specs.ComesBack.{Paper, answered, refusedWith, excluded-instruction-reachable, repetition-reachable, path-buffer-too-short}
-use Rattle.sheet.specs.Reading.{romOf}
 use Rattle.graph.specs.Graph.{sum}
 use Rattle.graph.proofs.Unique.{least-unique, longest-unique}
 use Rattle.flow.specs.Flow.{flowCost}

@@ -1,6 +1,5 @@
 -- Each arm that reads a nibble is its line of the table: by computation.
 -- Assumes nothing.
-use mathlib.Core.Path.{_≡_}
 use mathlib.Core.Bool.{not}
 use Prim.Native.Nat.{ℕ}
 use Rattle.bits.specs.Bits.{hasBit}

@@ -1,7 +1,7 @@
 -- What a row that reads or writes one nibble of RAM gives, held against the table's definition.
 -- Assumes nothing.
 use Prim.Native.Nat.{ℕ, _<_}
-use mathlib.Core.Bool.{Bool, true, false}
+use mathlib.Core.Bool.{Bool, true}
 use mathlib.Core.List.{List}
 use mathlib.Core.Path.{_≡_}
 use lib.Dec.{ltb}
@@ -11,7 +11,7 @@ use Rattle.sheet.specs.Reading.{insn}
 use Rattle.sheet.specs.declared.Insn.{Insn}
 use Rattle.machine.specs.Valid.{ValidRegisters, Nibbles}
 use Rattle.machine.specs.declared.Core.{Core}
-use Rattle.execute.specs.Places.{Around, cellOf}
+use Rattle.execute.specs.Places.{cellOf}
 use Rattle.execute.specs.Rows.{Done, executed}
 use Rattle.near.specs.declared.Act.{Act}
 use Rattle.near.specs.Quiet.{assembled, doneAs}

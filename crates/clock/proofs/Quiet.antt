@@ -1,7 +1,7 @@
 -- Every period is a multiple of 256: between two such multiples nothing but the time base changes. And passing n cycles, cycle by cycle.
 -- Assumes nothing.
-use mathlib.Core.Path.{_≡_, refl, ap, subst, _∙_}
-use mathlib.Core.Bool.{Bool, true, false}
+use mathlib.Core.Path.{_≡_, ap, subst, _∙_}
+use mathlib.Core.Bool.{Bool, false}
 use Prim.Native.Nat.{ℕ, zero, suc, _+_, _-_, _*_, _/_, _%_, _^_, _<_, _≤_}
 use native.Mathlib.Nat.{mod-lt}
 use native.Mathlib.Decide.{decLt}
@@ -10,14 +10,11 @@ use lib.Dec.{eqb, ltb, lit<}
 use lib.Pow.{mod-mod-pow}
 use borrow.Author.Tests.{ne-eqb, le-ltb}
 use Rattle.laws.specs.Choice.{both}
+use Rattle.laws.proofs.Choices.{both-false}
 use Rattle.clock.specs.Clock.{isMultiple, timerExponent, runs, counts, tbiExponent, tbiSets, gained, met, tick, passed, eventCount}
 use Rattle.clock.specs.declared.Time.{Time}
 use Rattle.clock.specs.declared.Rates.{Rates}
 use Rattle.clock.proofs.Periods.{timer-exponent, tbi-coarse}
-
-both-false : (t : Bool) → both t false ≡ false
-both-false true = refl
-both-false false = refl
 
 no-multiple : (k n : ℕ) → 8 ≤ k → (n % 256 ≡ 0 → ⊥) → isMultiple k n ≡ false
 no-multiple k n h ne =

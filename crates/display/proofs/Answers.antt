@@ -12,7 +12,7 @@ use Rattle.laws.specs.Decides.{Decides}
 use Rattle.laws.proofs.Computed.{true→T}
 use Rattle.machine.specs.Valid.{Valid}
 use Rattle.machine.specs.declared.Machine.{Machine}
-use Rattle.machine.proofs.Validity.{valid?}
+use Rattle.valid.proofs.Validity.{valid?}
 use Rattle.paper.specs.ComesBack.{record-outside-the-ranges, display-buffer-under-40-bytes}
 use Rattle.display.specs.Display.{shownOf, Refused, DisplayOf}
 

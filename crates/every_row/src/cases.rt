@@ -1,10 +1,11 @@
 // A case: a line of words with one blank between them, the code first.
-use crate::fields;
-use crate::say::say;
-use crate::settings;
 use crate::start;
+use fields::cursor::next_word;
+use fields::cursor::value_of;
+use fields::say::say;
+use fields::settings;
 use machine::Core;
-use text::words::Number;
+use words::Number;
 ghost use Prim.Native.Nat.{_<_, _≤_};
 ghost use lib.ListN.{length};
 
@@ -23,84 +24,10 @@ pub fn byte(text: &[u8], from: usize, i: usize) -> u8
     }
     let at = from + i;
     let end = at + 2;
-    let Number::Value(v) = text::words::read_number(&text[at..end], 16) else {
+    let Number::Value(v) = words::read_number(&text[at..end], 16) else {
         return 0;
     };
     (v % 256) as u8
-}
-
-// Where the line after this one begins.
-pub fn next_line(text: &[u8], from: usize) -> usize
-    requires { ⌜ from < length (now text) ⌝ }
-    ensures { λ r. ⌜ (from < r) × (r ≤ length (now (text .entry))) ⌝ }
-{
-    let mut at = from;
-    while at < text.len() {
-        if text[at] == b'\n' {
-            return at + 1;
-        }
-        at += 1;
-    }
-    at
-}
-
-// Where the line's next word begins, or the text's end.
-fn next_word(text: &[u8], from: usize) -> usize
-    requires { ⌜ from < length (now text) ⌝ }
-    ensures { λ r. ⌜ (from < r) × (r ≤ length (now (text .entry))) ⌝ }
-{
-    let mut at = from;
-    while at < text.len() {
-        if text[at] == b'\n' {
-            return text.len();
-        }
-        if text[at] == b' ' {
-            return at + 1;
-        }
-        at += 1;
-    }
-    at
-}
-
-// Where the value of the word begins: behind its '='.
-fn value_start(text: &[u8], from: usize) -> usize
-    requires { ⌜ from < length (now text) ⌝ }
-    ensures { λ r. ⌜ r ≤ length (now (text .entry)) ⌝ }
-{
-    let mut at = from;
-    while at < text.len() {
-        if text[at] == b'=' {
-            return at + 1;
-        }
-        at += 1;
-    }
-    at
-}
-
-// Where the word ends: at a blank or at the line's end.
-fn word_end(text: &[u8], from: usize) -> usize
-    requires { ⌜ from ≤ length (now text) ⌝ }
-    ensures { λ r. ⌜ (from ≤ r) × (r ≤ length (now (text .entry))) ⌝ }
-{
-    let mut at = from;
-    while at < text.len() {
-        if text[at] <= b' ' {
-            return at;
-        }
-        at += 1;
-    }
-    at
-}
-
-fn value_of(text: &[u8], from: usize) -> u32
-    requires { ⌜ from < length (now text) ⌝ }
-{
-    let at = value_start(text, from);
-    let end = word_end(text, at);
-    let Number::Value(v) = text::words::read_number(&text[at..end], 16) else {
-        return 0;
-    };
-    v
 }
 
 fn with_word(s: Setup, text: &[u8], at: usize) -> Setup

@@ -1,9 +1,8 @@
 // What a row changed, and the record from which it started.
-use crate::fields;
-use crate::say::say;
-use crate::say::say_decimal;
-use crate::say::say_number;
 use crate::start;
+use fields::say::say;
+use fields::say::say_decimal;
+use fields::say::say_number;
 use machine::Core;
 use turns::Turn;
 ghost use Prim.Native.Nat.{_<_};
@@ -80,11 +79,11 @@ fn say_little(before: Core, after: Core) {
 fn say_spent(stop: u8, cycles: u8) {
     if stop != 0 {
         say(b"stop ");
-        say_decimal(stop);
+        say_decimal(stop as u64);
         say(b", ");
     }
     say(b"cycles ");
-    say_decimal(cycles);
+    say_decimal(cycles as u64);
     say(b" |");
 }
 

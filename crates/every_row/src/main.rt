@@ -4,18 +4,17 @@
 // the cycles, or the stop | each field and each cell of RAM that changed, before and after.
 mod cases;
 mod changes;
-mod fields;
 mod say;
-mod settings;
 mod start;
 
 use cases::Setup;
+use fields::cursor::next_line;
+use fields::say::say;
 use libc::STDIN_FILENO;
 use machine::Machine;
-use machine::valid::is_valid;
-use say::say;
 use sheet::Insn;
 use sheet::Read;
+use valid::is_valid;
 ghost use mathlib.Core.Path.{_≡_};
 ghost use Prim.Native.Nat.{_<_};
 ghost use lib.ListN.{length};
@@ -61,7 +60,7 @@ fn show_all(image: &[u8], text: &[u8])
     let mut from = 0;
     while from < text.len() {
         show(image, text, from);
-        from = cases::next_line(text, from);
+        from = next_line(text, from);
     }
 }
 

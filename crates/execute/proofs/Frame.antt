@@ -7,6 +7,7 @@ use lib.Dec.{T, eqb, leb}
 use borrow.Author.Tests.{eq-eqb}
 use Rattle.paper.specs.ComesBack.{stack-level}
 use Rattle.laws.specs.Choice.{pick, both, either}
+use Rattle.laws.proofs.Choices.{neither-left, neither-right}
 use Rattle.sheet.specs.Operation.{Register, Port, Pointer, Place, Step, After, Enable, Operation}
 use Rattle.sheet.specs.Table.{Line, Mark, set}
 use Rattle.alu.specs.Making.{plain}
@@ -71,14 +72,6 @@ touched-mode m w (Place.port Port.latch-l) = refl
 touched-mode m w (Place.pointer p) = refl
 touched-mode m w (Place.rom h) = refl
 touched-mode m w Place.mask = refl
-
-neither-left : (a b : Bool) → either a b ≡ false → a ≡ false
-neither-left true b e = absurd (subst T e tt)
-neither-left false b e = refl
-
-neither-right : (a b : Bool) → either a b ≡ false → b ≡ false
-neither-right true b e = absurd (subst T e tt)
-neither-right false b e = e
 
 -- a step
 step-ei : (m : Machine) (w : Around) (s : Step) → stepOf m w s .machine .core .ints .ei ≡ m .core .ints .ei

@@ -4,3 +4,5 @@ pub mod PlacesValid
 pub mod PutValid
 pub mod StepsValid
 pub mod RowsValid
+pub mod RowStops
+pub mod RowMode

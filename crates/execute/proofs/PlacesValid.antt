@@ -54,7 +54,7 @@ half-low : (h : Half) (b : ℕ) → b < 256 → halfOf h b < 16
 half-low Half.low-half b l = omega arith
 half-low Half.high-half b l = omega arith
 
-latch-low : (p : Ports) (n : ℕ) → ValidPorts p → latchOf p n < 16
+pub latch-low : (p : Ports) (n : ℕ) → ValidPorts p → latchOf p n < 16
 unfolding latchOf
 latch-low p n h =
     chosen-lt (eqb n 4) (p .p4) _ (h .p4)

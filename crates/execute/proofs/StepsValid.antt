@@ -7,6 +7,7 @@ use native.Mathlib.Omega.{arith}
 use lib.Dec.{T, eqb, leb, leb→le}
 use Rattle.laws.specs.Choice.{pick, both, either}
 use Rattle.laws.proofs.Computed.{both-left, both-right}
+use Rattle.laws.proofs.Choices.{either-left, either-right, not-left, not-right}
 use Rattle.sheet.specs.Operation.{Given, Port, Place, Op, Step, After}
 use Rattle.sheet.specs.Operation.Op.{Move, Plus, PlusCF, Minus, MinusCF', And, Or, Xor, Clear, Set, Has, Lacks, RotateLeft, RotateRight}
 use Rattle.sheet.specs.declared.Insn.{Insn}
@@ -93,23 +94,6 @@ weight-is true u v = tt
 weight-is false true v = tt
 weight-is false false true = tt
 weight-is false false false = tt
-
-either-left : (a b : Bool) → T a → T (either a b)
-either-left true b t = tt
-either-left false b t = absurd t
-
-either-right : (a b : Bool) → T b → T (either a b)
-either-right true b t = tt
-either-right false b t = t
-
-not-left : (a b : Bool) → T (not (either a b)) → T a → ⊥
-not-left true b h t = h
-not-left false b h t = t
-
-not-right : (a b : Bool) → T (not (either a b)) → T b → ⊥
-not-right true b h t = h
-not-right false true h t = h
-not-right false false h t = t
 
 refuted : (a : Bool) → T (not a) → T a → ⊥
 refuted true h t = h

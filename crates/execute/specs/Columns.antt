@@ -1,6 +1,5 @@
 -- What the columns of a line tell of any row that is no branch, call or return and does not stop.
 -- Assumes nothing.
-use Prim.Native.Nat.{ℕ}
 use mathlib.Core.Bool.{Bool, true, false}
 use mathlib.Core.Path.{_≡_}
 use Rattle.laws.specs.Choice.{either}

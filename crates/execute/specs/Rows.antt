@@ -1,6 +1,6 @@
 -- What a row does to the record: the operation column interpreted, a definition for each of its shapes; then the flags by the three marks, PC past the row, and its cycles. A stop gives the record as it was, and no cycles.
 -- Assumes nothing.
-use Prim.Native.Nat.{ℕ, _+_, _%_}
+use Prim.Native.Nat.{ℕ}
 use mathlib.Core.Bool.{Bool, true, false}
 use lib.Dec.{eqb, leb}
 use lib.Bits.{bitAnd}
@@ -15,7 +15,6 @@ use Rattle.alu.specs.Flags.{flagAfter}
 use Rattle.alu.specs.declared.Made.{Made}
 use Rattle.machine.specs.Stack.{called, popped, flagsReturned}
 use Rattle.machine.specs.declared.Registers.{Registers}
-use Rattle.machine.specs.declared.Interrupts.{Interrupts}
 use Rattle.machine.specs.declared.Machine.{Machine}
 use Rattle.execute.specs.Places.{Around, withRegisters, withPc, withInterrupts}
 use Rattle.execute.specs.Steps.{Did, firstOf, stepOf}

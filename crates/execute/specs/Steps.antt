@@ -8,7 +8,7 @@ use Rattle.sheet.specs.Operation.{Op, Place, Step}
 use Rattle.alu.specs.Making.{made, plain}
 use Rattle.alu.specs.declared.Made.{Made}
 use Rattle.machine.specs.declared.Machine.{Machine}
-use Rattle.execute.specs.Places.{Around, Got, Put, getOf, touched, putOf, withPointers}
+use Rattle.execute.specs.Places.{Around, getOf, touched, putOf, withPointers}
 
 -- a stop or 0, what the flags speak of, and the record, which a stop leaves unsaid
 pub record Did : Type 0 where

@@ -1,8 +1,8 @@
 -- What a visit does with the node of its place: it is laid, and what follows it is marked.
 -- Assumes nothing.
-use mathlib.Core.Path.{_≡_, sym, _∙_, ap}
+use mathlib.Core.Path.{_≡_, _∙_, ap}
 use mathlib.Core.List.{List}
-use Prim.Native.Nat.{ℕ, _<_}
+use Prim.Native.Nat.{ℕ}
 use lib.ListN.{set}
 use Rattle.graph.specs.Graph.{Edge}
 use Rattle.search.specs.Marks.{Marked, Grown}

@@ -7,7 +7,7 @@ use lib.ListN.{length, getD, set}
 use Rattle.graph.specs.Laid.{graphOf, Laid, Costs}
 use Rattle.search.specs.Marks.{Marked, Blank, Listed}
 use Rattle.search.specs.Search.{Reached}
-use Rattle.flow.specs.Flow.{nodeOf, startOf}
+use Rattle.flow.specs.Flow.{nodeOf}
 
 -- a place an index
 pub record Sized (k nx o c : List ℕ) : Type 0 where

@@ -8,9 +8,9 @@ use native.Mathlib.Omega.{arith}
 use lib.Dec.{T, leb, leb→le, le→leb}
 use Rattle.laws.specs.Choice.{pick, both}
 use Rattle.laws.proofs.Computed.{implies, at, both-left, both-right, modus}
-use Rattle.sheet.specs.Operation.{Target, Operation}
+use Rattle.sheet.specs.Operation.{Operation}
 use Rattle.sheet.specs.Table.{Mark, lines, lineAt}
-use Rattle.sheet.specs.Fields.{fieldA, InFields}
+use Rattle.sheet.specs.Fields.{fieldA}
 use Rattle.sheet.specs.Flow.{targetOf}
 use Rattle.sheet.specs.Reading.{readAt, wrapped}
 use Rattle.sheet.specs.declared.Insn.{Insn}

@@ -1,10 +1,9 @@
 -- What the code makes of a place is its node.
 -- Assumes nothing.
-use mathlib.Core.Path.{_≡_, sym, _∙_}
-use mathlib.Core.Bool.{Bool}
+use mathlib.Core.Path.{_≡_}
 use Prim.Native.Nat.{ℕ, _<_}
 use native.Mathlib.Omega.{arith}
-use lib.Dec.{T, leb, leb→le}
+use lib.Dec.{leb, leb→le}
 use Rattle.laws.proofs.Computed.{at}
 use Rattle.sheet.specs.Fields.{fieldA, InFields}
 use Rattle.sheet.specs.Reading.{readAt}

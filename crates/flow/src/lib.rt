@@ -8,8 +8,7 @@ ghost use Prim.Native.Nat.{_<_};
 ghost use lib.ListN.{length};
 ghost use Rattle.sheet.specs.Fields.{InFields};
 ghost use Rattle.sheet.specs.Reading.{romOf};
-ghost use Rattle.sheet.specs.Table.{lineAt};
-ghost use Rattle.flow.specs.Flow.{going, excluded, ending, place, forked, nodeBy, nodeOf};
+ghost use Rattle.flow.specs.Flow.{going, excluded, ending, forked, nodeBy, nodeOf};
 ghost use Rattle.flow.specs.Ways.{IsWay, numbered};
 
 // A place's kind in the graph, the places that follow it, and its cycles.

@@ -12,7 +12,7 @@ use lib.ListN.{length, getD}
 use lib.Seq.{drop-cons}
 use borrow.Author.Tests.{ltb-true, le-leb, lt-leb}
 use Rattle.laws.specs.Choice.{both}
-use Rattle.laws.proofs.Computed.{at}
+use Rattle.laws.proofs.Choices.{both-false}
 use Rattle.frame.specs.Frame.{digitOf, em73862Digits, isFrame, pinsOf, frameOf, charsAt, PinsInRange}
 use Rattle.frame.specs.declared.Pins.{Pins}
 use Rattle.frame.specs.declared.Frame.the-variants.{Seen, NoFrame}
@@ -51,10 +51,6 @@ module _ (c : ℕ) where
 pub chars-at : (s : List ℕ) (k : ℕ) → k + 3 ≤ length s → charsAt s k ≡ getD s k 0 ∷ getD s (k + 1) 0 ∷ getD s (k + 2) 0 ∷ []
 chars-at s k h =
     rw (drop-cons s k 0 (omega arith), drop-cons s (suc k) 0 (omega arith), drop-cons s (suc (suc k)) 0 (omega arith), add-one, add-two)
-
-both-false : (t : Bool) → both t false ≡ false
-both-false true = refl
-both-false false = refl
 
 pub both-first : (a b : Bool) → both a b ≡ true → a ≡ true
 both-first true b e = refl

@@ -22,8 +22,9 @@ use Rattle.run.specs.Run.{runOf}
 use Rattle.run.specs.Answers.{RunOf}
 use Rattle.run.specs.declared.Ran.{Ran}
 use Rattle.handler.specs.Handler.{Ends, EndsWithin, RunEnds, RunEndsWithin, Demand3OfRun}
-use Rattle.handler.proofs.Going.{run-rest}
-use Rattle.handler.proofs.Buffers.{frames-take, are-take, all-in-range}
+use Rattle.run.proofs.Rest.{run-rest}
+use Rattle.frame.proofs.First.{frames-take, are-take}
+use Rattle.handler.proofs.Buffers.{all-in-range}
 use Rattle.handler.proofs.Demand.{demand-3}
 
 -- the list with the element in its midst, up to that and with it

@@ -1,10 +1,7 @@
-pub mod RowStops
-pub mod RowMode
 pub mod Lines
 pub mod Standing
 pub mod Rows
 pub mod Steps
-pub mod Going
 pub mod Buffers
 pub mod Runs
 pub mod Demand

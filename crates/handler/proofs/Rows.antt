@@ -25,8 +25,8 @@ use Rattle.execute.proofs.StepsValid.{fitsStep, fitsAfter}
 use Rattle.execute.proofs.RowsValid.{fitsOperation}
 use Rattle.flow.specs.Flow.{place, isOne, writesP16, Way, wayBy, excluded, going, nodeBy}
 use Rattle.flow.specs.declared.Node.{Node}
-use Rattle.handler.proofs.RowStops.{Named, NoneOrNamed, row-stop}
-use Rattle.handler.proofs.RowMode.{work-mode}
+use Rattle.execute.proofs.RowStops.{Named, NoneOrNamed, row-stop}
+use Rattle.execute.proofs.RowMode.{work-mode}
 use Rattle.handler.proofs.Lines.{setsBranching, one-is-set}
 use Rattle.handler.proofs.Standing.{Standing, address-place, known-place}
 

@@ -20,7 +20,7 @@ use Rattle.graph.proofs.HasPath.{on-or-ends, has-path}
 use Rattle.flow.proofs.Inside.{cost-pos, flow-inside}
 use Rattle.handler.proofs.Standing.{Standing}
 use Rattle.handler.proofs.Steps.{StepFollows, ends, goes-on, step-follows}
-use Rattle.handler.proofs.Going.{run-next}
+use Rattle.run.proofs.Rest.{run-next}
 
 -- a path costs what its first place does, or more
 path-first : {g : Graph} (c : ℕ → ℕ) {v : ℕ} {l : List ℕ} → Path g v l → c v ≤ sum c l

@@ -6,6 +6,7 @@ use Prim.Native.Nat.{ℕ, _≤_, _<_}
 use native.Mathlib.Omega.{arith}
 use lib.Dec.{eqb}
 use borrow.Author.Tests.{eq-eqb}
+use Rattle.laws.proofs.Choices.{picked}
 use Rattle.sheet.specs.Table.{lineAt}
 use Rattle.sheet.specs.Fields.{fieldA}
 use Rattle.sheet.specs.Reading.{readAt}
@@ -27,7 +28,6 @@ use Rattle.graph.specs.Graph.{GoesOn, Ends as EndsPath, Edge}
 use Rattle.flow.specs.Flow.{isKnown, nodeRow, nodeRead, nodeOf, flowGraph, flowCost}
 use Rattle.flow.specs.declared.Node.{Node}
 use Rattle.handler.specs.Handler.{Ends}
-use Rattle.handler.proofs.RowStops.{picked}
 use Rattle.handler.proofs.Lines.{line-branches}
 use Rattle.handler.proofs.Standing.{Standing, stands-after}
 use Rattle.handler.proofs.Rows.{RowFollows, stops-named, returns, goes, Allowed, not-allowed, row-follows}

@@ -1,13 +1,12 @@
 -- Laws of a list of numbers: what holds at each of them holds at a number among them, and one that is none of the others is the first.
 -- Assumes nothing.
-use mathlib.Core.Path.{_≡_, refl, sym, subst}
-use mathlib.Core.Bool.{Bool, true, false}
+use mathlib.Core.Path.{_≡_, refl}
+use mathlib.Core.Bool.{true, false}
 use mathlib.Core.List.{List, [], _∷_}
 use Prim.Native.Nat.{ℕ}
-use native.Mathlib.Omega.{arith}
 use native.Mathlib.Decide.{ℕ-discrete}
-use lib.Dec.{T, eqb}
-use borrow.Author.Tests.{eqb-true, ne-eqb}
+use lib.Dec.{T}
+use borrow.Author.Tests.{ne-eqb}
 use Rattle.laws.proofs.Computed.{NoKey, true→T}
 use Rattle.laws.specs.Among.{among}
 

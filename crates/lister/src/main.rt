@@ -2,8 +2,8 @@
 // The words are judged from the left: the image, the address, the number of lines, and that there are no more.
 use libc::STDERR_FILENO;
 use libc::STDOUT_FILENO;
-use text::words::Address;
-use text::words::Number;
+use words::Address;
+use words::Number;
 ghost use mathlib.Core.Path.{_≡_};
 ghost use Prim.Native.Nat.{_≤_};
 ghost use lib.ListN.{length};
@@ -36,7 +36,7 @@ fn list_from(image: &[u8], at: u16)
     }
     let mut word = io::buffer();
     let n = os::arg(3, &mut word);
-    let Number::Value(count) = text::words::read_number(&word[..n], 10) else {
+    let Number::Value(count) = words::read_number(&word[..n], 10) else {
         usage();
         return;
     };
@@ -56,7 +56,7 @@ fn list_image(image: &[u8])
     }
     let mut word = io::buffer();
     let n = os::arg(2, &mut word);
-    let Address::At(at) = text::words::read_address(&word[..n]) else {
+    let Address::At(at) = words::read_address(&word[..n]) else {
         io::write_all(STDOUT_FILENO, b"refused 20\n");
         return;
     };

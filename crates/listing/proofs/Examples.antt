@@ -9,16 +9,16 @@ use Rattle.frame.specs.Frame.{digitOf, frameOf}
 use Rattle.clock.specs.Clock.{met, tick, passed, eventCount}
 use Rattle.alu.specs.Flags.{flagAfter}
 use Rattle.alu.specs.Making.{made}
-use Rattle.machine.specs.Due.{dueSource}
-use Rattle.machine.specs.Start.{freshMachine}
+use Rattle.due.specs.Due.{dueSource}
+use Rattle.start.specs.Start.{freshMachine}
 use Rattle.execute.specs.Rows.{workOf, branchOf}
 use Rattle.execute.specs.Steps.{putStep}
 use Rattle.look.specs.Look.{edgesCounted, looked}
 use Rattle.act.specs.Act.{sourceOf, runOne, turnOf, coreAfter, actOf}
 use Rattle.step.specs.Step.{stepOf}
-use Rattle.text.specs.Digits.{characters, digit, inBase, placesOf}
-use Rattle.listing.specs.Lines.{header, stepLine}
-use Rattle.listing.specs.Script.{linesOf}
+use Rattle.digits.specs.Digits.{characters, digit, inBase, placesOf}
+use Rattle.lines.specs.Lines.{header, stepLine}
+use Rattle.script.specs.Script.{linesOf}
 use Rattle.listing.specs.Listing.{answerOf, toldOver}
 
 -- "D0 D3 6E 55 6E 5D 6E 5E 08, zeros after"

@@ -1,4 +1,3 @@
-pub mod Ends
 pub mod Telling
 pub mod Feeding
 pub mod Parts

@@ -19,7 +19,7 @@ use Rattle.step.specs.Step.{stepOf}
 use Rattle.step.specs.Gives.{Gives}
 use Rattle.step.specs.declared.Advanced.{Advanced}
 use Rattle.step.proofs.StepValid.{step-valid}
-use Rattle.listing.specs.Lines.{stepLine, refusedLine}
+use Rattle.lines.specs.Lines.{stepLine, refusedLine}
 use Rattle.listing.specs.Listing.{Answer, options, answerOf}
 use Rattle.listing.specs.Tells.{Tells}
 use Rattle.listing.specs.declared.Told.{Told}

@@ -1,4 +1,2 @@
-pub mod Lines
-pub mod Script
 pub mod Listing
 pub mod Tells

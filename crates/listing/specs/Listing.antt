@@ -11,13 +11,13 @@ use Rattle.sheet.specs.Reading.{romOf}
 use Rattle.frame.specs.Frame.{frameOf}
 use Rattle.frame.specs.declared.Frame.{Frame}
 use Rattle.frame.specs.declared.Frame.the-variants.{Seen, NoFrame}
-use Rattle.machine.specs.Start.{freshMachine}
+use Rattle.start.specs.Start.{freshMachine}
 use Rattle.machine.specs.declared.Machine.{Machine}
 use Rattle.execute.specs.Rows.{Done}
 use Rattle.step.specs.Step.{stepOf}
 use Rattle.step.specs.declared.Options.{Options}
-use Rattle.listing.specs.Lines.{header, stepLine, refusedLine}
-use Rattle.listing.specs.Script.{linesOf}
+use Rattle.lines.specs.Lines.{header, stepLine, refusedLine}
+use Rattle.script.specs.Script.{linesOf}
 
 -- "all wake pins enabled, SOUND off"
 abbrev pub options : Options

@@ -10,7 +10,7 @@ use Rattle.laws.specs.Writing.{Wrote}
 use Rattle.machine.specs.Valid.{Valid}
 use Rattle.machine.specs.declared.Machine.{Machine}
 use Rattle.near.specs.Quiet.{assembled}
-use Rattle.listing.specs.Script.{linesOf, upTo}
+use Rattle.script.specs.Script.{linesOf, upTo}
 use Rattle.listing.specs.Listing.{Answer, toldOver}
 use Rattle.listing.specs.declared.Told.{Told}
 use Rattle.listing.specs.declared.Fed.{Fed}

@@ -1,11 +1,8 @@
-// The runner's listing: one line of a script answered, and the lines of a part of a script. The lines' text is in line.rt, a script's lines are in script.rt.
-pub mod line;
-pub mod script;
-
-use crate::script::line_end;
+// The runner's listing: one line of a script answered, and the lines of a part of a script.
 use frame::Frame;
 use frame::frame_of;
 use machine::Core;
+use script::line_end;
 use step::Options;
 use step::advance;
 ghost use mathlib.Core.Path.{_≡_};
@@ -44,7 +41,7 @@ pub fn tell(
     ensures { λ r. ⌜ Tells (answerOf (romOf (now (image .entry))) (record { core = m; ram = now (ram .entry) }) (now (text .entry))) (now (out .entry)) (now (out .exit)) from (now (ram .exit)) r ⌝ }
 {
     let Frame::Seen(pins) = frame_of(text) else {
-        let end = line::refused(out, from, 3);
+        let end = lines::refused(out, from, 3);
         return Told {
             core: m,
             ended: true,
@@ -57,7 +54,7 @@ pub fn tell(
     };
     let x = advance(image, options, m, ram, pins);
     let core = x.core;
-    let end = line::line(out, from, core, x.cycles, x.stop);
+    let end = lines::line(out, from, core, x.cycles, x.stop);
     Told {
         core: core,
         ended: x.stop != 0,

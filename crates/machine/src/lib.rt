@@ -1,10 +1,7 @@
-// The record: its types. valid.rt decides its ranges, start.rt makes it fresh and resets it, ram.rt and pack.rt read and write RAM, stack.rt and due.rt are for calls and interrupts.
-pub mod due;
+// The record: its types. ram.rt and pack.rt read and write RAM, stack.rt is for calls and interrupts.
 pub mod pack;
 pub mod ram;
 pub mod stack;
-pub mod start;
-pub mod valid;
 
 use frame::Pins;
 use ports::Mode;
@@ -52,10 +49,4 @@ pub struct Core {
 pub struct Machine {
     pub core: Core,
     pub ram: [u8; 372],
-}
-
-// What reset answers: 0 and the record, or a refusal's number and the record as it was.
-pub struct Reset {
-    pub refusal: u8,
-    pub machine: Machine,
 }

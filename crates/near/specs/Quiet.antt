@@ -7,7 +7,6 @@ use mathlib.Core.Path.{_≡_}
 use Rattle.sheet.specs.Reading.{insn}
 use Rattle.machine.specs.declared.Core.{Core}
 use Rattle.machine.specs.declared.Machine.{Machine}
-use Rattle.execute.specs.Places.{Around}
 use Rattle.execute.specs.Rows.{Done, executed}
 use Rattle.near.specs.declared.Act.{Act}
 

@@ -1,11 +1,10 @@
 // Document 01's worked handler with a path buffer that is a byte short, one that fits and one that is longer: what comes back, and the buffer's bytes, EE where none was written.
 use bound::bound;
+use digits::number;
+use digits::put_text;
 use libc::STDOUT_FILENO;
 use report::summary;
-use text::digits::number;
-use text::digits::put_text;
 ghost use mathlib.Core.Path.{_≡_};
-ghost use Prim.Native.Nat.{_≤_};
 ghost use lib.ListN.{length};
 
 fn worked() -> [u8; 8192]

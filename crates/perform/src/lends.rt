@@ -18,7 +18,6 @@ use turns::Turn;
 use turns::calls::call;
 use turns::latches::latch;
 use turns::returns::come_back;
-ghost use mathlib.Core.Path.{_≡_};
 ghost use Prim.Native.Nat.{_<_, _≤_};
 ghost use Rattle.machine.specs.Valid.{ValidCore, Nibbles};
 ghost use Rattle.cells.specs.Cells.{Does};

@@ -6,7 +6,7 @@ use mathlib.Core.List.{List}
 use mathlib.Core.Path.{_≡_}
 use Rattle.sheet.specs.Reading.{insn}
 use Rattle.machine.specs.declared.Core.{Core}
-use Rattle.execute.specs.Rows.{Done, executed}
+use Rattle.execute.specs.Rows.{executed}
 use Rattle.pointers.specs.Pointed.{afterPointer}
 use Rattle.pointers.specs.declared.Pointed.{Pointed}
 

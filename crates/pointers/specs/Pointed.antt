@@ -1,6 +1,6 @@
 -- What a row of a pointer or a timer gives, held against the table's definition.
 -- Assumes nothing.
-use Prim.Native.Nat.{ℕ, _<_, _/_, _%_}
+use Prim.Native.Nat.{ℕ, _<_}
 use mathlib.Core.Bool.{Bool, true}
 use mathlib.Core.List.{List}
 use mathlib.Core.Path.{_≡_}
@@ -9,7 +9,7 @@ use Rattle.machine.specs.Valid.{ValidRegisters, ValidPointers, ValidTimers}
 use Rattle.machine.specs.declared.Core.{Core}
 use Rattle.machine.specs.declared.Pointers.{Pointers}
 use Rattle.machine.specs.declared.Timers.{Timers}
-use Rattle.execute.specs.Rows.{Done, executed}
+use Rattle.execute.specs.Rows.{executed}
 use Rattle.near.specs.declared.Act.{Act}
 use Rattle.near.specs.Ends.{stopped}
 use Rattle.pointers.specs.declared.Pointed.{Pointed}

@@ -1,4 +1,3 @@
-pub mod Latched
 pub mod Stops
 pub mod Writing
 pub mod Reading

@@ -1,8 +1,8 @@
 -- Document 01, "Instructions": the ports, read, written, set and cleared; and what writing P16 does.
 -- Assumes nothing.
 use Prim.Native.Nat.{ℕ, _+_, _/_, _%_}
-use mathlib.Core.Bool.{Bool, true, false}
-use mathlib.Core.List.{List, [], _∷_}
+use mathlib.Core.Bool.{Bool}
+use mathlib.Core.List.{[], _∷_}
 use lib.Dec.{eqb}
 use Rattle.laws.specs.Among.{among}
 use Rattle.laws.specs.Choice.{pick, both, either}

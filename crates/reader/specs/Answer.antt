@@ -12,7 +12,6 @@ use Rattle.sheet.specs.declared.Read.{Read}
 use Rattle.sheet.specs.declared.Read.the-variants.{Row, Unassigned}
 use Rattle.reader.specs.declared.Answer.{Answer}
 use Rattle.reader.specs.declared.Answer.the-variants as answer
-use Rattle.reader.specs.declared.Decoded.{Decoded}
 
 -- the values of a row: its number, its two operands, its bytes and its cycles
 abbrev pub valuesOf : Insn → ℕ → ℕ → List ℕ

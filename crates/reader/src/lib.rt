@@ -1,6 +1,4 @@
 // The reader: what a code is, by its bytes and by an image and an address.
-mod families;
-
 use families::found;
 use sheet::Insn;
 use sheet::Read;

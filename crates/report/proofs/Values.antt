@@ -7,8 +7,8 @@ use native.Mathlib.Omega.{arith}
 use lib.ListN.{getD}
 use Rattle.laws.specs.Writing.{Wrote}
 use Rattle.laws.proofs.Writing.{wrote-then}
-use Rattle.text.specs.Digits.{placesOf, decimal, blanks}
-use Rattle.text.proofs.Numbers.{digits-length, places-up-to}
+use Rattle.digits.specs.Digits.{placesOf, decimal, blanks}
+use Rattle.digits.proofs.Numbers.{digits-length, places-up-to}
 use Rattle.bound.specs.Answer.{paperOf}
 use Rattle.bound.specs.declared.Bounded.{Bounded}
 use Rattle.report.specs.Report.{aligned}

@@ -5,7 +5,7 @@ use mathlib.Core.List.{List, [], _∷_, _++_}
 use lib.ListN.{length}
 use Rattle.sheet.specs.Reading.{readAt, cyclesOf}
 use Rattle.sheet.specs.declared.Read.{Read}
-use Rattle.text.specs.Digits.{characters, hex, inBase, decimal, blanks}
+use Rattle.digits.specs.Digits.{characters, hex, inBase, decimal, blanks}
 use Rattle.text.specs.Listing.{columnsOf}
 use Rattle.bound.specs.declared.Bounded.{Bounded}
 

@@ -1,13 +1,13 @@
 // What the bounder says, as characters in a buffer: each function answers the place after what it wrote.
 use bound::Bounded;
+use digits::blanks;
+use digits::decimal;
+use digits::number;
+use digits::places;
+use digits::put;
+use digits::put_text;
 use reader::read_at;
 use sheet::Read;
-use text::digits::blanks;
-use text::digits::decimal;
-use text::digits::number;
-use text::digits::places;
-use text::digits::put;
-use text::digits::put_text;
 use text::line::columns;
 ghost use mathlib.Core.Path.{_≡_};
 ghost use Prim.Native.Nat.{_+_, _<_, _≤_};

@@ -2,9 +2,9 @@
 use frame::are_frames;
 use frame::pins_at;
 use machine::Machine;
-use machine::valid::is_valid;
 use step::Options;
 use step::advance;
+use valid::is_valid;
 ghost use mathlib.Core.Path.{_≡_};
 ghost use mathlib.Core.Bool.{true};
 ghost use Prim.Native.Nat.{_≤_};

@@ -3,12 +3,12 @@
 use libc::STDERR_FILENO;
 use libc::STDIN_FILENO;
 use libc::STDOUT_FILENO;
+use lines::header;
+use lines::refused;
 use listing::feed;
-use listing::line::header;
-use listing::line::refused;
 use listing::tell;
 use machine::Core;
-use machine::start::fresh;
+use start::fresh;
 ghost use mathlib.Core.Path.{_≡_};
 ghost use mathlib.Core.Bool.{true, false};
 ghost use Prim.Native.Nat.{_+_, _≤_};

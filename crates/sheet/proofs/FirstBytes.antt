@@ -1,10 +1,10 @@
 -- The agreement of a table of first bytes with the rows: one test over the whole table, carried to each first byte.
 -- Assumes nothing.
-use mathlib.Core.Path.{_≡_, refl, sym, ap, subst, _∙_}
+use mathlib.Core.Path.{_≡_, refl, ap, _∙_}
 use mathlib.Core.Bool.{Bool, true, false}
 use mathlib.Core.List.{List, [], _∷_}
 use mathlib.Core.Logic.{inl, inr}
-use Prim.Native.Nat.{ℕ, suc, _+_, _/_, _%_, _<_}
+use Prim.Native.Nat.{ℕ, _+_, _/_, _%_, _<_}
 use native.Mathlib.Numerals.{one-add}
 use lib.Dec.{T, eqb, eqb→eq}
 use lib.ListN.{getD}
@@ -12,7 +12,7 @@ use Rattle.laws.specs.Choice.{both, pick}
 use Rattle.laws.proofs.Computed.{implies, modus, below, listed, at, both-left, both-right, both-i}
 use Rattle.sheet.specs.Code.{Group, hasDigit, fits}
 use Rattle.sheet.specs.Table.{Code, Line, lines, lineAt}
-use Rattle.sheet.specs.Reading.{rowNumber, bytesOf, cyclesOf}
+use Rattle.sheet.specs.Reading.{rowNumber}
 use Rattle.sheet.specs.Timing.{Timed, TimedFrom}
 use Rattle.sheet.proofs.Winning.{At, here, there, line-at, Fitting, winner-is}
 

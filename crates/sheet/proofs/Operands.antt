@@ -1,10 +1,10 @@
 -- The operands that are read are within their fields.
 -- Assumes nothing.
-use mathlib.Core.Path.{_≡_, refl, sym, ap, subst⁻¹, _∙_}
+use mathlib.Core.Path.{_≡_, sym, ap, _∙_}
 use mathlib.Core.Bool.{Bool, true, false}
 use mathlib.Core.List.{List, [], _∷_}
 use Prim.Native.String.{String}
-use Prim.Native.Nat.{ℕ, zero, suc, _*_, _%_, _<_, _≤_, max}
+use Prim.Native.Nat.{ℕ, _*_, _%_, _<_, _≤_, max}
 use native.Mathlib.Nat.{le-trans, not-suc-le-zero}
 use native.Mathlib.Decide.{decLt, ℕ-discrete}
 use native.Mathlib.Omega.{arith}

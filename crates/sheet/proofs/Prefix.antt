@@ -7,22 +7,20 @@ use mathlib.Core.List.{List, [], _∷_}
 use Prim.Native.String.{String}
 use Prim.Native.Nat.{ℕ, zero, suc, _+_, _*_, _/_, _%_, _<_}
 use native.Mathlib.Omega.{arith}
-use native.Mathlib.Nat.{not-suc-le-zero}
 use native.Mathlib.Numerals.{one-add}
 use lib.Dec.{T, T-not, eqb, eqb→eq, ltb}
 use lib.ListN.{getD, take, length}
 use lib.Seq.{take-nil}
 use Rattle.laws.specs.Choice.{pick, both}
-use Rattle.laws.proofs.Computed.{implies, modus, below, at, both-left, both-right, true→T}
+use Rattle.laws.proofs.Computed.{implies, modus, below, at, both-left, both-right}
 use Rattle.sheet.specs.Code.{Group, hasDigit, fits, fixedBits, Operand, absent, valueOf, gives, operandFrom, digits}
 use Rattle.sheet.specs.Table.{Code, Line, lines, lineAt}
 use Rattle.sheet.specs.Reading.{claim, over, Winner, winner, codeOf, insn, assigned, rowNumber, rowWith, readDigits, readBytes, bytesOf}
 use Rattle.sheet.specs.declared.Insn.{Insn}
-use Rattle.sheet.specs.declared.Read.{Read}
 use Rattle.sheet.specs.declared.Read.the-variants.{Row, Unassigned}
 use Rattle.sheet.proofs.Winning.{At, here, there, line-at, Fitting, winner-is}
 use Rattle.sheet.proofs.FirstBytes.{begins, begins-of, bytesTable, first-byte}
-use Rattle.sheet.proofs.ReadAs.{row-of, has-row, row-with}
+use Rattle.sheet.proofs.ReadAs.{row-of, has-row}
 
 -- groups look at as many digits as they are
 pub fits-take : (gs : List Group) (ds : List ℕ) → fits gs ds ≡ fits gs (take (length gs) ds)

@@ -4,14 +4,14 @@ use mathlib.Core.Path.{_≡_, refl, sym, subst, _∙_}
 use mathlib.Core.Bool.{Bool, true, false}
 use mathlib.Core.List.{List, [], _∷_}
 use mathlib.Core.Logic.{_⊎_, inl, inr}
-use Prim.Native.Nat.{ℕ, zero, suc, _+_, _<_}
+use Prim.Native.Nat.{ℕ, suc, _+_, _<_}
 use native.Mathlib.Nat.{add-zero, add-suc, suc-add, not-suc-le-zero}
 use native.Mathlib.Omega.{arith}
 use lib.Dec.{T, ltb, ltb→lt}
 use Rattle.laws.specs.Choice.{pick}
 use Rattle.sheet.specs.Code.{fits, fixedBits}
 use Rattle.sheet.specs.Table.{Code, Line, lines, lineAt, lineIn}
-use Rattle.sheet.specs.Reading.{claim, Winner, over, winner}
+use Rattle.sheet.specs.Reading.{claim, Winner, winner}
 
 -- the line l is the one at j of ls, counted from 0
 pub data At : List Line → ℕ → Line → Type 0 where

@@ -2,7 +2,6 @@
 -- Assumes nothing.
 use Prim.Native.Nat.{ℕ, suc, _*_, _<_, max}
 use Prim.Native.String.{String}
-use mathlib.Core.Bool.{Bool}
 use mathlib.Core.List.{List, [], _∷_}
 use Rattle.laws.specs.Choice.{pick}
 use Rattle.sheet.specs.Code.{Group, #, all, fixed1, fixed2, fixed3, above2, among, Operand, absent, value}

@@ -1,12 +1,11 @@
 -- What a code is, by document 01's general rules over the table: a row with its operands, or unassigned.
 -- Assumes nothing.
 use Prim.Native.Nat.{ℕ, zero, suc, _+_, _%_}
-use mathlib.Core.Bool.{Bool}
 use mathlib.Core.List.{List, [], _∷_}
-use lib.Dec.{eqb, leb, ltb}
+use lib.Dec.{ltb}
 use lib.ListN.{getD}
 use Rattle.laws.specs.Choice.{pick}
-use Rattle.sheet.specs.Code.{Group, fits, fixedBits, Operand, absent, valueOf, operandFrom, digits}
+use Rattle.sheet.specs.Code.{fits, fixedBits, absent, valueOf, operandFrom, digits}
 use Rattle.sheet.specs.Table.{Code, Line, lines, lineAt}
 use Rattle.sheet.specs.declared.Insn.{Insn}
 use Rattle.sheet.specs.declared.Read.{Read}

@@ -16,7 +16,7 @@ use Rattle.frame.specs.declared.Frame.{Frame}
 use Rattle.frame.proofs.Characters.{in-range}
 use Rattle.machine.specs.Valid.{Valid}
 use Rattle.machine.specs.declared.Machine.{Machine}
-use Rattle.machine.proofs.Validity.{valid?}
+use Rattle.valid.proofs.Validity.{valid?}
 use Rattle.near.specs.Quiet.{assembled}
 use Rattle.step.specs.Step.{stepOf}
 use Rattle.step.specs.Answers.{stepRefused, stepped, StepOf}

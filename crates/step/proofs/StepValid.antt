@@ -7,6 +7,7 @@ use native.Mathlib.Decide.{ℕ-discrete}
 use lib.Dec.{eqb}
 use borrow.Author.Tests.{eq-eqb, ne-eqb}
 use Rattle.laws.specs.Choice.{pick}
+use Rattle.laws.proofs.Choices.{picked}
 use Rattle.frame.specs.Frame.{PinsInRange}
 use Rattle.frame.specs.declared.Pins.{Pins}
 use Rattle.ports.specs.declared.Mode.the-variants.{Running}
@@ -21,10 +22,6 @@ use Rattle.act.proofs.ActValid.{act-valid}
 use Rattle.step.specs.Step.{undone, goneOn, stepOf}
 use Rattle.step.specs.declared.Options.{Options}
 
-chosen-valid : (t : Bool) (x y : Done) → Valid (x .machine) → Valid (y .machine) → Valid (pick t x y .machine)
-chosen-valid true x y h k = h
-chosen-valid false x y h k = k
-
 undone-stops : (m : Machine) (x : Done) → Dec (x .stop ≡ 0) → (undone m x .stop ≡ 0 → ⊥) → undone m x ≡ stops (undone m x .stop) m
 undone-stops m x (yes e) z = absurd (z (rw (eq-eqb (x .stop) 0 e) e))
 undone-stops m x (no ne) z = rw (ne-eqb (x .stop) 0 ne)
@@ -37,7 +34,7 @@ module _ (rom : ℕ → ℕ) (o : Options) (m : Machine) where
   gone-valid : (t : Bool) (v : Looked) → v .acts ≡ t → Valid m → Valid (record { core = v .core; ram = m .ram }) → (t ≡ true → v .core .mode ≡ Running) → ((at : ℕ) → rom at < 256) → Valid (goneOn rom o m v .machine)
   gone-valid true v e h s r bytes =
       rw e
-      (chosen-valid (eqb (actOf rom (o .sound) (record { core = v .core; ram = m .ram }) .stop) 0) (actOf rom (o .sound) (record { core = v .core; ram = m .ram })) (stops (actOf rom (o .sound) (record { core = v .core; ram = m .ram }) .stop) m)
+      (picked (λ (d : Done). Valid (d .machine)) (eqb (actOf rom (o .sound) (record { core = v .core; ram = m .ram }) .stop) 0) (actOf rom (o .sound) (record { core = v .core; ram = m .ram })) (stops (actOf rom (o .sound) (record { core = v .core; ram = m .ram }) .stop) m)
       (act-valid rom (o .sound) (record { core = v .core; ram = m .ram }) s (r refl) bytes) h)
   gone-valid false v e h s r bytes = rw e s
 

@@ -8,7 +8,7 @@ use look::seen;
 use look::waited;
 use machine::Core;
 use machine::Machine;
-use machine::valid::is_valid;
+use valid::is_valid;
 ghost use mathlib.Core.Path.{_≡_};
 ghost use lib.ListN.{length};
 ghost use Rattle.sheet.specs.Reading.{romOf};

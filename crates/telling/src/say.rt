@@ -1,4 +1,5 @@
 // How the cases write what came back, and the step that most of them make.
+use digits::number;
 use frame::Pins;
 use libc::STDOUT_FILENO;
 use machine::Machine;
@@ -6,7 +7,6 @@ use ports::Mode;
 use step::Options;
 use step::Stepped;
 use step::step;
-use text::digits::number;
 ghost use Prim.Native.Nat.{_<_, _≤_};
 
 pub fn say(words: &[u8]) {

@@ -12,9 +12,9 @@ use machine::Machine;
 use machine::Pointers;
 use machine::Registers;
 use machine::Timers;
-use machine::start::fresh;
 use ports::Mode;
 use ports::Ports;
+use start::fresh;
 
 fn registers(r: Registers) {
     count(b", ACC ", r.acc as u32);

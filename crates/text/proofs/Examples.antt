@@ -7,8 +7,8 @@ use Rattle.sheet.specs.Reading.{readBytes, rowNumber, rowWith, romOf}
 use Rattle.sheet.specs.Table.{lineAt}
 use Rattle.sheet.specs.declared.Read.{Read}
 use Rattle.sheet.specs.declared.Read.the-variants.{Row, Unassigned}
-use Rattle.text.specs.Digits.{characters, digit, inBase, placesOf}
-use Rattle.text.specs.Notation.{goesTo, sign, rowText}
+use Rattle.digits.specs.Digits.{characters, digit, inBase, placesOf}
+use Rattle.notation.specs.Notation.{goesTo, sign, rowText}
 use Rattle.text.specs.Listing.{lineOf}
 
 abbrev codeText : ℕ → Read → List ℕ

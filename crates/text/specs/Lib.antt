@@ -1,4 +1,1 @@
-pub mod Digits
-pub mod Notation
 pub mod Listing
-pub mod Words

@@ -9,8 +9,8 @@ use Rattle.sheet.specs.Reading.{readAt, fetched, bytesOf, cyclesOf}
 use Rattle.sheet.specs.declared.Insn.{Insn}
 use Rattle.sheet.specs.declared.Read.{Read}
 use Rattle.sheet.specs.declared.Read.the-variants.{Row, Unassigned}
-use Rattle.text.specs.Digits.{characters, joined, inBase, hex, blanks, padded}
-use Rattle.text.specs.Notation.{rowText}
+use Rattle.digits.specs.Digits.{characters, joined, inBase, hex, blanks, padded}
+use Rattle.notation.specs.Notation.{rowText}
 
 -- "the row's bytes in two digits each with one blank between"
 abbrev pub spaced : List ℕ → List ℕ

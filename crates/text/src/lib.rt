@@ -1,5 +1,2 @@
-// The sheet's notation as characters: numbers, a row, a line of the listing and the listing; and the words that a program is given.
-pub mod digits;
+// The lister's text: a line and the listing.
 pub mod line;
-pub mod row;
-pub mod words;

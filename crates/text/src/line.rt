@@ -1,9 +1,9 @@
 // A line of the listing, and the listing.
-use crate::digits::blanks;
-use crate::digits::number;
-use crate::digits::put;
-use crate::digits::put_text;
-use crate::row::row;
+use digits::blanks;
+use digits::number;
+use digits::put;
+use digits::put_text;
+use notation::row;
 use reader::read_at;
 use sheet::Insn;
 use sheet::Read;
@@ -12,8 +12,8 @@ ghost use Prim.Native.Nat.{_+_, _*_, _<_, _≤_};
 ghost use lib.ListN.{length, take};
 ghost use Rattle.laws.specs.Writing.{Wrote};
 ghost use Rattle.sheet.specs.Reading.{readAt, romOf, fetched};
-ghost use Rattle.text.specs.Digits.{hex, padded};
-ghost use Rattle.text.specs.Notation.{rowText};
+ghost use Rattle.digits.specs.Digits.{hex, padded};
+ghost use Rattle.notation.specs.Notation.{rowText};
 ghost use Rattle.text.specs.Listing.{spaced, rowColumns, refusedColumns, columnsOf, lineOf, past, listingOf};
 
 fn byte(out: &mut [u8], from: usize, b: u8) -> usize

@@ -1,6 +1,6 @@
 -- Each row of interrupt control but RTI is its line of the table: by computation.
 -- Assumes nothing.
-use mathlib.Core.Path.{_≡_, refl}
+use mathlib.Core.Path.{refl}
 use mathlib.Core.Bool.{true, false}
 use Prim.Native.Nat.{ℕ}
 use Rattle.sheet.specs.Table.{lines, lineAt}

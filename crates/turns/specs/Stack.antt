@@ -6,7 +6,6 @@ use mathlib.Core.List.{List}
 use mathlib.Core.Path.{_≡_}
 use Rattle.bits.specs.Bits.{hasBit}
 use Rattle.machine.specs.Stack.{moved, withFlags, pcAt, topAt, keptTop, stored}
-use Rattle.machine.specs.declared.Interrupts.{Interrupts}
 use Rattle.machine.specs.declared.Core.{Core}
 use Rattle.turns.specs.declared.Turn.{Turn}
 

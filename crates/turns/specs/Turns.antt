@@ -6,7 +6,6 @@ use mathlib.Core.List.{List}
 use mathlib.Core.Path.{_≡_}
 use Rattle.sheet.specs.Reading.{insn}
 use Rattle.machine.specs.declared.Core.{Core}
-use Rattle.execute.specs.Places.{Around}
 use Rattle.execute.specs.Rows.{Done, executed}
 use Rattle.near.specs.Quiet.{assembled}
 use Rattle.turns.specs.declared.Turn.{Turn}

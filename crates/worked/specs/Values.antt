@@ -6,19 +6,18 @@ use mathlib.Core.Bool.{Bool, true, false}
 use mathlib.Core.List.{List, [], _∷_}
 use mathlib.Core.Path.{_≡_}
 use lib.Dec.{eqb}
-use lib.ListN.{getD, set}
+use lib.ListN.{set}
 use Rattle.laws.specs.Choice.{pick}
 use Rattle.bits.specs.Bits.{bitOf}
 use Rattle.sheet.specs.Operation.Op.{Plus, Minus}
 use Rattle.sheet.specs.Operation.Entry.{short}
 use Rattle.sheet.specs.Reading.{insn}
 use Rattle.sheet.specs.Flow.{entryOf}
-use Rattle.sheet.specs.declared.Insn.{Insn}
 use Rattle.alu.specs.Making.{made}
 use Rattle.alu.specs.declared.Made.{Made}
-use Rattle.machine.specs.Start.{freshMachine}
+use Rattle.start.specs.Start.{freshMachine}
 use Rattle.machine.specs.declared.Machine.{Machine}
-use Rattle.execute.specs.Places.{Around, withRegisters, withPointers, withRam}
+use Rattle.execute.specs.Places.{withRegisters, withPointers, withRam}
 use Rattle.execute.specs.Rows.{Done, executed}
 
 pub record Claim : Type 0 where

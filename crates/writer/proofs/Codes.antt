@@ -8,7 +8,7 @@ use native.Mathlib.Nat.{le-refl}
 use lib.ListN.{take, length}
 use lib.Seq.{take-take, length-take-le}
 use Rattle.sheet.specs.Code.{digits}
-use Rattle.sheet.specs.Reading.{rowNumber, rowWith, readDigits, readBytes, bytesOf}
+use Rattle.sheet.specs.Reading.{rowNumber, readBytes, bytesOf}
 use Rattle.sheet.specs.declared.Insn.{Insn}
 use Rattle.sheet.specs.declared.Read.the-variants.{Row}
 use Rattle.sheet.proofs.Prefix.{past-length}

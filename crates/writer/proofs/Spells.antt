@@ -11,7 +11,7 @@ use native.Mathlib.Numerals.{one-add}
 use lib.ListN.{take, drop}
 use lib.Dec.{T, T-not, eqb, eqb→eq}
 use borrow.Author.Tests.{lt-ltb, le-ltb}
-use Rattle.laws.specs.Choice.{pick, both}
+use Rattle.laws.specs.Choice.{pick}
 use Rattle.laws.proofs.Computed.{both-left, both-right}
 use Rattle.sheet.specs.Code.{Group, #, all, fixed1, fixed2, fixed3, above2, hasDigit, fits}
 use Rattle.sheet.specs.Table.{Code, Line, lines, lineAt}

@@ -2,10 +2,9 @@
 -- Assumes nothing.
 use Prim.Native.Nat.{ℕ, zero, suc, _+_, _-_, _*_}
 use Prim.Native.String.{String}
-use mathlib.Core.Bool.{Bool, true, false}
+use mathlib.Core.Bool.{Bool, false}
 use mathlib.Core.List.{List, [], _∷_}
 use lib.Dec.{eqb, ltb}
-use lib.ListN.{getD}
 use Rattle.laws.specs.Choice.{pick, both}
 use Rattle.sheet.specs.Code.{Group, #, all, fixed1, fixed2, fixed3, above2, among}
 use Rattle.sheet.specs.Table.{Code, Line, lineAt}

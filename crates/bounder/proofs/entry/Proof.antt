@@ -1,7 +1,6 @@
 -- `bounder::entry` meets its contract.
 -- Assumes nothing.
 use native.Mathlib.Omega.{arith}
-use denote.Ref.{now}
 use Rattle.bound.proofs.Sizes.{answer-small}
 use borrow.Author.Needs.{needs}
 use Rattle.bounder.proofs.entry.Statement.{statement}

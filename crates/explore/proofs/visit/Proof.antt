@@ -1,7 +1,5 @@
 -- `explore::visit` meets its contract.
 -- Assumes nothing.
-use native.Mathlib.Omega.{arith}
-use mathlib.Core.Path.{sym}
 use denote.Ref.{now}
 use Rattle.sheet.specs.Reading.{romOf}
 use Rattle.search.proofs.Grown.{room-grown}

@@ -2,7 +2,6 @@
 -- Assumes nothing.
 use Prim.Native.Nat.{_+_, _*_, _%_}
 use native.Mathlib.Nat.{add-zero}
-use mathlib.Core.List.{[], _∷_}
 use Rattle.flow.proofs.Ways.{last-way}
 use borrow.Author.Needs.{needs}
 use Rattle.flow.proofs.node_by.Statement.{statement}

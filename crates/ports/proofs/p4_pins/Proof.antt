@@ -1,6 +1,5 @@
 -- `ports::p4_pins` meets its contract.
 -- Assumes nothing.
-use borrow.Author.Tests.{eq-eqb, ne-eqb}
 use borrow.Author.Needs.{needs}
 use Rattle.ports.proofs.p4_pins.Statement.{statement}
 use Rattle.ports.proofs.p4_pins.Tie as tie

@@ -2,7 +2,7 @@
 -- Assumes nothing.
 use native.Mathlib.Omega.{arith}
 use Rattle.laws.proofs.Writing.{wrote-then}
-use Rattle.text.proofs.Numbers.{places-up-to}
+use Rattle.digits.proofs.Numbers.{places-up-to}
 use Rattle.report.proofs.Values.{wrote-aligned}
 use borrow.Author.Needs.{needs}
 use Rattle.report.proofs.path_line.Statement.{statement}

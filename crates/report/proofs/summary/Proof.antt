@@ -2,7 +2,6 @@
 -- Assumes nothing.
 use native.Mathlib.Omega.{arith}
 use Rattle.laws.proofs.Writing.{wrote-then}
-use Rattle.text.proofs.Numbers.{places-up-to}
 use Rattle.report.proofs.Values.{excluded-small, repeats-small, short-small, longest-small, few-places}
 use borrow.Author.Needs.{needs}
 use Rattle.report.proofs.summary.Statement.{statement}

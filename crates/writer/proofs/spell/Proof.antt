@@ -1,6 +1,6 @@
 -- `writer::spell` meets its contract.
 -- Assumes nothing.
-use borrow.Author.Tests.{lt-ltb, le-ltb, eq-eqb, ne-eqb}
+use borrow.Author.Tests.{eq-eqb, ne-eqb}
 use Rattle.writer.specs.Spelling.{spelling}
 use borrow.Author.Needs.{needs}
 use Rattle.writer.proofs.spell.Statement.{statement}

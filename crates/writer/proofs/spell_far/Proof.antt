@@ -1,6 +1,6 @@
 -- `writer::spell_far` meets its contract.
 -- Assumes nothing.
-use borrow.Author.Tests.{lt-ltb, le-ltb, eq-eqb, ne-eqb}
+use borrow.Author.Tests.{lt-ltb, le-ltb}
 use borrow.Author.Needs.{needs}
 use Rattle.writer.proofs.spell_far.Statement.{statement}
 use Rattle.writer.proofs.spell_far.Tie as tie

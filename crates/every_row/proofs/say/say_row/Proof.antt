@@ -7,6 +7,9 @@ use borrow.Author.Needs.{needs}
 use Rattle.every_row.proofs.say.say_row.Statement.{statement}
 use Rattle.every_row.proofs.say.say_row.Tie as tie
 
+cast-say-decimal : tie.Need-cast-say-decimal
+cast-say-decimal c = search needs
+
 say-decimal-requires : tie.Need-say-decimal-requires
 say-decimal-requires c κs = search needs
 
@@ -38,6 +41,7 @@ pub say-row-spec : {M : Type 1} → statement M
 say-row-spec =
     tie.close
     (tie.spec
+    cast-say-decimal
     say-decimal-requires
     slice-aggregate-say
     say-requires

@@ -1,6 +1,6 @@
 -- `port_rows::writes::held` meets its contract.
 -- Assumes nothing.
-use Rattle.port_rows.proofs.Latched.{latch-low}
+use Rattle.execute.proofs.PlacesValid.{latch-low}
 use borrow.Author.Needs.{needs}
 use Rattle.port_rows.proofs.writes.held.Statement.{statement}
 use Rattle.port_rows.proofs.writes.held.Tie as tie

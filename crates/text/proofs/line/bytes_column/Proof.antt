@@ -1,7 +1,7 @@
 -- `text::line::bytes_column` meets its contract.
 -- Assumes nothing.
 use native.Mathlib.Omega.{arith}
-use Rattle.text.proofs.Numbers.{wrote-padded}
+use Rattle.digits.proofs.Numbers.{wrote-padded}
 use borrow.Author.Needs.{needs}
 use Rattle.text.proofs.line.bytes_column.Statement.{statement}
 use Rattle.text.proofs.line.bytes_column.Tie as tie

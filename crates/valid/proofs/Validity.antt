@@ -1,0 +1,88 @@
+-- Validity is decided, part by part.
+-- Assumes nothing.
+use Prim.Native.Nat.{ℕ, _/_, _%_, _<_}
+use mathlib.Core.List.{List}
+use lib.ListN.{getD}
+use Rattle.laws.proofs.Decided.{Decision, always, less, equal, negated, _and_, restated, each, decided}
+use Rattle.frame.specs.declared.Pins.{Pins}
+use Rattle.frame.specs.Frame.{PinsInRange}
+use Rattle.machine.specs.Valid.{ValidRegisters, ValidPointers, ValidInterrupts, ValidTimers, ValidPorts, ModeFits, ValidCore, Nibbles, Valid}
+use Rattle.machine.specs.declared.Registers.{Registers}
+use Rattle.machine.specs.declared.Pointers.{Pointers}
+use Rattle.machine.specs.declared.Interrupts.{Interrupts}
+use Rattle.machine.specs.declared.Timers.{Timers}
+use Rattle.ports.specs.declared.Ports.{Ports}
+use Rattle.ports.specs.declared.Mode.{Mode}
+use Rattle.machine.specs.declared.Core.{Core}
+use Rattle.machine.specs.declared.Machine.{Machine}
+
+abbrev pub registers : (r : Registers) → Decision (ValidRegisters r)
+registers r =
+    restated (λ h. record { acc = h .0; hr = h .1 .0; lr = h .1 .1 }) (λ v. (v .acc, (v .hr, v .lr)))
+    (less (r .acc) 16 and less (r .hr) 16 and less (r .lr) 16)
+
+abbrev pub pointers : (p : Pointers) → Decision (ValidPointers p)
+pointers p =
+    restated (λ h. record { sp = h .0; dp = h .1 }) (λ v. (v .sp, v .dp)) (less (p .sp) 16 and less (p .dp) 4096)
+
+abbrev pub interrupts : (i : Interrupts) → Decision (ValidInterrupts i)
+interrupts i =
+    restated (λ h. record { il = h .0; il4 = h .1 .0; mask = h .1 .1 }) (λ v. (v .il, (v .il4, v .mask)))
+    (less (i .il) 64 and equal (i .il / 16 % 2) 0 and less (i .mask) 16)
+
+abbrev pub timers : (t : Timers) → Decision (ValidTimers t)
+timers t =
+    restated (λ h. record { base = h .0; eights = h .1 .0; ta = h .1 .1 .0; tb = h .1 .1 .1 })
+    (λ v. (v .base, (v .eights, (v .ta, v .tb))))
+    (less (t .base) 4194304 and equal (t .base % 8) 0 and less (t .ta) 4096 and less (t .tb) 4096)
+
+abbrev pub ports : (p : Ports) → Decision (ValidPorts p)
+ports p =
+    restated
+    (λ h. record { p4 = h .0 .0; p8 = h .0 .1 .0; p9 = h .0 .1 .1 .0; p16 = h .0 .1 .1 .1; p23 = h .1 .0 .0; p24 = h .1 .0 .1 .0; p25 = h .1 .0 .1 .1 .0; p27 = h .1 .0 .1 .1 .1; p28 = h .1 .1 .0 .0; p29 = h .1 .1 .0 .1 .0; p30 = h .1 .1 .0 .1 .1; p25-never-10xx = h .1 .1 .1 .0; p27-never-10xx = h .1 .1 .1 .1 })
+    (λ v. ((v .p4, (v .p8, (v .p9, v .p16))), ((v .p23, (v .p24, (v .p25, v .p27))), ((v .p28, (v .p29, v .p30)), (v .p25-never-10xx, v .p27-never-10xx)))))
+    ((less (p .p4) 16 and less (p .p8) 16 and less (p .p9) 16 and less (p .p16) 16)
+    and (less (p .p23) 16 and less (p .p24) 16 and less (p .p25) 16 and less (p .p27) 16)
+    and (less (p .p28) 16 and less (p .p29) 16 and less (p .p30) 16)
+    and (negated (equal (p .p25 / 4) 2) and negated (equal (p .p27 / 4) 2)))
+
+abbrev pub pins : (p : Pins) → Decision (PinsInRange p)
+pins p =
+    restated (λ h. record { p0 = h .0; p8 = h .1 .0; p4 = h .1 .1 }) (λ v. (v .p0, (v .p8, v .p4)))
+    (less (p .p0) 16 and less (p .p8) 16 and less (p .p4) 2)
+
+abbrev pub modeFits : (m : Mode) (p16 : ℕ) → Decision (ModeFits m p16)
+modeFits Mode.Running p16 = always
+modeFits Mode.Sleep p16 = equal (p16 / 4 % 2) 1 and negated (equal (p16 % 4) 3)
+modeFits Mode.Hold p16 = equal (p16 / 4 % 2) 1 and equal (p16 % 4) 3
+
+-- the whole, from what decides its parts
+abbrev pub core : (m : Core) → Decision (ValidRegisters (m .regs)) → Decision (ValidPointers (m .ptrs)) → Decision (ValidInterrupts (m .ints)) → Decision (ValidTimers (m .timers)) → Decision (ValidPorts (m .ports)) → Decision (PinsInRange (m .pins)) → Decision (ModeFits (m .mode) (m .ports .p16)) → Decision (ValidCore m)
+core m r p i t o n f =
+    restated
+    (λ h. record { regs = h .0 .0; pc = h .0 .1 .0; ptrs = h .0 .1 .1; ints = h .1 .0 .0; timers = h .1 .0 .1; ports = h .1 .1 .0; pins = h .1 .1 .1 .0; mode = h .1 .1 .1 .1 })
+    (λ v. ((v .regs, (v .pc, v .ptrs)), ((v .ints, v .timers), (v .ports, (v .pins, v .mode)))))
+    ((r and less (m .pc) 8192 and p) and (i and t) and (o and n and f))
+
+abbrev pub machine : (m : Machine) → Decision (ValidCore (m .core)) → Decision (Nibbles (m .ram)) → Decision (Valid m)
+machine m c r = restated (λ h. record { core = h .0; ram = h .1 }) (λ v. (v .core, v .ram)) (c and r)
+
+abbrev pub nibbles : (ram : List ℕ) → Decision (Nibbles ram)
+nibbles ram =
+    restated (λ h. record { each = h }) (λ v. v .each) (each 372 {P = λ k. getD ram k 0 < 16} (λ k. less (getD ram k 0) 16))
+
+pub core? : (m : Core) → Dec (ValidCore m)
+core? m =
+    decided (core m (registers (m .regs)) (pointers (m .ptrs)) (interrupts (m .ints)) (timers (m .timers)) (ports (m .ports)) (pins (m .pins)) (modeFits (m .mode) (m .ports .p16)))
+
+nibbles? : (ram : List ℕ) → Dec (Nibbles ram)
+nibbles? ram = decided (nibbles ram)
+
+valid-of : {m : Machine} → Dec (ValidCore (m .core)) → Dec (Nibbles (m .ram)) → Dec (Valid m)
+valid-of (yes c) (yes r) = yes (record { core = c; ram = r })
+valid-of (yes c) (no r) = no (λ v. r (v .ram))
+valid-of (no c) r = no (λ v. c (v .core))
+
+-- a record is valid or not
+pub valid? : (m : Machine) → Dec (Valid m)
+valid? m = valid-of (core? (m .core)) (nibbles? (m .ram))

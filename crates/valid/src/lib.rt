@@ -1,0 +1,105 @@
+// Whether a record is within its ranges.
+use frame::Pins;
+use laws::both;
+use machine::Core;
+use machine::Interrupts;
+use machine::Machine;
+use machine::Pointers;
+use machine::Registers;
+use machine::Timers;
+use ports::Mode;
+use ports::Ports;
+ghost use Prim.Native.Nat.{_<_};
+ghost use Rattle.laws.specs.Decides.{Decides};
+ghost use Rattle.frame.specs.Frame.{PinsInRange};
+ghost use Rattle.machine.specs.Valid.{ValidRegisters, ValidPointers, ValidInterrupts, ValidTimers, ValidPorts, ModeFits, ValidCore, Nibbles, Valid};
+
+fn registers_valid(r: Registers) -> bool
+    ensures { λ x. ⌜ Decides x (ValidRegisters r) ⌝ }
+{
+    both(r.acc < 16, both(r.hr < 16, r.lr < 16))
+}
+
+fn pointers_valid(p: Pointers) -> bool
+    ensures { λ x. ⌜ Decides x (ValidPointers p) ⌝ }
+{
+    both(p.sp < 16, p.dp < 4096)
+}
+
+fn interrupts_valid(i: Interrupts) -> bool
+    ensures { λ x. ⌜ Decides x (ValidInterrupts i) ⌝ }
+{
+    both(i.il < 64, both(i.il / 16 % 2 == 0, i.mask < 16))
+}
+
+fn timers_valid(t: Timers) -> bool
+    ensures { λ x. ⌜ Decides x (ValidTimers t) ⌝ }
+{
+    both(
+        t.base < 4194304,
+        both(t.base % 8 == 0, both(t.ta < 4096, t.tb < 4096)),
+    )
+}
+
+fn ports_valid(p: Ports) -> bool
+    ensures { λ x. ⌜ Decides x (ValidPorts p) ⌝ }
+{
+    let p4_to_16 = both(p.p4 < 16, both(p.p8 < 16, both(p.p9 < 16, p.p16 < 16)));
+    let p23_to_27 = both(p.p23 < 16, both(p.p24 < 16, both(p.p25 < 16, p.p27 < 16)));
+    let p28_to_30 = both(p.p28 < 16, both(p.p29 < 16, p.p30 < 16));
+    let never = both(p.p25 / 4 != 2, p.p27 / 4 != 2);
+    both(p4_to_16, both(p23_to_27, both(p28_to_30, never)))
+}
+
+fn pins_valid(p: Pins) -> bool
+    ensures { λ x. ⌜ Decides x (PinsInRange p) ⌝ }
+{
+    both(p.p0 < 16, both(p.p8 < 16, p.p4 < 2))
+}
+
+fn mode_fits(mode: Mode, p16: u8) -> bool
+    ensures { λ x. ⌜ Decides x (ModeFits mode p16) ⌝ }
+{
+    match mode {
+        Mode::Running => true,
+        Mode::Sleep => both(p16 / 4 % 2 == 1, p16 % 4 != 3),
+        Mode::Hold => both(p16 / 4 % 2 == 1, p16 % 4 == 3),
+    }
+}
+
+pub fn core_is_valid(m: Core) -> bool
+    ensures { λ x. ⌜ Decides x (ValidCore m) ⌝ }
+{
+    let mode = m.mode;
+    let registers = both(
+        registers_valid(m.regs),
+        both(m.pc < 8192, pointers_valid(m.ptrs)),
+    );
+    let clocks = both(interrupts_valid(m.ints), timers_valid(m.timers));
+    let outside = both(
+        ports_valid(m.ports),
+        both(pins_valid(m.pins), mode_fits(mode, m.ports.p16)),
+    );
+    both(registers, both(clocks, outside))
+}
+
+pub fn are_nibbles(ram: &[u8; 372]) -> bool
+    ensures { λ x. ⌜ Decides x (Nibbles (now (ram .entry))) ⌝ }
+{
+    let mut i: usize = 0;
+    while i < 372 {
+        if 16 <= ram[i] {
+            return false;
+        }
+        i += 1;
+    }
+    true
+}
+
+pub fn is_valid(m: Machine) -> bool
+    ensures { λ x. ⌜ Decides x (Valid m) ⌝ }
+{
+    let core = m.core;
+    let ram = m.ram;
+    both(core_is_valid(core), are_nibbles(&ram))
+}
