@@ -1,0 +1,196 @@
+// The lines that set a value up and run it.
+use crate::bench::Bench;
+use crate::bench::with_machine;
+use fields::cursor::decimal_at;
+use fields::cursor::hexadecimal_at;
+use fields::cursor::next_word;
+use fields::cursor::word_end;
+use fields::say::say;
+use machine::Core;
+use machine::Machine;
+use machine::ram::at_x;
+use machine::ram::poke;
+use step::Options;
+use step::step;
+ghost use mathlib.Core.Path.{_≡_};
+ghost use Prim.Native.Nat.{_<_, _≤_};
+ghost use lib.ListN.{length};
+
+// A new value.
+pub fn begin(image: &mut [u8; 8192], b: Bench) -> Bench {
+    for i in 0..8192 {
+        image[i] = 0;
+    }
+    Bench {
+        machine: start::fresh(),
+        number: 0,
+        same: b.same,
+    }
+}
+
+// An address's byte in the image; addresses wrap.
+fn put(image: &mut [u8; 8192], address: u32, v: u32) {
+    image[(address % 8192) as usize] = (v % 256) as u8;
+}
+
+// The words from a place on, put into the image from an address on; the address after them.
+fn put_words(image: &mut [u8; 8192], text: &[u8], from: usize, address: u32) -> u32
+    requires { ⌜ (from ≤ length (now text)) × (address < 8192) ⌝ }
+    ensures { λ r. ⌜ r < 8192 ⌝ }
+{
+    let mut at = from;
+    let mut to = address;
+    while at < text.len() {
+        put(image, to, hexadecimal_at(text, at));
+        to = (to + 1) % 8192;
+        at = next_word(text, at);
+    }
+    to
+}
+
+// The bytes that follow the address of an `at` or a `rom`; the address after them.
+fn put_all(image: &mut [u8; 8192], text: &[u8], from: usize) -> u32
+    requires { ⌜ from < length (now text) ⌝ }
+    ensures { λ r. ⌜ r < 8192 ⌝ }
+{
+    let at = next_word(text, from);
+    if at == text.len() {
+        return 0;
+    }
+    let bytes = next_word(text, at);
+    put_words(image, text, bytes, hexadecimal_at(text, at) % 8192)
+}
+
+pub fn bytes(image: &mut [u8; 8192], b: Bench, text: &[u8], from: usize) -> Bench
+    requires { ⌜ from < length (now text) ⌝ }
+{
+    put_all(image, text, from);
+    b
+}
+
+// The row at an address as the lister prints it, where the address is before the end; the address after it.
+fn list_row(image: &[u8], at: u16, end: u16) -> u16
+    requires { ⌜ (length (now image) ≡ 8192) × (at < 8192) ⌝ }
+    ensures { λ r. ⌜ r < 8192 ⌝ }
+{
+    if end <= at {
+        return at;
+    }
+    let mut out = [0u8; 40];
+    let n = text::line::line(&mut out, 0, image, at);
+    say(b"  ");
+    say(&out[..n]);
+    text::line::after(image, at) % 8192
+}
+
+// The rows from an address up to another, sixteen at most.
+fn list(image: &[u8], from: u16, end: u16)
+    requires { ⌜ (length (now image) ≡ 8192) × (from < 8192) ⌝ }
+{
+    let mut at = from;
+    let mut left: u32 = 16;
+    while 0 < left {
+        at = list_row(image, at, end);
+        left -= 1;
+    }
+}
+
+pub fn rows(image: &mut [u8; 8192], b: Bench, text: &[u8], from: usize) -> Bench
+    requires { ⌜ from < length (now text) ⌝ }
+{
+    let end = put_all(image, text, from);
+    let at = next_word(text, from);
+    if at < text.len() {
+        let start = hexadecimal_at(text, at) % 8192;
+        list(image, start as u16, end as u16);
+    }
+    b
+}
+
+// The place of an address in RAM, 372 where there is none: as a direct address of its bank.
+pub fn place_of(m: Core, address: u32) -> usize {
+    let bank = (address / 256 % 2 * 8) as u8;
+    let mut n = m;
+    n.ports.p9 = bank;
+    at_x(n, (address % 256) as u16)
+}
+
+pub fn nibble(b: Bench, text: &[u8], from: usize) -> Bench
+    requires { ⌜ from < length (now text) ⌝ }
+{
+    let at = next_word(text, from);
+    let core = b.machine.core;
+    let mut ram = b.machine.ram;
+    if at < text.len() {
+        let place = place_of(core, hexadecimal_at(text, at));
+        let value = next_word(text, at);
+        if place < 372 {
+            if value < text.len() {
+                poke(&mut ram, place, (hexadecimal_at(text, value) % 16) as u8);
+            }
+        }
+    }
+    with_machine(
+        b,
+        Machine {
+            core: core,
+            ram: ram,
+        },
+    )
+}
+
+pub fn with(b: Bench, text: &[u8], from: usize) -> Bench
+    requires { ⌜ from < length (now text) ⌝ }
+{
+    let mut core = b.machine.core;
+    let ram = b.machine.ram;
+    let mut at = next_word(text, from);
+    while at < text.len() {
+        core = fields::settings::with_word(core, text, at);
+        at = next_word(text, at);
+    }
+    with_machine(
+        b,
+        Machine {
+            core: core,
+            ram: ram,
+        },
+    )
+}
+
+// So many steps with one frame; a stop or a refusal is the last.
+fn stepped(image: &[u8], b: Bench, count: u32, frame: &[u8]) -> Bench {
+    let options = Options {
+        wake: 255,
+        sound: false,
+    };
+    let mut left = count;
+    let mut m = b.machine;
+    let mut number = 0;
+    while 0 < left {
+        let r = step(image, options, m, frame);
+        m = r.machine;
+        number = r.number;
+        left -= 1;
+        if number != 0 {
+            left = 0;
+        }
+    }
+    Bench {
+        machine: m,
+        number: number,
+        same: b.same,
+    }
+}
+
+pub fn steps(image: &[u8; 8192], b: Bench, text: &[u8], from: usize) -> Bench
+    requires { ⌜ from < length (now text) ⌝ }
+{
+    let at = next_word(text, from);
+    if at == text.len() {
+        return b;
+    }
+    let frame = next_word(text, at);
+    let end = word_end(text, frame);
+    stepped(image, b, decimal_at(text, at), &text[frame..end])
+}

@@ -1,0 +1,235 @@
+// The lines that compare: each says what came out, and whether it is as written.
+use crate::asked::place_of;
+use crate::bench::Bench;
+use bits::bit_at;
+use bound::Bounded;
+use fields::cursor::decimal_at;
+use fields::cursor::hexadecimal_at;
+use fields::cursor::next_word;
+use fields::cursor::value_of;
+use fields::say::say;
+use fields::say::say_decimal;
+use fields::say::say_number;
+use laws::both;
+use machine::Core;
+ghost use mathlib.Core.Path.{_≡_};
+ghost use Prim.Native.Nat.{_<_, _≤_};
+ghost use lib.ListN.{length};
+
+// The end of a comparison.
+fn judged(b: Bench, same: bool) -> Bench {
+    if same {
+        say(b": as written\n");
+        return b;
+    }
+    say(b": DIFFERS\n");
+    let m = b.machine;
+    Bench {
+        machine: m,
+        number: b.number,
+        same: false,
+    }
+}
+
+pub fn nothing(b: Bench) -> Bench {
+    say(b"  no such line");
+    judged(b, false)
+}
+
+// What a field is now, and whether that is what the word says.
+fn field(core: Core, text: &[u8], at: usize) -> bool
+    requires { ⌜ at < length (now text) ⌝ }
+{
+    let f = fields::named(text, at);
+    if 28 <= f {
+        say(b" no field");
+        return false;
+    }
+    let v = fields::value(core, f);
+    say(b" ");
+    fields::say_name(f);
+    say(b"=");
+    fields::say_value(f, v);
+    v == value_of(text, at)
+}
+
+pub fn named_fields(b: Bench, text: &[u8], from: usize) -> Bench
+    requires { ⌜ from < length (now text) ⌝ }
+{
+    let core = b.machine.core;
+    let mut same = true;
+    let mut at = next_word(text, from);
+    say(b"  is");
+    while at < text.len() {
+        same = both(field(core, text, at), same);
+        at = next_word(text, at);
+    }
+    judged(b, same)
+}
+
+pub fn cell(b: Bench, text: &[u8], from: usize) -> Bench
+    requires { ⌜ from < length (now text) ⌝ }
+{
+    let at = next_word(text, from);
+    if at == text.len() {
+        return nothing(b);
+    }
+    let place = place_of(b.machine.core, hexadecimal_at(text, at));
+    let ram = b.machine.ram;
+    if 372 <= place {
+        return nothing(b);
+    }
+    let v = ram[place] as u32;
+    say(b"  is ");
+    say_number(16, 1, v);
+    let written = next_word(text, at);
+    judged(b, v == hexadecimal_at(text, written))
+}
+
+// Whether a number is among the words from a place on.
+fn is_listed(text: &[u8], from: usize, n: u32) -> bool
+    requires { ⌜ from ≤ length (now text) ⌝ }
+{
+    let mut at = from;
+    while at < text.len() {
+        if decimal_at(text, at) == n {
+            return true;
+        }
+        at = next_word(text, at);
+    }
+    false
+}
+
+fn is_on(shown: &[u8; 40], row: usize, s: usize) -> bool
+    requires { ⌜ (row < 8) × (s < 40) ⌝ }
+{
+    bit_at(shown[5 * row + s / 8], (s % 8) as u8)
+}
+
+// Whether the dots of a row that are on are those listed; they are printed.
+fn row_is(shown: &[u8; 40], row: usize, text: &[u8], from: usize) -> bool
+    requires { ⌜ (row < 8) × (from ≤ length (now text)) ⌝ }
+{
+    let mut same = true;
+    let mut s: usize = 0;
+    while s < 40 {
+        let on = is_on(shown, row, s);
+        if on {
+            say(b" ");
+            say_decimal(s as u64);
+        }
+        same = both(on == is_listed(text, from, s as u32), same);
+        s += 1;
+    }
+    same
+}
+
+pub fn dots(b: Bench, text: &[u8], from: usize) -> Bench
+    requires { ⌜ from < length (now text) ⌝ }
+{
+    let at = next_word(text, from);
+    if at == text.len() {
+        return nothing(b);
+    }
+    let listed = next_word(text, at);
+    let row = (decimal_at(text, at) % 8) as usize;
+    let mut shown = [0u8; 40];
+    display::display(b.machine, &mut shown);
+    say(b"  on are");
+    judged(b, row_is(&shown, row, text, listed))
+}
+
+pub fn number(b: Bench, text: &[u8], from: usize) -> Bench
+    requires { ⌜ from < length (now text) ⌝ }
+{
+    say(b"  is ");
+    say_decimal(b.number as u64);
+    let written = next_word(text, from);
+    judged(b, b.number as u32 == decimal_at(text, written))
+}
+
+// Document 01's number of the bound's answer, and its value.
+struct Answered {
+    number: u32,
+    value: usize,
+}
+
+fn numbered(found: Bounded) -> Answered {
+    match found {
+        Bounded::ImageSize => Answered {
+            number: 1,
+            value: 0,
+        },
+        Bounded::AddressRange => Answered {
+            number: 20,
+            value: 0,
+        },
+        Bounded::Excluded(at) => Answered {
+            number: 21,
+            value: at,
+        },
+        Bounded::Repeats(at) => Answered {
+            number: 22,
+            value: at,
+        },
+        Bounded::Short(bytes) => Answered {
+            number: 23,
+            value: bytes,
+        },
+        Bounded::Longest(n) => Answered {
+            number: 0,
+            value: n,
+        },
+    }
+}
+
+// Two bytes, low first.
+fn joined(low: u8, high: u8) -> u32 {
+    low as u32 + 256 * (high as u32)
+}
+
+// Whether the path's addresses are the words from a place on, 32 at most; as many as there are words are printed.
+fn path_is(path: &[u8; 64], text: &[u8], from: usize) -> bool
+    requires { ⌜ from ≤ length (now text) ⌝ }
+{
+    let mut same = true;
+    let mut at = from;
+    let mut k: usize = 0;
+    while at < text.len() {
+        let address = joined(path[2 * k], path[2 * k + 1]);
+        say(b" ");
+        say_number(16, 4, address);
+        same = both(address == hexadecimal_at(text, at), same);
+        at = next_word(text, at);
+        k = (k + 1) % 32;
+    }
+    same
+}
+
+pub fn bound(image: &[u8; 8192], b: Bench, text: &[u8], from: usize) -> Bench
+    requires { ⌜ from < length (now text) ⌝ }
+{
+    let at = next_word(text, from);
+    if at == text.len() {
+        return nothing(b);
+    }
+    let number_at_word = next_word(text, at);
+    if number_at_word == text.len() {
+        return nothing(b);
+    }
+    let value_at_word = next_word(text, number_at_word);
+    if value_at_word == text.len() {
+        return nothing(b);
+    }
+    let mut path = [0u8; 64];
+    let found = numbered(bound::bound(image, hexadecimal_at(text, at), &mut path));
+    say(b"  is ");
+    say_decimal(found.number as u64);
+    say(b" ");
+    say_decimal(found.value as u64);
+    let first = next_word(text, value_at_word);
+    let same_path = path_is(&path, text, first);
+    let same_number = found.number == decimal_at(text, number_at_word);
+    let same_value = found.value == decimal_at(text, value_at_word) as usize;
+    judged(b, both(same_path, both(same_number, same_value)))
+}
