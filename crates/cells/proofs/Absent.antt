@@ -11,7 +11,7 @@ use Rattle.machine.specs.Ram.{atHL, atX, atY}
 use Rattle.machine.specs.declared.Core.{Core}
 use Rattle.execute.specs.Steps.{putStep, exchangeStep}
 use Rattle.execute.specs.Rows.{workOf}
-use Rattle.near.specs.Ends.{stopped}
+use Rattle.row_ends.specs.Ends.{stopped}
 use Rattle.cells.specs.Groups.{readByHL, readByX, readByY, writtenByHL, writtenByX, writtenByY}
 use Rattle.cells.specs.Cells.{Does}
 use Rattle.laws.proofs.Among.{Each, end, _by_&_}

@@ -10,8 +10,8 @@ use borrow.Author.Tests.{lt-ltb, le-ltb}
 use Rattle.sheet.specs.Operation.{Cell}
 use Rattle.machine.specs.Ram.{Peeked}
 use Rattle.machine.specs.declared.Core.{Core}
-use Rattle.near.specs.declared.Act.{Act}
-use Rattle.near.specs.Ends.{stopped}
+use Rattle.row_ends.specs.declared.Act.{Act}
+use Rattle.row_ends.specs.Ends.{stopped}
 use Rattle.laws.specs.Among.{among}
 use Rattle.cells.specs.Cells.{Reads, Stores, Does, placeIn}
 use Rattle.cells.specs.declared.Stored.{Stored}

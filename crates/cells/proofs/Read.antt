@@ -12,7 +12,7 @@ use Rattle.machine.specs.declared.Core.{Core}
 use Rattle.execute.specs.Places.{weightOf}
 use Rattle.execute.specs.Steps.{putStep}
 use Rattle.execute.specs.Rows.{workOf}
-use Rattle.near.specs.Ends.{accLoaded, accSummed, accLogical, accCarried, accBorrowed, compared, tested}
+use Rattle.row_ends.specs.Ends.{accLoaded, accSummed, accLogical, accCarried, accBorrowed, compared, tested}
 use Rattle.cells.specs.Cells.{Reads}
 
 module _ (m : Core) (a v : ℕ) where

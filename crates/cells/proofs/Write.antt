@@ -11,8 +11,8 @@ use Rattle.machine.specs.declared.Core.{Core}
 use Rattle.execute.specs.Places.{weightOf}
 use Rattle.execute.specs.Steps.{putStep, exchangeStep}
 use Rattle.execute.specs.Rows.{workOf}
-use Rattle.near.specs.declared.Act.{Act}
-use Rattle.near.specs.Ends.{accLoaded, lrSummed, lrLessened, wentOn, summed, lessened, logical}
+use Rattle.row_ends.specs.declared.Act.{Act}
+use Rattle.row_ends.specs.Ends.{accLoaded, lrSummed, lrLessened, wentOn, summed, lessened, logical}
 use Rattle.cells.specs.declared.Stored.{Stored}
 use Rattle.cells.specs.Cells.{Stores}
 

@@ -13,7 +13,7 @@ use Rattle.machine.specs.Valid.{ValidRegisters, Nibbles}
 use Rattle.machine.specs.declared.Core.{Core}
 use Rattle.execute.specs.Places.{cellOf}
 use Rattle.execute.specs.Rows.{Done, executed}
-use Rattle.near.specs.declared.Act.{Act}
+use Rattle.row_ends.specs.declared.Act.{Act}
 use Rattle.near.specs.Quiet.{assembled, doneAs}
 use Rattle.cells.specs.declared.Stored.{Stored}
 use Rattle.laws.specs.Among.{among}

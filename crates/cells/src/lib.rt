@@ -6,7 +6,7 @@ pub mod write_hl;
 pub mod write_x;
 pub mod write_y;
 
-use near::Act;
+use row_ends::Act;
 
 // The nibble that a row stores, and what it leaves besides.
 pub struct Stored {

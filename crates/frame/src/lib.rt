@@ -1,6 +1,4 @@
-// Frames: three characters as pins, and sequences of them. The edges between two frames are in edges.rt.
-pub mod edges;
-
+// Frames: three characters as pins, and sequences of them.
 use laws::both;
 ghost use mathlib.Core.Path.{_≡_};
 ghost use Prim.Native.Nat.{_+_, _≤_};

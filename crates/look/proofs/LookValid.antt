@@ -6,7 +6,7 @@ use Prim.Native.Nat.{ℕ}
 use Rattle.laws.specs.Choice.{pick}
 use Rattle.laws.proofs.Computed.{true→T}
 use Rattle.frame.specs.Frame.{PinsInRange}
-use Rattle.frame.specs.Edges.{rose, wakes}
+use Rattle.edges.specs.Edges.{rose, wakes}
 use Rattle.frame.specs.declared.Pins.{Pins}
 use Rattle.clock.specs.Clock.{InRange}
 use Rattle.clock.specs.declared.Time.{Time}

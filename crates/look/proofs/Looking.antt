@@ -7,7 +7,7 @@ use lib.Dec.{lit<}
 use lib.ListN.{getD}
 use Rattle.laws.proofs.Computed.{listed, listed-at}
 use Rattle.frame.specs.declared.Pins.{Pins}
-use Rattle.frame.proofs.Still.{no-fall, no-rise}
+use Rattle.edges.proofs.Still.{no-fall, no-rise}
 use Rattle.clock.proofs.Quiet.{no-event}
 use Rattle.ports.specs.declared.Mode.{Mode}
 use Rattle.machine.specs.declared.Core.{Core}

@@ -8,7 +8,7 @@ use lib.Dec.{lit<}
 use borrow.Author.Tests.{eqb-false}
 use Rattle.bits.specs.Bits.{hasBit}
 use Rattle.bits.proofs.Laws.{with-lt}
-use Rattle.frame.specs.Edges.{fell}
+use Rattle.edges.specs.Edges.{fell}
 use Rattle.frame.specs.declared.Pins.{Pins}
 use Rattle.clock.specs.Clock.{latched, InRange}
 use Rattle.clock.proofs.Ranges.{Latches, latched-ok}

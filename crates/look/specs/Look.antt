@@ -5,7 +5,7 @@ use mathlib.Core.Bool.{Bool, true, false}
 use mathlib.Core.List.{[], _∷_}
 use lib.ListN.{getD}
 use Rattle.laws.specs.Choice.{pick}
-use Rattle.frame.specs.Edges.{fell, rose, wakes}
+use Rattle.edges.specs.Edges.{fell, rose, wakes}
 use Rattle.frame.specs.declared.Pins.{Pins}
 use Rattle.clock.specs.Clock.{latched, eventCount}
 use Rattle.clock.specs.declared.Time.{Time}

@@ -1,10 +1,10 @@
 // What a step sees of its frame, before it acts.
 use clock::Time;
 use clock::events;
+use edges::fell;
+use edges::rose;
+use edges::wakes;
 use frame::Pins;
-use frame::edges::fell;
-use frame::edges::rose;
-use frame::edges::wakes;
 use machine::Core;
 use ports::Mode;
 ghost use mathlib.Core.Path.{_≡_};

@@ -13,7 +13,7 @@ use mathlib.Core.Bool.{Bool, true, false, not}
 use Rattle.sheet.specs.Operation.Op.{Minus}
 use Rattle.bits.specs.Bits.{hasBit, bitOf}
 use Rattle.execute.specs.Places.{weightOf}
-use Rattle.near.specs.Ends.{lessened, compared, tested, cfTested, nothing}
+use Rattle.row_ends.specs.Ends.{lessened, compared, tested, cfTested, nothing}
 
 pub cmph : (m : Core) (k : ℕ) → Quiet m 53 k (lessened m (made Minus k (m .regs .hr) (m .regs .cf)) 2 2)
 unfolding lineAt lines workOf putStep made flagAfter

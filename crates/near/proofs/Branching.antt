@@ -9,7 +9,7 @@ use Rattle.alu.specs.Flags.{flagAfter}
 use Rattle.machine.specs.declared.Core.{Core}
 use Rattle.execute.specs.Rows.{branchOf}
 use Rattle.near.specs.Quiet.{Quiet}
-use Rattle.near.specs.Ends.{jumped, wentOn}
+use Rattle.row_ends.specs.Ends.{jumped, wentOn}
 
 module _ (m : Core) (a : ℕ) where
   -- what a branch does, where SF is known

@@ -10,7 +10,7 @@ use Rattle.execute.specs.Steps.{putStep}
 use Rattle.execute.specs.Rows.{workOf}
 use Rattle.near.specs.Quiet.{Quiet}
 use Rattle.sheet.specs.Operation.Op.{Plus, Minus, And, Or, RotateLeft, RotateRight}
-use Rattle.near.specs.Ends.{accSummed, accLessened, accLogical, accCarried, hrSummed, lrSummed, lrLessened}
+use Rattle.row_ends.specs.Ends.{accSummed, accLessened, accLogical, accCarried, hrSummed, lrSummed, lrLessened}
 
 pub rlca : (m : Core) (k : ℕ) → Quiet m 17 k (accCarried m (made RotateLeft (m .regs .acc) 0 (m .regs .cf)) 1 1)
 unfolding lineAt lines workOf putStep made flagAfter

@@ -9,7 +9,7 @@ use Rattle.machine.specs.declared.Core.{Core}
 use Rattle.execute.specs.Steps.{putStep, exchangeStep}
 use Rattle.execute.specs.Rows.{workOf}
 use Rattle.near.specs.Quiet.{Quiet}
-use Rattle.near.specs.Ends.{accLoaded, hrLoaded, lrLoaded, accHrExchanged, accLrExchanged}
+use Rattle.row_ends.specs.Ends.{accLoaded, hrLoaded, lrLoaded, accHrExchanged, accLrExchanged}
 
 pub ldh : (m : Core) (k : ℕ) → Quiet m 5 k (hrLoaded m k 1 1)
 unfolding lineAt lines workOf putStep made flagAfter

@@ -1,4 +1,3 @@
-pub mod Ends
 pub mod Quiet
 pub mod Groups
 pub mod Weighs

@@ -8,7 +8,7 @@ use Rattle.sheet.specs.Reading.{insn}
 use Rattle.machine.specs.declared.Core.{Core}
 use Rattle.machine.specs.declared.Machine.{Machine}
 use Rattle.execute.specs.Rows.{Done, executed}
-use Rattle.near.specs.declared.Act.{Act}
+use Rattle.row_ends.specs.declared.Act.{Act}
 
 abbrev pub assembled : Core → List ℕ → Machine
 assembled m l = record { core = m; ram = l }

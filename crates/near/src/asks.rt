@@ -1,8 +1,7 @@
 // Rows that compare or test registers, and NOP: CMPH, CMPIA, CMPL, TFA, TFCFC, TTCFS, TZS, NOP.
-use crate::Act;
-use crate::ends;
 use crate::weight;
 use machine::Core;
+use row_ends::Act;
 use sheet::rows;
 ghost use mathlib.Core.Path.{_≡_};
 ghost use mathlib.Core.Bool.{true};
@@ -16,13 +15,13 @@ pub fn asked(m: Core, row: u8, k: u8) -> Act
 {
     let r = m.regs;
     match row {
-        rows::CMPH => ends::lessened(m, alu::minus(k, r.hr, r.cf), 2, 2),
-        rows::CMPIA => ends::compared(m, alu::minus(k, r.acc, r.cf), 1, 1),
-        rows::CMPL => ends::lessened(m, alu::minus(k, r.lr, r.cf), 2, 2),
-        rows::TFA => ends::tested(m, !bits::has_bit(r.acc, weight(k)), 1, 1),
-        rows::TFCFC => ends::cf_tested(m, false, !r.cf, 1, 1),
-        rows::TTCFS => ends::cf_tested(m, true, r.cf, 1, 1),
-        rows::TZS => ends::tested(m, r.zf, 1, 1),
-        _ => ends::nothing(m, 1, 1),
+        rows::CMPH => row_ends::lessened(m, alu::minus(k, r.hr, r.cf), 2, 2),
+        rows::CMPIA => row_ends::compared(m, alu::minus(k, r.acc, r.cf), 1, 1),
+        rows::CMPL => row_ends::lessened(m, alu::minus(k, r.lr, r.cf), 2, 2),
+        rows::TFA => row_ends::tested(m, !bits::has_bit(r.acc, weight(k)), 1, 1),
+        rows::TFCFC => row_ends::cf_tested(m, false, !r.cf, 1, 1),
+        rows::TTCFS => row_ends::cf_tested(m, true, r.cf, 1, 1),
+        rows::TZS => row_ends::tested(m, r.zf, 1, 1),
+        _ => row_ends::nothing(m, 1, 1),
     }
 }

@@ -1,7 +1,6 @@
 // The branches SBR, LBR, SLBR: taken where SF is set; SF is set after, taken or not.
-use crate::Act;
-use crate::ends;
 use machine::Core;
+use row_ends::Act;
 use sheet::rows;
 ghost use mathlib.Core.Path.{_≡_};
 ghost use mathlib.Core.Bool.{true, false};
@@ -15,9 +14,9 @@ fn taken(m: Core, row: u8, a: u16) -> Act
     ensures { λ x. ⌜ Quiet m row a x ⌝ }
 {
     match row {
-        rows::SBR => ends::jumped(m, m.pc / 64 * 64 + a, 1),
-        rows::LBR => ends::jumped(m, m.pc / 4096 * 4096 + a, 2),
-        _ => ends::jumped(m, a, 3),
+        rows::SBR => row_ends::jumped(m, m.pc / 64 * 64 + a, 1),
+        rows::LBR => row_ends::jumped(m, m.pc / 4096 * 4096 + a, 2),
+        _ => row_ends::jumped(m, a, 3),
     }
 }
 
@@ -26,9 +25,9 @@ fn passed(m: Core, row: u8, a: u16) -> Act
     ensures { λ x. ⌜ Quiet m row a x ⌝ }
 {
     match row {
-        rows::SBR => ends::went_on(m, 1, 1),
-        rows::LBR => ends::went_on(m, 2, 2),
-        _ => ends::went_on(m, 3, 3),
+        rows::SBR => row_ends::went_on(m, 1, 1),
+        rows::LBR => row_ends::went_on(m, 2, 2),
+        _ => row_ends::went_on(m, 3, 3),
     }
 }
 

@@ -1,7 +1,6 @@
 // Rows that make a sum, a difference, logic or a rotation of registers and the operand: RLCA, RRCA, ADDA, ADDH, ADDL, DECA, DECL, INCA, INCL, SUBA, ANDA, ORA.
-use crate::Act;
-use crate::ends;
 use machine::Core;
+use row_ends::Act;
 use sheet::rows;
 ghost use mathlib.Core.Path.{_≡_};
 ghost use mathlib.Core.Bool.{true};
@@ -15,17 +14,17 @@ pub fn made(m: Core, row: u8, k: u8) -> Act
 {
     let r = m.regs;
     match row {
-        rows::RLCA => ends::acc_carried(m, alu::rotate_left(r.acc, r.cf), 1, 1),
-        rows::RRCA => ends::acc_carried(m, alu::rotate_right(r.acc, r.cf), 1, 1),
-        rows::ADDA => ends::acc_summed(m, alu::plus(r.acc, k, r.cf), 2, 2),
-        rows::ADDH => ends::hr_summed(m, alu::plus(r.hr, k, r.cf), 2, 2),
-        rows::ADDL => ends::lr_summed(m, alu::plus(r.lr, k, r.cf), 2, 2),
-        rows::DECA => ends::acc_lessened(m, alu::minus(r.acc, 1, r.cf), 1, 1),
-        rows::DECL => ends::lr_lessened(m, alu::minus(r.lr, 1, r.cf), 1, 1),
-        rows::INCA => ends::acc_summed(m, alu::plus(r.acc, 1, r.cf), 1, 1),
-        rows::INCL => ends::lr_summed(m, alu::plus(r.lr, 1, r.cf), 1, 1),
-        rows::SUBA => ends::acc_lessened(m, alu::minus(k, r.acc, r.cf), 2, 2),
-        rows::ANDA => ends::acc_logical(m, alu::and(r.acc, k, r.cf), 2, 2),
-        _ => ends::acc_logical(m, alu::or(r.acc, k, r.cf), 2, 2),
+        rows::RLCA => row_ends::acc_carried(m, alu::rotate_left(r.acc, r.cf), 1, 1),
+        rows::RRCA => row_ends::acc_carried(m, alu::rotate_right(r.acc, r.cf), 1, 1),
+        rows::ADDA => row_ends::acc_summed(m, alu::plus(r.acc, k, r.cf), 2, 2),
+        rows::ADDH => row_ends::hr_summed(m, alu::plus(r.hr, k, r.cf), 2, 2),
+        rows::ADDL => row_ends::lr_summed(m, alu::plus(r.lr, k, r.cf), 2, 2),
+        rows::DECA => row_ends::acc_lessened(m, alu::minus(r.acc, 1, r.cf), 1, 1),
+        rows::DECL => row_ends::lr_lessened(m, alu::minus(r.lr, 1, r.cf), 1, 1),
+        rows::INCA => row_ends::acc_summed(m, alu::plus(r.acc, 1, r.cf), 1, 1),
+        rows::INCL => row_ends::lr_summed(m, alu::plus(r.lr, 1, r.cf), 1, 1),
+        rows::SUBA => row_ends::acc_lessened(m, alu::minus(k, r.acc, r.cf), 2, 2),
+        rows::ANDA => row_ends::acc_logical(m, alu::and(r.acc, k, r.cf), 2, 2),
+        _ => row_ends::acc_logical(m, alu::or(r.acc, k, r.cf), 2, 2),
     }
 }

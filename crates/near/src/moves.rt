@@ -1,7 +1,6 @@
 // Rows that move or exchange registers: LDH, LDIA, LDL, THA, TLA, EXAH, EXAL.
-use crate::Act;
-use crate::ends;
 use machine::Core;
+use row_ends::Act;
 use sheet::rows;
 ghost use mathlib.Core.Path.{_≡_};
 ghost use mathlib.Core.Bool.{true};
@@ -15,12 +14,12 @@ pub fn moved(m: Core, row: u8, k: u8) -> Act
 {
     let r = m.regs;
     match row {
-        rows::LDH => ends::hr_loaded(m, k, 1, 1),
-        rows::LDIA => ends::acc_loaded(m, k, 1, 1),
-        rows::LDL => ends::lr_loaded(m, k, 1, 1),
-        rows::THA => ends::acc_loaded(m, r.hr, 1, 1),
-        rows::TLA => ends::acc_loaded(m, r.lr, 1, 1),
-        rows::EXAH => ends::acc_hr_exchanged(m, 1, 2),
-        _ => ends::acc_lr_exchanged(m, 1, 2),
+        rows::LDH => row_ends::hr_loaded(m, k, 1, 1),
+        rows::LDIA => row_ends::acc_loaded(m, k, 1, 1),
+        rows::LDL => row_ends::lr_loaded(m, k, 1, 1),
+        rows::THA => row_ends::acc_loaded(m, r.hr, 1, 1),
+        rows::TLA => row_ends::acc_loaded(m, r.lr, 1, 1),
+        rows::EXAH => row_ends::acc_hr_exchanged(m, 1, 2),
+        _ => row_ends::acc_lr_exchanged(m, 1, 2),
     }
 }

@@ -9,7 +9,7 @@ use lib.ListN.{set}
 use borrow.Author.Tests.{lt-ltb}
 use Rattle.machine.specs.Ram.{Peeked, atX, besideX}
 use Rattle.machine.specs.declared.Core.{Core}
-use Rattle.near.specs.declared.Act.{Act}
+use Rattle.row_ends.specs.declared.Act.{Act}
 use Rattle.laws.specs.Among.{among}
 use Rattle.laws.proofs.Among.{first}
 use Rattle.cells.specs.Cells.{Does}

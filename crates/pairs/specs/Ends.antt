@@ -3,8 +3,8 @@
 use Prim.Native.Nat.{ℕ}
 use mathlib.Core.Bool.{true}
 use Rattle.machine.specs.declared.Core.{Core}
-use Rattle.near.specs.declared.Act.{Act}
-use Rattle.near.specs.Ends.{past}
+use Rattle.row_ends.specs.declared.Act.{Act}
+use Rattle.row_ends.specs.Ends.{past}
 
 -- - - 1
 abbrev pub hlLoaded : Core → ℕ → ℕ → Act

@@ -9,7 +9,7 @@ use Rattle.sheet.specs.declared.Insn.{Insn}
 use Rattle.machine.specs.Valid.{ValidCore, Nibbles}
 use Rattle.machine.specs.declared.Core.{Core}
 use Rattle.near.specs.Quiet.{Quiet, Low}
-use Rattle.near.specs.declared.Act.{Act}
+use Rattle.row_ends.specs.declared.Act.{Act}
 use Rattle.cells.specs.Cells.{Does, Fits}
 use Rattle.pointers.specs.Pointed.{Leaves, Asks}
 use Rattle.pointers.specs.FromRom.{FromRom}

@@ -10,7 +10,7 @@ use Rattle.machine.specs.Valid.{ValidCore, Nibbles}
 use Rattle.machine.specs.declared.Core.{Core}
 use Rattle.execute.specs.Rows.{executed}
 use Rattle.near.specs.Quiet.{assembled, afterAct}
-use Rattle.near.specs.declared.Act.{Act}
+use Rattle.row_ends.specs.declared.Act.{Act}
 use Rattle.cells.specs.Cells.{Does}
 use Rattle.pointers.specs.Pointed.{afterPointer}
 use Rattle.pointers.specs.declared.Pointed.{Pointed}

@@ -1,6 +1,5 @@
 // The groups that leave RAM as it was and do not read it.
 use machine::Core;
-use near::Act;
 use near::asks::asked;
 use near::branches::branched;
 use near::makes::made;
@@ -12,6 +11,7 @@ use pointers::rom::load_high;
 use pointers::rom::load_low;
 use pointers::stores::store_pointer;
 use pointers::stores::store_timer;
+use row_ends::Act;
 use sheet::Insn;
 ghost use mathlib.Core.Path.{_≡_};
 ghost use Prim.Native.Nat.{_+_, _<_, _≤_};

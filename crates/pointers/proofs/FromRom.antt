@@ -7,7 +7,7 @@ use Rattle.alu.specs.Flags.{flagAfter}
 use Rattle.machine.specs.declared.Core.{Core}
 use Rattle.execute.specs.Steps.{putStep}
 use Rattle.execute.specs.Rows.{workOf}
-use Rattle.near.specs.Ends.{accLoaded}
+use Rattle.row_ends.specs.Ends.{accLoaded}
 use Rattle.pointers.specs.FromRom.{FromRom}
 
 pub ldax : (m : Core) (byte : ℕ) → FromRom m 3 byte (record { act = accLoaded m (byte % 16) 1 2; ptrs = m .ptrs; timers = m .timers })

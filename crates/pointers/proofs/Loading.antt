@@ -11,7 +11,7 @@ use Rattle.machine.specs.Ram.{bankOf}
 use Rattle.machine.specs.declared.Core.{Core}
 use Rattle.execute.specs.Steps.{putStep}
 use Rattle.execute.specs.Rows.{workOf}
-use Rattle.near.specs.Ends.{accLoaded, stopped}
+use Rattle.row_ends.specs.Ends.{accLoaded, stopped}
 use Rattle.pointers.specs.Groups.{loadPointer, loadTimer}
 use Rattle.pointers.specs.Pointed.{Leaves}
 use Rattle.laws.proofs.Among.{Each, end, _by_&_}

@@ -13,7 +13,7 @@ use Rattle.machine.specs.declared.Core.{Core}
 use Rattle.execute.specs.Places.{partPut}
 use Rattle.execute.specs.Steps.{putStep}
 use Rattle.execute.specs.Rows.{workOf}
-use Rattle.near.specs.Ends.{wentOn}
+use Rattle.row_ends.specs.Ends.{wentOn}
 use Rattle.laws.proofs.Among.{Each, end, _by_&_}
 use Rattle.pointers.specs.Groups.{storePointer, storeTimer}
 use Rattle.pointers.proofs.Loading.{Stops}

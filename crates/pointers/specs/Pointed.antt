@@ -10,8 +10,8 @@ use Rattle.machine.specs.declared.Core.{Core}
 use Rattle.machine.specs.declared.Pointers.{Pointers}
 use Rattle.machine.specs.declared.Timers.{Timers}
 use Rattle.execute.specs.Rows.{executed}
-use Rattle.near.specs.declared.Act.{Act}
-use Rattle.near.specs.Ends.{stopped}
+use Rattle.row_ends.specs.declared.Act.{Act}
+use Rattle.row_ends.specs.Ends.{stopped}
 use Rattle.pointers.specs.declared.Pointed.{Pointed}
 use Rattle.laws.specs.Among.{among}
 

@@ -5,7 +5,7 @@ pub mod stores;
 
 use machine::Pointers;
 use machine::Timers;
-use near::Act;
+use row_ends::Act;
 
 // What a row that changes a pointer or a timer leaves.
 pub struct Pointed {

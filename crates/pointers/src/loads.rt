@@ -1,9 +1,9 @@
 // The rows that load ACC from DP, SP, TA or TB. "Timer, DP and SP rows need P9.3 = 0, else 31."
 use bits::nibble_at;
 use machine::Core;
-use near::Act;
-use near::ends::acc_loaded;
-use near::ends::stopped;
+use row_ends::Act;
+use row_ends::acc_loaded;
+use row_ends::stopped;
 use sheet::rows;
 ghost use mathlib.Core.Path.{_≡_};
 ghost use Rattle.machine.specs.Ram.{bankOf};

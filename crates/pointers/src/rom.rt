@@ -1,7 +1,7 @@
 // LDAX and LDAXI: "LDAX reads ROM at 1000h + DP". The byte there is handed in.
 use crate::Pointed;
 use machine::Core;
-use near::ends::acc_loaded;
+use row_ends::acc_loaded;
 ghost use Prim.Native.Nat.{_<_};
 ghost use Rattle.pointers.specs.FromRom.{FromRom};
 

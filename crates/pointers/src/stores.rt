@@ -3,15 +3,15 @@ use crate::Pointed;
 use machine::Core;
 use machine::Pointers;
 use machine::Timers;
-use near::ends::stopped;
-use near::ends::went_on;
+use row_ends::stopped;
+use row_ends::went_on;
 use sheet::rows;
 ghost use mathlib.Core.Path.{_≡_};
 ghost use Prim.Native.Nat.{_<_};
 ghost use Rattle.sheet.specs.Operation.Part.{low, middle, high};
 ghost use Rattle.machine.specs.Ram.{bankOf};
 ghost use Rattle.execute.specs.Places.{partPut};
-ghost use Rattle.near.specs.Ends.{wentOn};
+ghost use Rattle.row_ends.specs.Ends.{wentOn};
 ghost use Rattle.pointers.specs.Groups.{storePointer, storeTimer};
 ghost use Rattle.pointers.specs.Pointed.{Leaves, Asks, stoppedWith};
 

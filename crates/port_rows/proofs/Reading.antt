@@ -14,7 +14,7 @@ use Rattle.machine.specs.declared.Core.{Core}
 use Rattle.execute.specs.Places.{weightOf}
 use Rattle.execute.specs.Steps.{firstOf, putStep}
 use Rattle.execute.specs.Rows.{stops, workOf}
-use Rattle.near.specs.declared.Act.{Act}
+use Rattle.row_ends.specs.declared.Act.{Act}
 use Rattle.near.specs.Quiet.{assembled}
 use Rattle.turns.specs.Turns.{doneAs}
 use Rattle.port_rows.specs.Ends.{left, afterRead, portTested, portLoaded}

@@ -13,7 +13,7 @@ use Rattle.machine.specs.Ram.{atHL}
 use Rattle.machine.specs.declared.Core.{Core}
 use Rattle.execute.specs.Steps.{putStep}
 use Rattle.execute.specs.Rows.{workOf}
-use Rattle.near.specs.Ends.{tested}
+use Rattle.row_ends.specs.Ends.{tested}
 use Rattle.port_rows.specs.Ends.{stopped, written, left, portRead}
 use Rattle.port_rows.specs.Ported.{ToCell, FromCell}
 use Rattle.port_rows.proofs.Stops.{write-after, read-after, p9-kept}

@@ -11,8 +11,8 @@ use Rattle.ports.specs.declared.Ports.{Ports}
 use Rattle.ports.specs.declared.PortRead.{PortRead}
 use Rattle.machine.specs.declared.Core.{Core}
 use Rattle.execute.specs.Places.{baseAfter}
-use Rattle.near.specs.declared.Act.{Act}
-use Rattle.near.specs.Ends.{tested, accLogical}
+use Rattle.row_ends.specs.declared.Act.{Act}
+use Rattle.row_ends.specs.Ends.{tested, accLogical}
 use Rattle.turns.specs.declared.Turn.{Turn}
 
 -- "A stop gives the record from before that step .. and zero cycles for it."

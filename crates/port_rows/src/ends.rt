@@ -1,10 +1,10 @@
 // The ends of the rows of ports: a stop, a port written, a port read.
 use machine::Core;
-use near::Act;
 use ports::PortRead;
 use ports::Ports;
 use ports::mode_after;
 use ports::write_port;
+use row_ends::Act;
 use turns::Turn;
 ghost use mathlib.Core.Path.{_≡_};
 ghost use Prim.Native.Nat.{_<_};

@@ -6,8 +6,8 @@ use machine::Core;
 use machine::ram::at_hl;
 use machine::ram::peek;
 use machine::ram::poke;
-use near::ends::tested;
 use ports::read_port;
+use row_ends::tested;
 use turns::Turn;
 ghost use Rattle.port_rows.specs.Ported.{ToCell, FromCell, ToCellFits, FromCellFits};
 

@@ -1,11 +1,18 @@
 // The ends of rows by what they change: a register or none, and the flags by the marks C Z S, which each name's comment has. n and t are the row's bytes and cycles.
-use crate::Act;
 use alu::Made;
 use machine::Core;
 use machine::Registers;
 ghost use mathlib.Core.Path.{_≡_};
 ghost use Prim.Native.Nat.{_<_};
-ghost use Rattle.near.specs.Ends.{accLoaded, accHrExchanged, accLrExchanged, accSummed, accLessened, accLogical, accCarried, accBorrowed, hrLoaded, hrSummed, lrLoaded, lrSummed, lrLessened, wentOn, summed, lessened, logical, compared, cfTested, tested, nothing, past, jumped, stopped};
+ghost use Rattle.row_ends.specs.Ends.{accLoaded, accHrExchanged, accLrExchanged, accSummed, accLessened, accLogical, accCarried, accBorrowed, hrLoaded, hrSummed, lrLoaded, lrSummed, lrLessened, wentOn, summed, lessened, logical, compared, cfTested, tested, nothing, past, jumped, stopped};
+
+// What a row that touches the registers alone leaves: a stop or 0, its cycles, PC and the registers.
+pub struct Act {
+    pub stop: u8,
+    pub cycles: u8,
+    pub pc: u16,
+    pub regs: Registers,
+}
 
 fn past(m: Core, r: Registers, n: u8, t: u8) -> Act
     requires { ⌜ m .pc < 8192 ⌝ }

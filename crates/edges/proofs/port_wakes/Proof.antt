@@ -1,8 +1,8 @@
--- `frame::edges::port_wakes` meets its contract.
+-- `edges::port_wakes` meets its contract.
 -- Assumes nothing.
 use borrow.Author.Needs.{needs}
-use Rattle.frame.proofs.edges.port_wakes.Statement.{statement}
-use Rattle.frame.proofs.edges.port_wakes.Tie as tie
+use Rattle.edges.proofs.port_wakes.Statement.{statement}
+use Rattle.edges.proofs.port_wakes.Tie as tie
 
 pin-wakes-requires : tie.Need-pin-wakes-requires
 pin-wakes-requires c κs = search needs

@@ -1,9 +1,9 @@
--- `frame::edges::wakes` meets its contract.
+-- `edges::wakes` meets its contract.
 -- Assumes nothing.
-use Rattle.frame.specs.Edges.{wakes}
+use Rattle.edges.specs.Edges.{wakes}
 use borrow.Author.Needs.{needs}
-use Rattle.frame.proofs.edges.wakes.Statement.{statement}
-use Rattle.frame.proofs.edges.wakes.Tie as tie
+use Rattle.edges.proofs.wakes.Statement.{statement}
+use Rattle.edges.proofs.wakes.Tie as tie
 
 port-wakes-requires : tie.Need-port-wakes-requires
 port-wakes-requires c κs = search needs

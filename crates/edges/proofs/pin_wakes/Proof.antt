@@ -1,8 +1,8 @@
--- `frame::edges::pin_wakes` meets its contract.
+-- `edges::pin_wakes` meets its contract.
 -- Assumes nothing.
 use borrow.Author.Needs.{needs}
-use Rattle.frame.proofs.edges.pin_wakes.Statement.{statement}
-use Rattle.frame.proofs.edges.pin_wakes.Tie as tie
+use Rattle.edges.proofs.pin_wakes.Statement.{statement}
+use Rattle.edges.proofs.pin_wakes.Tie as tie
 
 has-bit-requires : tie.Need-has-bit-requires
 has-bit-requires c κs = search needs

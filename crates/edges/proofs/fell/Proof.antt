@@ -1,8 +1,8 @@
--- `frame::edges::fell` meets its contract.
+-- `edges::fell` meets its contract.
 -- Assumes nothing.
 use borrow.Author.Needs.{needs}
-use Rattle.frame.proofs.edges.fell.Statement.{statement}
-use Rattle.frame.proofs.edges.fell.Tie as tie
+use Rattle.edges.proofs.fell.Statement.{statement}
+use Rattle.edges.proofs.fell.Tie as tie
 
 has-bit-requires : tie.Need-has-bit-requires
 has-bit-requires c κs = search needs

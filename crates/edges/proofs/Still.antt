@@ -5,7 +5,7 @@ use mathlib.Core.Bool.{Bool, true, false, not}
 use Prim.Native.Nat.{ℕ}
 use Rattle.laws.specs.Choice.{both}
 use Rattle.bits.specs.Bits.{hasBit}
-use Rattle.frame.specs.Edges.{fell, rose}
+use Rattle.edges.specs.Edges.{fell, rose}
 
 not-both : (b : Bool) → both b (not b) ≡ false
 not-both true = refl

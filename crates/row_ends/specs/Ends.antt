@@ -6,7 +6,7 @@ use lib.Dec.{eqb}
 use Rattle.alu.specs.declared.Made.{Made}
 use Rattle.machine.specs.declared.Registers.{Registers}
 use Rattle.machine.specs.declared.Core.{Core}
-use Rattle.near.specs.declared.Act.{Act}
+use Rattle.row_ends.specs.declared.Act.{Act}
 
 abbrev pub past : Core → Registers → ℕ → ℕ → Act
 past m r n t = record { stop = 0; cycles = t; pc = (m .pc + n) % 8192; regs = r }

@@ -1,9 +1,9 @@
 // The edges between the last frame and this one.
-use crate::Pins;
+use frame::Pins;
 use laws::either;
 ghost use mathlib.Core.Path.{_≡_};
 ghost use Prim.Native.Nat.{_<_};
-ghost use Rattle.frame.specs.Edges.{fell, rose, pinWakes, portWakes, wakes};
+ghost use Rattle.edges.specs.Edges.{fell, rose, pinWakes, portWakes, wakes};
 
 // The pin of weight w was 1 and is 0.
 pub fn fell(old: u8, new: u8, w: u8) -> bool
