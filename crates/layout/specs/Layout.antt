@@ -1,0 +1,60 @@
+-- The record as 409 bytes: what stands where in a buffer that crosses a call on numbers and byte buffers. Document 01, "The record", names the parts.
+-- Assumes nothing.
+use Prim.Native.Nat.{ℕ, _/_, _%_}
+use mathlib.Core.List.{List, [], _∷_, _++_}
+use mathlib.Core.Path.{_≡_}
+use lib.ListN.{length}
+use Rattle.bits.specs.Bits.{bitOf}
+use Rattle.ports.specs.declared.Ports.{Ports}
+use Rattle.ports.specs.declared.Mode.{Mode}
+use Rattle.machine.specs.declared.Core.{Core}
+use Rattle.machine.specs.declared.Machine.{Machine}
+
+-- a number in two bytes, and in four: low first
+unfoldable pub two : ℕ → List ℕ
+two n = n % 256 ∷ n / 256 ∷ []
+
+unfoldable pub four : ℕ → List ℕ
+four n = two (n % 65536) ++ two (n / 65536)
+
+-- "Mode: running, sleep or hold."
+unfoldable pub modeNumber : Mode → ℕ
+modeNumber Mode.Running = 0
+modeNumber Mode.Sleep = 1
+modeNumber Mode.Hold = 2
+
+-- "ACC, HR, LR, SP, mask, port latches: 0 to 15": bytes 0 to 15, the latches in the order of their ports
+unfoldable pub latches : Ports → List ℕ
+latches p = p .p4 ∷ p .p8 ∷ p .p9 ∷ p .p16 ∷ p .p23 ∷ p .p24 ∷ p .p25 ∷ p .p27 ∷ p .p28 ∷ p .p29 ∷ p .p30 ∷ []
+
+unfoldable pub nibblesOf : Core → List ℕ
+nibblesOf m = m .regs .acc ∷ m .regs .hr ∷ m .regs .lr ∷ m .ptrs .sp ∷ m .ints .mask ∷ latches (m .ports)
+
+-- bytes 16 to 36: PC, DP, TA, TB; CF, ZF, SF, EI; the latches IL5 to IL0; the time base; the last frame; the mode
+unfoldable pub othersOf : Core → List ℕ
+othersOf m =
+    two (m .pc) ++
+    two (m .ptrs .dp) ++
+    two (m .timers .ta) ++
+    two (m .timers .tb) ++
+    bitOf (m .regs .cf) ∷ bitOf (m .regs .zf) ∷ bitOf (m .regs .sf) ∷ bitOf (m .ints .ei) ∷
+    m .ints .il ∷
+    four (m .timers .base) ++
+    m .pins .p0 ∷ m .pins .p8 ∷ m .pins .p4 ∷
+    modeNumber (m .mode) ∷ []
+
+-- all but RAM
+abbrev pub headOf : Core → List ℕ
+headOf m = nibblesOf m ++ othersOf m
+
+-- "RAM: 372 nibbles", one a byte
+abbrev pub bytesOf : Machine → List ℕ
+bytesOf m = headOf (m .core) ++ m .ram
+
+-- the buffer holds the record: it is its 409 bytes and no more
+pub record Holds (bytes : List ℕ) (m : Machine) : Type 0 where
+  pub size : length bytes ≡ 409
+  pub same : bytes ≡ bytesOf m
+
+abbrev pub HoldsNone : List ℕ → Type 0
+HoldsNone bytes = (m : Machine) → Holds bytes m → ⊥
