@@ -1,0 +1,53 @@
+-- What the functions below answer, as the calls hand it on.
+-- Assumes nothing.
+use Prim.Native.Nat.{ℕ}
+use mathlib.Core.List.{List}
+use mathlib.Core.Path.{_≡_, refl, sym, ap, subst, _∙_}
+use lib.ListN.{length}
+use Rattle.paper.specs.ComesBack.{Paper}
+use Rattle.reader.specs.Answer.{readPaper}
+use Rattle.writer.specs.Writing.{paperOf, fromPaper}
+use Rattle.writer.specs.declared.Code.{Code}
+use Rattle.writer.specs.declared.Written.{Written}
+use Rattle.writer.specs.declared.Written.the-variants as written
+use Rattle.machine.specs.declared.Machine.{Machine}
+use Rattle.layout.specs.Layout.{Holds}
+use Rattle.step.specs.Answers.{StepOf}
+use Rattle.step.specs.declared.Options.{Options}
+use Rattle.step.specs.declared.Stepped.{Stepped}
+use Rattle.run.specs.Answers.{RunOf}
+use Rattle.run.specs.declared.Ran.{Ran}
+use Rattle.calls.specs.Calls.{StepAnswer, RunAnswer, ReadCall, valueAt}
+use Rattle.calls.specs.Numbers.{OfRead, OfWrite}
+use Rattle.calls.specs.declared.ReadNumbers.{ReadNumbers}
+
+module _ {image : List ℕ} {m : Machine} {frame : List ℕ} {o o′ : Options} (same : o ≡ o′) where
+  pub stepped : {r : Stepped} {left : List ℕ} → StepOf image o m frame r → Holds left (r .machine) → StepAnswer image o′ frame m (r .number) (r .cycles) left
+  stepped {r} s h =
+      record { r = r; steps = subst (λ (q : Options). StepOf image q m frame r) same s; answer = refl; spent = refl; left = h .same }
+
+  pub ran : {r : Ran} {left : List ℕ} → RunOf image o m frame r → Holds left (r .machine) → RunAnswer image o′ frame m (r .number) (r .steps) (r .cycles) left
+  ran {r} s h =
+      record { r = r; runs = subst (λ (q : Options). RunOf image q m frame r) same s; answer = refl; made = refl; spent = refl; left = h .same }
+
+pub told : {image : List ℕ} {address : ℕ} {p : Paper} {n : ReadNumbers} → p ≡ readPaper image address → OfRead p n → ReadCall image address (n .number) (n .row) (n .a) (n .b)
+told e o = record {
+  answer = o .number ∙ ap (λ (q : Paper). q .number) e;
+  which = o .row ∙ ap (λ (q : Paper). valueAt q 0) e;
+  first = o .a ∙ ap (λ (q : Paper). valueAt q 1) e;
+  second = o .b ∙ ap (λ (q : Paper). valueAt q 2) e;
+}
+
+-- the writer's bytes past the code are 0, so each is the paper's value or 0
+abbrev codeIn : Code → Written → Code
+codeIn c (written.Bytes d) = d
+codeIn c written.Refused = c
+
+pub spelt : (c : Code) → fromPaper (paperOf (written.Bytes c)) ≡ written.Bytes c → OfWrite (paperOf (written.Bytes c)) (record { number = 0; length = c .len; b0 = c .b0; b1 = c .b1; b2 = c .b2 })
+spelt c e = record {
+  number = refl;
+  length = ap (λ (w : Written). codeIn c w .len) (sym e);
+  b0 = ap (λ (w : Written). codeIn c w .b0) (sym e);
+  b1 = ap (λ (w : Written). codeIn c w .b1) (sym e);
+  b2 = ap (λ (w : Written). codeIn c w .b2) (sym e);
+}

@@ -1,0 +1,90 @@
+-- Each of the nine calls has one answer: two answers to the same that conform are equal, numbers and buffers.
+-- Assumes nothing.
+use Prim.Native.Nat.{ℕ}
+use mathlib.Core.List.{List}
+use mathlib.Core.Path.{_≡_, sym, ap, subst, _∙_}
+use lib.ListN.{length}
+use Rattle.paper.specs.ComesBack.{Paper}
+use Rattle.sheet.specs.declared.Insn.{Insn}
+use Rattle.writer.specs.Writing.{paperOf as codePaper}
+use Rattle.writer.proofs.RoundTrip.{one-answer as one-written}
+use Rattle.machine.specs.Valid.{Valid}
+use Rattle.machine.specs.declared.Machine.{Machine}
+use Rattle.start.specs.declared.AfterReset.{AfterReset}
+use Rattle.start.proofs.Starting.{reset-determined}
+use Rattle.valid.proofs.Validity.{valid?}
+use Rattle.layout.specs.Layout.{bytesOf}
+use Rattle.layout.proofs.Tells.{one-record}
+use Rattle.step.specs.declared.Options.{Options}
+use Rattle.step.specs.declared.Stepped.{Stepped}
+use Rattle.step.proofs.Answering.{one-answer as one-stepped}
+use Rattle.run.specs.declared.Ran.{Ran}
+use Rattle.run.proofs.Answering.{one-answer as one-ran}
+use Rattle.display.proofs.Answers.{one-answer as one-shown}
+use Rattle.bound.specs.Answer.{paperOf as boundPaper}
+use Rattle.bound.proofs.Unique.{one-answer as one-bounded}
+use Rattle.calls.specs.Calls.{Judged, no-record, record-of, FreshCall, wrong-length, fresh, ResetCall, ValidAnswer, ValidCall, StepCall, RunCall, DisplayCall, valueAt, ReadCall, WriteCall, BoundCall}
+
+-- two values that are each f of something, where the somethings are equal
+via : {A B : Type 0} (f : A → B) {x y : A} {a b : B} → x ≡ y → a ≡ f x → b ≡ f y → a ≡ b
+via f e p q = p ∙ (ap f e ∙ sym q)
+
+agree : {A : Type 0} {x a b : A} → a ≡ x → b ≡ x → a ≡ b
+agree p q = p ∙ sym q
+
+-- a buffer holds one record or none, so two answers are both its refusal or both about that record
+judged : {bytes : List ℕ} {R R′ Same : Type 0} {A A′ : Machine → Type 0} → (R → R′ → Same) → ((m : Machine) → A m → A′ m → Same) → Judged bytes R A → Judged bytes R′ A′ → Same
+judged f g (no-record n r) (no-record n′ r′) = f r r′
+judged f g (no-record n r) (record-of m h a) = absurd (n m h)
+judged f g (record-of m h a) (no-record n r) = absurd (n m h)
+judged {A′ = A′} f g (record-of m h a) (record-of m′ h′ a′) = g m a (subst A′ (one-record m′ m h′ h) a′)
+
+module _ {bytes : List ℕ} {n n′ : ℕ} {z z′ : List ℕ} where
+  pub one-fresh : FreshCall bytes n z → FreshCall bytes n′ z′ → (n ≡ n′) × (z ≡ z′)
+  one-fresh (wrong-length s p q) (wrong-length s′ p′ q′) = (agree p p′, agree q q′)
+  one-fresh (wrong-length s p q) (fresh s′ p′ q′) = absurd (s s′)
+  one-fresh (fresh s p q) (wrong-length s′ p′ q′) = absurd (s′ s)
+  one-fresh (fresh s p q) (fresh s′ p′ q′) = (agree p p′, agree q q′)
+
+  pub one-reset : ResetCall bytes n z → ResetCall bytes n′ z′ → (n ≡ n′) × (z ≡ z′)
+  one-reset =
+      judged (λ a b. (agree (a .refusal) (b .refusal), agree (a .kept) (b .kept)))
+      (λ m a b. let e : a .r ≡ b .r = reset-determined m (a .r) (b .r) (a .resets) (b .resets) in (via (λ (r : AfterReset). r .refusal) e (a .refusal) (b .refusal), via (λ (r : AfterReset). bytesOf (r .machine)) e (a .left) (b .left)))
+
+  pub one-display : {dots : List ℕ} → DisplayCall bytes dots n z → DisplayCall bytes dots n′ z′ → (n ≡ n′) × (z ≡ z′)
+  one-display {dots} =
+      judged (λ a b. (agree (a .refusal) (b .refusal), agree (a .kept) (b .kept)))
+      (λ m a b. one-shown m dots z z′ n n′ a b)
+
+valid-by : {m : Machine} {n n′ : ℕ} → ValidAnswer m n → ValidAnswer m n′ → Dec (Valid m) → n ≡ n′
+valid-by a b (yes v) = agree (a .inside v) (b .inside v)
+valid-by a b (no v) = agree (a .outside v) (b .outside v)
+
+pub one-valid : {bytes : List ℕ} {n n′ : ℕ} → ValidCall bytes n → ValidCall bytes n′ → n ≡ n′
+one-valid = judged agree (λ m a b. valid-by a b (valid? m))
+
+module _ {image : List ℕ} {o : Options} {bytes frames : List ℕ} {n n′ c c′ : ℕ} {z z′ : List ℕ} where
+  pub one-step : StepCall image o bytes frames n c z → StepCall image o bytes frames n′ c′ z′ → (n ≡ n′) × (c ≡ c′) × (z ≡ z′)
+  one-step =
+      judged (λ a b. (agree (a .refusal) (b .refusal), agree (a .none) (b .none), agree (a .kept) (b .kept)))
+      (λ m a b. let e : a .r ≡ b .r = one-stepped image o m frames (a .r) (b .r) (a .steps) (b .steps) in (via (λ (r : Stepped). r .number) e (a .answer) (b .answer), via (λ (r : Stepped). r .cycles) e (a .spent) (b .spent), via (λ (r : Stepped). bytesOf (r .machine)) e (a .left) (b .left)))
+
+  pub one-run : {s s′ : ℕ} → RunCall image o bytes frames n s c z → RunCall image o bytes frames n′ s′ c′ z′ → (n ≡ n′) × (s ≡ s′) × (c ≡ c′) × (z ≡ z′)
+  one-run =
+      judged
+      (λ a b. (agree (a .refusal) (b .refusal), agree (a .no-steps) (b .no-steps), agree (a .no-cycles) (b .no-cycles), agree (a .kept) (b .kept)))
+      (λ m a b. let e : a .r ≡ b .r = one-ran image o m frames (a .r) (b .r) (a .runs) (b .runs) in (via (λ (r : Ran). r .number) e (a .answer) (b .answer), via (λ (r : Ran). r .steps) e (a .made) (b .made), via (λ (r : Ran). r .cycles) e (a .spent) (b .spent), via (λ (r : Ran). bytesOf (r .machine)) e (a .left) (b .left)))
+
+pub one-read : {image : List ℕ} {address n n′ row row′ a a′ b b′ : ℕ} → ReadCall image address n row a b → ReadCall image address n′ row′ a′ b′ → (n ≡ n′) × (row ≡ row′) × (a ≡ a′) × (b ≡ b′)
+one-read x y = (agree (x .answer) (y .answer), agree (x .which) (y .which), agree (x .first) (y .first), agree (x .second) (y .second))
+
+pub one-write : {i : Insn} {n n′ size size′ b0 b0′ b1 b1′ b2 b2′ : ℕ} → WriteCall i n size b0 b1 b2 → WriteCall i n′ size′ b0′ b1′ b2′ → (n ≡ n′) × (size ≡ size′) × (b0 ≡ b0′) × (b1 ≡ b1′) × (b2 ≡ b2′)
+one-write {i} x y =
+    let e : codePaper (x .r) ≡ codePaper (y .r) = ap codePaper (one-written i (x .r) (y .r) (x .writes) (y .writes)) in
+    (via (λ (p : Paper). p .number) e (x .answer) (y .answer), via (λ (p : Paper). length (p .values)) e (x .bytes) (y .bytes), via (λ (p : Paper). valueAt p 0) e (x .first) (y .first), via (λ (p : Paper). valueAt p 1) e (x .second) (y .second), via (λ (p : Paper). valueAt p 2) e (x .third) (y .third))
+
+pub one-bound : {image : List ℕ} {address : ℕ} (path : List ℕ) {n n′ v v′ : ℕ} {z z′ : List ℕ} → BoundCall image address path n v z → BoundCall image address path n′ v′ z′ → (n ≡ n′) × (v ≡ v′) × (z ≡ z′)
+one-bound path x y =
+    let same = one-bounded path (x .r) (y .r) (x .bounds) (y .bounds) in
+    let e : boundPaper (x .r) ≡ boundPaper (y .r) = ap boundPaper (same .0) in
+    (via (λ (p : Paper). p .number) e (x .answer) (y .answer), via (λ (p : Paper). valueAt p 0) e (x .given) (y .given), same .1)

@@ -1,0 +1,18 @@
+-- `calls::em73862_read` meets its contract.
+-- Assumes nothing.
+use Rattle.calls.proofs.Answers.{told}
+use borrow.Author.Needs.{needs}
+use Rattle.calls.proofs.em73862_read.Statement.{statement}
+use Rattle.calls.proofs.em73862_read.Tie as tie
+
+read-requires : tie.Need-read-requires
+read-requires c κs = search needs
+
+read-numbers-requires : tie.Need-read-numbers-requires
+read-numbers-requires c κs = search needs
+
+returns : tie.Need-returns
+returns c = told (c .before .read .ensures) (c .read-numbers .ensures)
+
+pub em73862-read-spec : {M : Type 1} → statement M
+em73862-read-spec = tie.close (tie.spec read-requires read-numbers-requires returns)

@@ -1,0 +1,141 @@
+-- What the nine calls on numbers and byte buffers answer: include/em73862.h has their names. A primed name is what a call leaves where it was given the other.
+-- Assumes nothing.
+use Prim.Native.Nat.{ℕ}
+use mathlib.Core.Bool.{not}
+use mathlib.Core.List.{List}
+use mathlib.Core.Path.{_≡_}
+use lib.Dec.{eqb}
+use lib.ListN.{length, getD}
+use Rattle.laws.specs.Choice.{pick}
+use Rattle.paper.specs.ComesBack.{Paper, image-is-not-8192-bytes, record-outside-the-ranges}
+use Rattle.sheet.specs.declared.Insn.{Insn}
+use Rattle.reader.specs.Answer.{readPaper}
+use Rattle.writer.specs.Writing.{Writes}
+use Rattle.writer.specs.Writing.{paperOf as codePaper}
+use Rattle.writer.specs.declared.Written.{Written}
+use Rattle.machine.specs.Valid.{Valid}
+use Rattle.start.specs.Start.{freshMachine, ResetOf}
+use Rattle.machine.specs.declared.Machine.{Machine}
+use Rattle.start.specs.declared.AfterReset.{AfterReset}
+use Rattle.layout.specs.Layout.{bytesOf, Holds, HoldsNone}
+use Rattle.step.specs.Answers.{StepOf}
+use Rattle.step.specs.declared.Options.{Options}
+use Rattle.step.specs.declared.Stepped.{Stepped}
+use Rattle.run.specs.Answers.{RunOf}
+use Rattle.run.specs.declared.Ran.{Ran}
+use Rattle.display.specs.Display.{DisplayOf}
+use Rattle.bound.specs.Answer.{BoundAnswer}
+use Rattle.bound.specs.Answer.{paperOf as boundPaper}
+use Rattle.bound.specs.declared.Bounded.{Bounded}
+
+-- a buffer that holds a record is answered as that record, and one that holds none by a refusal
+pub data Judged (bytes : List ℕ) (Refusal : Type 0) (Answer : Machine → Type 0) : Type 0 where
+  no-record : HoldsNone bytes → Refusal → Judged bytes Refusal Answer
+  record-of : (m : Machine) → Holds bytes m → Answer m → Judged bytes Refusal Answer
+
+-- no record is 2, "record outside the ranges above"; where there is an image, 1 comes before it
+abbrev pub unheld : List ℕ → ℕ
+unheld image = pick (eqb (length image) 8192) record-outside-the-ranges image-is-not-8192-bytes
+
+-- "Options: eight wake-enable bits (P0.0 to P0.3, P8.0 to P8.3) and SOUND enable": sound is enabled where it is not 0
+abbrev pub optionsOf : ℕ → ℕ → Options
+optionsOf wake sound = record { wake = wake; sound = not (eqb sound 0) }
+
+-- em73862_fresh: a buffer of another length is refused, whatever is in it
+pub data FreshCall (bytes : List ℕ) (number : ℕ) (bytes′ : List ℕ) : Type 0 where
+  wrong-length : (length bytes ≡ 409 → ⊥) → number ≡ record-outside-the-ranges → bytes′ ≡ bytes → FreshCall bytes number bytes′
+  fresh : length bytes ≡ 409 → number ≡ 0 → bytes′ ≡ bytesOf freshMachine → FreshCall bytes number bytes′
+
+-- em73862_reset
+pub record NotReset (bytes : List ℕ) (number : ℕ) (bytes′ : List ℕ) : Type 0 where
+  pub refusal : number ≡ record-outside-the-ranges
+  pub kept : bytes′ ≡ bytes
+
+pub record ResetAnswer (m : Machine) (number : ℕ) (bytes′ : List ℕ) : Type 0 where
+  pub r : AfterReset
+  pub resets : ResetOf m r
+  pub refusal : number ≡ r .refusal
+  pub left : bytes′ ≡ bytesOf (r .machine)
+
+abbrev pub ResetCall : List ℕ → ℕ → List ℕ → Type 0
+ResetCall bytes number bytes′ = Judged bytes (NotReset bytes number bytes′) (λ m. ResetAnswer m number bytes′)
+
+-- em73862_is_valid
+pub record ValidAnswer (m : Machine) (number : ℕ) : Type 0 where
+  pub inside : Valid m → number ≡ 0
+  pub outside : (Valid m → ⊥) → number ≡ record-outside-the-ranges
+
+abbrev pub ValidCall : List ℕ → ℕ → Type 0
+ValidCall bytes number = Judged bytes (number ≡ record-outside-the-ranges) (λ m. ValidAnswer m number)
+
+-- em73862_step
+pub record NotStepped (image bytes : List ℕ) (number cycles : ℕ) (bytes′ : List ℕ) : Type 0 where
+  pub refusal : number ≡ unheld image
+  pub none : cycles ≡ 0
+  pub kept : bytes′ ≡ bytes
+
+pub record StepAnswer (image : List ℕ) (o : Options) (frame : List ℕ) (m : Machine) (number cycles : ℕ) (bytes′ : List ℕ) : Type 0 where
+  pub r : Stepped
+  pub steps : StepOf image o m frame r
+  pub answer : number ≡ r .number
+  pub spent : cycles ≡ r .cycles
+  pub left : bytes′ ≡ bytesOf (r .machine)
+
+abbrev pub StepCall : List ℕ → Options → List ℕ → List ℕ → ℕ → ℕ → List ℕ → Type 0
+StepCall image o bytes frame number cycles bytes′ =
+    Judged bytes (NotStepped image bytes number cycles bytes′) (λ m. StepAnswer image o frame m number cycles bytes′)
+
+-- em73862_run
+pub record NotRun (image bytes : List ℕ) (number steps cycles : ℕ) (bytes′ : List ℕ) : Type 0 where
+  pub refusal : number ≡ unheld image
+  pub no-steps : steps ≡ 0
+  pub no-cycles : cycles ≡ 0
+  pub kept : bytes′ ≡ bytes
+
+pub record RunAnswer (image : List ℕ) (o : Options) (frames : List ℕ) (m : Machine) (number steps cycles : ℕ) (bytes′ : List ℕ) : Type 0 where
+  pub r : Ran
+  pub runs : RunOf image o m frames r
+  pub answer : number ≡ r .number
+  pub made : steps ≡ r .steps
+  pub spent : cycles ≡ r .cycles
+  pub left : bytes′ ≡ bytesOf (r .machine)
+
+abbrev pub RunCall : List ℕ → Options → List ℕ → List ℕ → ℕ → ℕ → ℕ → List ℕ → Type 0
+RunCall image o bytes frames number steps cycles bytes′ =
+    Judged bytes (NotRun image bytes number steps cycles bytes′) (λ m. RunAnswer image o frames m number steps cycles bytes′)
+
+-- em73862_display
+pub record NotShown (number : ℕ) (dots dots′ : List ℕ) : Type 0 where
+  pub refusal : number ≡ record-outside-the-ranges
+  pub kept : dots′ ≡ dots
+
+abbrev pub DisplayCall : List ℕ → List ℕ → ℕ → List ℕ → Type 0
+DisplayCall bytes dots number dots′ = Judged bytes (NotShown number dots dots′) (λ m. DisplayOf m dots dots′ number)
+
+-- what comes back with a number: the value at a place of the paper's, and 0 where it has none
+abbrev pub valueAt : Paper → ℕ → ℕ
+valueAt p i = getD (p .values) i 0
+
+-- em73862_read
+pub record ReadCall (image : List ℕ) (address number row a b : ℕ) : Type 0 where
+  pub answer : number ≡ readPaper image address .number
+  pub which : row ≡ valueAt (readPaper image address) 0
+  pub first : a ≡ valueAt (readPaper image address) 1
+  pub second : b ≡ valueAt (readPaper image address) 2
+
+-- em73862_write
+pub record WriteCall (i : Insn) (number size b0 b1 b2 : ℕ) : Type 0 where
+  pub r : Written
+  pub writes : Writes i r
+  pub answer : number ≡ codePaper r .number
+  pub bytes : size ≡ length (codePaper r .values)
+  pub first : b0 ≡ valueAt (codePaper r) 0
+  pub second : b1 ≡ valueAt (codePaper r) 1
+  pub third : b2 ≡ valueAt (codePaper r) 2
+
+-- em73862_bound
+pub record BoundCall (image : List ℕ) (address : ℕ) (path : List ℕ) (number value : ℕ) (path′ : List ℕ) : Type 0 where
+  pub r : Bounded
+  pub bounds : BoundAnswer image address path path′ (boundPaper r)
+  pub answer : number ≡ boundPaper r .number
+  pub given : value ≡ valueAt (boundPaper r) 0

@@ -1,0 +1,26 @@
+-- The numbers of an answer that is an enum, as the calls hand them on.
+-- Assumes nothing.
+use mathlib.Core.Path.{_≡_}
+use lib.ListN.{length}
+use Rattle.paper.specs.ComesBack.{Paper}
+use Rattle.calls.specs.Calls.{valueAt}
+use Rattle.calls.specs.declared.ReadNumbers.{ReadNumbers}
+use Rattle.calls.specs.declared.WriteNumbers.{WriteNumbers}
+use Rattle.calls.specs.declared.BoundNumbers.{BoundNumbers}
+
+pub record OfRead (p : Paper) (n : ReadNumbers) : Type 0 where
+  pub number : n .number ≡ p .number
+  pub row : n .row ≡ valueAt p 0
+  pub a : n .a ≡ valueAt p 1
+  pub b : n .b ≡ valueAt p 2
+
+pub record OfWrite (p : Paper) (n : WriteNumbers) : Type 0 where
+  pub number : n .number ≡ p .number
+  pub length : n .length ≡ length (p .values)
+  pub b0 : n .b0 ≡ valueAt p 0
+  pub b1 : n .b1 ≡ valueAt p 1
+  pub b2 : n .b2 ≡ valueAt p 2
+
+pub record OfBound (p : Paper) (n : BoundNumbers) : Type 0 where
+  pub number : n .number ≡ p .number
+  pub value : n .value ≡ valueAt p 0

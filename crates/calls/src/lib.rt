@@ -1,0 +1,291 @@
+// The base calls on numbers and byte buffers, for C and for whatever calls C: include/em73862.h declares them. Each takes its bytes apart, calls the public function and puts numbers back.
+// Any two answers to the same are equal, of each of the nine: proofs/OneAnswer.antt.
+use bound::Bounded;
+use bound::bound;
+use display::display;
+use layout::pack;
+use layout::unpack;
+use reader::Answer;
+use reader::read;
+use run::run;
+use sheet::Insn;
+use start::fresh;
+use start::reset;
+use step::Options;
+use step::step;
+use valid::is_valid;
+use writer::Written;
+use writer::write;
+ghost use mathlib.Core.Path.{_≡_};
+ghost use Rattle.reader.specs.Answer.{paperOf as readingPaper};
+ghost use Rattle.writer.specs.Writing.{paperOf as codePaper, fromPaper as codeFrom};
+ghost use Rattle.bound.specs.Answer.{paperOf as boundPaper};
+ghost use Rattle.calls.specs.Calls.{unheld, optionsOf, FreshCall, ResetCall, ValidCall, StepCall, RunCall, DisplayCall, ReadCall, WriteCall, BoundCall};
+ghost use Rattle.calls.specs.Numbers.{OfRead, OfWrite, OfBound};
+
+// What the reader, the writer and the bound answer, as numbers.
+pub struct ReadNumbers {
+    pub number: u8,
+    pub row: u8,
+    pub a: u16,
+    pub b: u8,
+}
+
+pub struct WriteNumbers {
+    pub number: u8,
+    pub length: u8,
+    pub b0: u8,
+    pub b1: u8,
+    pub b2: u8,
+}
+
+pub struct BoundNumbers {
+    pub number: u8,
+    pub value: usize,
+}
+
+// The refusal of a buffer that holds no record, where there is an image too.
+fn refusal(image: &[u8]) -> u8
+    ensures { λ r. ⌜ r ≡ unheld (now (image .entry)) ⌝ }
+{
+    if image.len() == 8192 {
+        return 2;
+    }
+    1
+}
+
+fn options_of(wake: u8, sound: u8) -> Options
+    ensures { λ r. ⌜ r ≡ optionsOf wake sound ⌝ }
+{
+    Options {
+        wake: wake,
+        sound: sound != 0,
+    }
+}
+
+#[no_mangle]
+pub extern "C" fn em73862_fresh(bytes: &mut [u8]) -> u8
+    ensures { λ r. ⌜ FreshCall (now (bytes .entry)) r (now (bytes .exit)) ⌝ }
+{
+    if bytes.len() != 409 {
+        return 2;
+    }
+    pack(fresh(), bytes);
+    0
+}
+
+#[no_mangle]
+pub extern "C" fn em73862_reset(bytes: &mut [u8]) -> u8
+    ensures { λ r. ⌜ ResetCall (now (bytes .entry)) r (now (bytes .exit)) ⌝ }
+{
+    let u = unpack(bytes);
+    if u.held {
+        let r = reset(u.machine);
+        pack(r.machine, bytes);
+        return r.refusal;
+    }
+    2
+}
+
+#[no_mangle]
+pub extern "C" fn em73862_is_valid(bytes: &[u8]) -> u8
+    ensures { λ r. ⌜ ValidCall (now (bytes .entry)) r ⌝ }
+{
+    let u = unpack(bytes);
+    if u.held {
+        if is_valid(u.machine) {
+            return 0;
+        }
+        return 2;
+    }
+    2
+}
+
+#[no_mangle]
+pub extern "C" fn em73862_step(
+    image: &[u8],
+    wake: u8,
+    sound: u8,
+    bytes: &mut [u8],
+    frame: &[u8],
+    cycles: &mut u32,
+) -> u8
+    ensures { λ r. ⌜ StepCall (now (image .entry)) (optionsOf wake sound) (now (bytes .entry)) (now (frame .entry)) r (now (cycles .exit)) (now (bytes .exit)) ⌝ }
+{
+    let u = unpack(bytes);
+    if u.held {
+        let r = step(image, options_of(wake, sound), u.machine, frame);
+        *cycles = r.cycles as u32;
+        pack(r.machine, bytes);
+        return r.number;
+    }
+    *cycles = 0;
+    refusal(image)
+}
+
+#[no_mangle]
+pub extern "C" fn em73862_run(
+    image: &[u8],
+    wake: u8,
+    sound: u8,
+    bytes: &mut [u8],
+    frames: &[u8],
+    steps: &mut u32,
+    cycles: &mut u32,
+) -> u8
+    ensures { λ r. ⌜ RunCall (now (image .entry)) (optionsOf wake sound) (now (bytes .entry)) (now (frames .entry)) r (now (steps .exit)) (now (cycles .exit)) (now (bytes .exit)) ⌝ }
+{
+    let u = unpack(bytes);
+    if u.held {
+        let r = run(image, options_of(wake, sound), u.machine, frames);
+        *steps = r.steps;
+        *cycles = r.cycles;
+        pack(r.machine, bytes);
+        return r.number;
+    }
+    *steps = 0;
+    *cycles = 0;
+    refusal(image)
+}
+
+#[no_mangle]
+pub extern "C" fn em73862_display(bytes: &[u8], dots: &mut [u8]) -> u8
+    ensures { λ r. ⌜ DisplayCall (now (bytes .entry)) (now (dots .entry)) r (now (dots .exit)) ⌝ }
+{
+    let u = unpack(bytes);
+    if u.held {
+        return display(u.machine, dots);
+    }
+    2
+}
+
+fn no_row(number: u8) -> ReadNumbers
+    ensures { λ r. ⌜ r ≡ record { number = number; row = 0; a = 0; b = 0 } ⌝ }
+{
+    ReadNumbers {
+        number: number,
+        row: 0,
+        a: 0,
+        b: 0,
+    }
+}
+
+fn read_numbers(answer: Answer) -> ReadNumbers
+    ensures { λ r. ⌜ OfRead (readingPaper answer) r ⌝ }
+{
+    match answer {
+        Answer::Row(d) => ReadNumbers {
+            number: 0,
+            row: d.insn.row,
+            a: d.insn.a,
+            b: d.insn.b,
+        },
+        Answer::Unassigned => no_row(30),
+        Answer::ImageSize => no_row(1),
+        Answer::AddressRange => no_row(20),
+    }
+}
+
+#[no_mangle]
+pub extern "C" fn em73862_read(
+    image: &[u8],
+    address: u32,
+    row: &mut u8,
+    a: &mut u16,
+    b: &mut u8,
+) -> u8
+    ensures { λ r. ⌜ ReadCall (now (image .entry)) address r (now (row .exit)) (now (a .exit)) (now (b .exit)) ⌝ }
+{
+    let n = read_numbers(read(image, address));
+    *row = n.row;
+    *a = n.a;
+    *b = n.b;
+    n.number
+}
+
+fn write_numbers(code: Written) -> WriteNumbers
+    requires { ⌜ codeFrom (codePaper code) ≡ code ⌝ }
+    ensures { λ r. ⌜ OfWrite (codePaper code) r ⌝ }
+{
+    match code {
+        Written::Bytes(c) => WriteNumbers {
+            number: 0,
+            length: c.len,
+            b0: c.b0,
+            b1: c.b1,
+            b2: c.b2,
+        },
+        Written::Refused => WriteNumbers {
+            number: 11,
+            length: 0,
+            b0: 0,
+            b1: 0,
+            b2: 0,
+        },
+    }
+}
+
+#[no_mangle]
+pub extern "C" fn em73862_write(
+    row: u8,
+    a: u16,
+    b: u8,
+    length: &mut u8,
+    b0: &mut u8,
+    b1: &mut u8,
+    b2: &mut u8,
+) -> u8
+    ensures { λ r. ⌜ WriteCall (record { row = row; a = a; b = b }) r (now (length .exit)) (now (b0 .exit)) (now (b1 .exit)) (now (b2 .exit)) ⌝ }
+{
+    let insn = Insn {
+        row: row,
+        a: a,
+        b: b,
+    };
+    let n = write_numbers(write(insn));
+    *length = n.length;
+    *b0 = n.b0;
+    *b1 = n.b1;
+    *b2 = n.b2;
+    n.number
+}
+
+fn bound_numbers(answer: Bounded) -> BoundNumbers
+    ensures { λ r. ⌜ OfBound (boundPaper answer) r ⌝ }
+{
+    match answer {
+        Bounded::ImageSize => BoundNumbers {
+            number: 1,
+            value: 0,
+        },
+        Bounded::AddressRange => BoundNumbers {
+            number: 20,
+            value: 0,
+        },
+        Bounded::Excluded(address) => BoundNumbers {
+            number: 21,
+            value: address,
+        },
+        Bounded::Repeats(address) => BoundNumbers {
+            number: 22,
+            value: address,
+        },
+        Bounded::Short(bytes) => BoundNumbers {
+            number: 23,
+            value: bytes,
+        },
+        Bounded::Longest(cycles) => BoundNumbers {
+            number: 0,
+            value: cycles,
+        },
+    }
+}
+
+#[no_mangle]
+pub extern "C" fn em73862_bound(image: &[u8], address: u32, path: &mut [u8], value: &mut u32) -> u8
+    ensures { λ r. ⌜ BoundCall (now (image .entry)) address (now (path .entry)) r (now (value .exit)) (now (path .exit)) ⌝ }
+{
+    let n = bound_numbers(bound(image, address, path));
+    *value = n.value as u32;
+    n.number
+}

@@ -1,0 +1,46 @@
+/* The base calls of Bakethrush on numbers and byte buffers.
+ *
+ * Every call answers document 01's number: 0, a refusal or a stop. A refusal changes no buffer, and sets the numbers that come back to 0.
+ * A slice is a pointer and a length; a slice of no bytes may have any pointer.
+ *
+ * A record is 409 bytes, a number in each:
+ *   0 ACC, 1 HR, 2 LR, 3 SP, 4 mask,
+ *   5 to 15 the latches of P4, P8, P9, P16, P23, P24, P25, P27, P28, P29, P30,
+ *   16 PC, 18 DP, 20 TA, 22 TB (two bytes each, low first),
+ *   24 CF, 25 ZF, 26 SF, 27 EI (0 or 1),
+ *   28 the latches IL5 to IL0 as bits 5 to 0,
+ *   29 the time base (four bytes, low first),
+ *   33 P0, 34 P8, 35 P4.0 of the last frame,
+ *   36 the mode: 0 running, 1 sleep, 2 hold,
+ *   37 to 408 RAM, a nibble a byte: 000h to 0F3h, then 100h to 17Fh.
+ * A buffer of another length, a flag over 1 and a mode over 2 are refused with 2, as every value outside its range is.
+ *
+ * wake has the enable bits of P0.0 to P0.3 and P8.0 to P8.3 from bit 0 up; sound is enabled where it is not 0.
+ */
+#ifndef EM73862_H
+#define EM73862_H
+#include <stddef.h>
+#include <stdint.h>
+
+#define EM73862_RECORD_BYTES 409
+
+uint8_t em73862_fresh(uint8_t *record, size_t record_length);
+uint8_t em73862_reset(uint8_t *record, size_t record_length);
+uint8_t em73862_is_valid(const uint8_t *record, size_t record_length);
+uint8_t em73862_step(const uint8_t *image, size_t image_length, uint8_t wake, uint8_t sound,
+                     uint8_t *record, size_t record_length,
+                     const uint8_t *frame, size_t frame_length, uint32_t *cycles);
+uint8_t em73862_run(const uint8_t *image, size_t image_length, uint8_t wake, uint8_t sound,
+                    uint8_t *record, size_t record_length,
+                    const uint8_t *frames, size_t frames_length, uint32_t *steps, uint32_t *cycles);
+uint8_t em73862_display(const uint8_t *record, size_t record_length, uint8_t *dots, size_t dots_length);
+/* row 1 to 107; a and b are the operands, 0 where the row has none: a is x, k, the address, the bit, r or n; b is y or p. */
+uint8_t em73862_read(const uint8_t *image, size_t image_length, uint32_t address,
+                     uint8_t *row, uint16_t *a, uint8_t *b);
+/* length bytes of b0, b1, b2; the others are 0. */
+uint8_t em73862_write(uint8_t row, uint16_t a, uint8_t b,
+                      uint8_t *length, uint8_t *b0, uint8_t *b1, uint8_t *b2);
+/* value: N where the answer is 0; the lowest address for 21 and 22; the bytes needed for 23; else 0. */
+uint8_t em73862_bound(const uint8_t *image, size_t image_length, uint32_t address,
+                      uint8_t *path, size_t path_length, uint32_t *value);
+#endif
