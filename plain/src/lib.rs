@@ -10,6 +10,7 @@ mod ports;
 mod rows;
 mod stack;
 mod step;
+mod worst;
 
 pub mod numbers;
 
@@ -21,3 +22,4 @@ pub use frame::{Frame, FRAME_LENGTH};
 pub use machine::{fresh, is_valid, reset, Machine, Mode, Options, Ports, RAM_SIZE};
 pub use rows::{Row, SheetRow, SHEET};
 pub use step::{run, step, Ran, Stepped, MOST_FRAMES};
+pub use worst::{worst_of, Worst, WORST};
