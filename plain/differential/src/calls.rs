@@ -1,0 +1,137 @@
+//! The nine calls of include/em73862.h as values: what goes in, and what comes back.
+
+use std::sync::Arc;
+
+/// Many calls share an image.
+pub type Image = Arc<[u8]>;
+
+#[derive(Clone, Debug)]
+pub enum Call {
+    Fresh { record: Vec<u8> },
+    Reset { record: Vec<u8> },
+    IsValid { record: Vec<u8> },
+    Step { image: Image, wake: u8, sound: u8, record: Vec<u8>, frame: Vec<u8> },
+    Run { image: Image, wake: u8, sound: u8, record: Vec<u8>, frames: Vec<u8> },
+    Display { record: Vec<u8>, dots: Vec<u8> },
+    Read { image: Image, address: u32 },
+    Write { row: u8, a: u16, b: u8 },
+    Bound { image: Image, address: u32, path: Vec<u8> },
+}
+
+/// What the nine calls are counted by.
+#[derive(Clone, Copy, Debug, PartialEq, Eq)]
+pub enum Kind {
+    Fresh,
+    Reset,
+    IsValid,
+    Step,
+    Run,
+    Display,
+    Read,
+    Write,
+    Bound,
+}
+
+impl Kind {
+    pub const ALL: [Kind; 9] = [
+        Kind::Step,
+        Kind::Run,
+        Kind::Display,
+        Kind::Read,
+        Kind::Write,
+        Kind::Bound,
+        Kind::Fresh,
+        Kind::Reset,
+        Kind::IsValid,
+    ];
+
+    pub fn name(self) -> &'static str {
+        match self {
+            Kind::Fresh => "fresh",
+            Kind::Reset => "reset",
+            Kind::IsValid => "is_valid",
+            Kind::Step => "step",
+            Kind::Run => "run",
+            Kind::Display => "display",
+            Kind::Read => "read",
+            Kind::Write => "write",
+            Kind::Bound => "bound",
+        }
+    }
+
+    /// The numbers that a call gives back besides its answer's number, in the header's order.
+    pub fn values(self) -> &'static [&'static str] {
+        match self {
+            Kind::Fresh | Kind::Reset | Kind::IsValid | Kind::Display => &[],
+            Kind::Step => &["cycles"],
+            Kind::Run => &["steps", "cycles"],
+            Kind::Read => &["row", "a", "b"],
+            Kind::Write => &["length", "b0", "b1", "b2"],
+            Kind::Bound => &["value"],
+        }
+    }
+}
+
+pub const MOST_VALUES: usize = 4;
+
+/// What comes back. Values that a call does not have are 0.
+#[derive(Clone, Debug, PartialEq, Eq)]
+pub struct Answer {
+    pub number: u8,
+    pub values: [u32; MOST_VALUES],
+    /// The buffer that the call may change, as it was left: the record, the dots or the path.
+    pub buffer: Vec<u8>,
+    /// Whether the bytes just before and behind that buffer, which are none of the call's, stayed.
+    pub margins_kept: bool,
+}
+
+impl Call {
+    pub fn kind(&self) -> Kind {
+        match self {
+            Call::Fresh { .. } => Kind::Fresh,
+            Call::Reset { .. } => Kind::Reset,
+            Call::IsValid { .. } => Kind::IsValid,
+            Call::Step { .. } => Kind::Step,
+            Call::Run { .. } => Kind::Run,
+            Call::Display { .. } => Kind::Display,
+            Call::Read { .. } => Kind::Read,
+            Call::Write { .. } => Kind::Write,
+            Call::Bound { .. } => Kind::Bound,
+        }
+    }
+
+    pub fn image(&self) -> Option<&Image> {
+        match self {
+            Call::Step { image, .. } | Call::Run { image, .. } | Call::Read { image, .. } | Call::Bound { image, .. } => {
+                Some(image)
+            }
+            _ => None,
+        }
+    }
+
+    /// The buffer of the answer as it goes in. That of is_valid is in it too, though only lent to be read.
+    pub fn changing(&self) -> &[u8] {
+        match self {
+            Call::Fresh { record } | Call::Reset { record } | Call::IsValid { record } => record,
+            Call::Step { record, .. } | Call::Run { record, .. } => record,
+            Call::Display { dots, .. } => dots,
+            Call::Bound { path, .. } => path,
+            Call::Read { .. } | Call::Write { .. } => &[],
+        }
+    }
+
+    /// The other buffer besides the image.
+    pub fn steady(&self) -> &[u8] {
+        match self {
+            Call::Step { frame, .. } => frame,
+            Call::Run { frames, .. } => frames,
+            Call::Display { record, .. } => record,
+            _ => &[],
+        }
+    }
+
+    /// About how many bytes this call takes until it is answered.
+    pub fn size(&self) -> usize {
+        64 + 3 * self.changing().len() + self.steady().len()
+    }
+}

@@ -1,0 +1,158 @@
+//! The record as the 409 bytes of include/em73862.h.
+
+use plain::{Frame, Machine, Mode, Ports, RAM_SIZE};
+
+pub const RECORD_BYTES: usize = 409;
+
+pub const PC: usize = 16;
+pub const DP: usize = 18;
+pub const TA: usize = 20;
+pub const TB: usize = 22;
+pub const FLAGS: usize = 24;
+pub const LATCHES: usize = 28;
+pub const TIME_BASE: usize = 29;
+pub const LAST_FRAME: usize = 33;
+pub const MODE: usize = 36;
+pub const RAM: usize = 37;
+
+const NAMES: [&str; RAM] = [
+    "ACC", "HR", "LR", "SP", "mask", "P4", "P8", "P9", "P16", "P23", "P24", "P25", "P27", "P28", "P29", "P30", "PC", "PC",
+    "DP", "DP", "TA", "TA", "TB", "TB", "CF", "ZF", "SF", "EI", "IL", "time base", "time base", "time base", "time base",
+    "P0 of the last frame", "P8 of the last frame", "P4.0 of the last frame", "mode",
+];
+
+pub fn record_of(m: &Machine) -> Vec<u8> {
+    let p = &m.ports;
+    let mut record = Vec::with_capacity(RECORD_BYTES);
+    record.extend([m.acc, m.hr, m.lr, m.sp, m.mask]);
+    record.extend([p.p4, p.p8, p.p9, p.p16, p.p23, p.p24, p.p25, p.p27, p.p28, p.p29, p.p30]);
+    for word in [m.pc, m.dp, m.ta, m.tb] {
+        record.extend(word.to_le_bytes());
+    }
+    record.extend([m.cf, m.zf, m.sf, m.ei].map(u8::from));
+    record.push(m.il);
+    record.extend(m.time_base.to_le_bytes());
+    record.extend([m.last_frame.p0, m.last_frame.p8, m.last_frame.p4_0]);
+    record.push(match m.mode {
+        Mode::Running => 0,
+        Mode::Sleep => 1,
+        Mode::Hold => 2,
+    });
+    record.extend(m.ram);
+    record
+}
+
+/// The machine of these bytes, perhaps with values outside their ranges; none where the length, a flag or the mode is
+/// nothing that a `Machine` can hold.
+pub fn machine_of(record: &[u8]) -> Option<Machine> {
+    let record: &[u8; RECORD_BYTES] = record.try_into().ok()?;
+    let word = |at: usize| u16::from_le_bytes([record[at], record[at + 1]]);
+    let flag = |at: usize| match record[FLAGS + at] {
+        0 => Some(false),
+        1 => Some(true),
+        _ => None,
+    };
+    let mode = match record[MODE] {
+        0 => Mode::Running,
+        1 => Mode::Sleep,
+        2 => Mode::Hold,
+        _ => return None,
+    };
+    let time_base = [record[TIME_BASE], record[TIME_BASE + 1], record[TIME_BASE + 2], record[TIME_BASE + 3]];
+    let [p4, p8, p9, p16, p23, p24, p25, p27, p28, p29, p30] = *record[5..].first_chunk()?;
+    let ram: [u8; RAM_SIZE] = record[RAM..].try_into().ok()?;
+    Some(Machine {
+        acc: record[0],
+        hr: record[1],
+        lr: record[2],
+        sp: record[3],
+        mask: record[4],
+        pc: word(PC),
+        dp: word(DP),
+        ta: word(TA),
+        tb: word(TB),
+        cf: flag(0)?,
+        zf: flag(1)?,
+        sf: flag(2)?,
+        ei: flag(3)?,
+        il: record[LATCHES],
+        time_base: u32::from_le_bytes(time_base),
+        ram,
+        ports: Ports { p4, p8, p9, p16, p23, p24, p25, p27, p28, p29, p30 },
+        last_frame: Frame { p0: record[LAST_FRAME], p8: record[LAST_FRAME + 1], p4_0: record[LAST_FRAME + 2] },
+        mode,
+    })
+}
+
+/// What the header calls the byte at a place of a record.
+pub fn field_at(place: usize) -> String {
+    const BANK_0_SIZE: usize = 0xF4;
+    match NAMES.get(place) {
+        Some(name) => name.to_string(),
+        None if place < RAM + BANK_0_SIZE => format!("RAM {:03X}h", place - RAM),
+        None => format!("RAM {:03X}h", 0x100 + place - RAM - BANK_0_SIZE),
+    }
+}
+
+#[cfg(test)]
+mod tests {
+    use super::*;
+    use crate::chance::Chance;
+    use crate::records::valid;
+    use plain::{fresh, is_valid};
+
+    #[test]
+    fn there_and_back() {
+        let mut chance = Chance::new(1);
+        for _ in 0..2000 {
+            let machine = valid(&mut chance);
+            assert!(is_valid(&machine));
+            let record = record_of(&machine);
+            assert_eq!(record.len(), RECORD_BYTES);
+            assert_eq!(machine_of(&record), Some(machine));
+        }
+    }
+
+    #[test]
+    fn back_and_there() {
+        let mut chance = Chance::new(2);
+        for _ in 0..2000 {
+            let mut record = chance.bytes(RECORD_BYTES);
+            for flag in &mut record[FLAGS..FLAGS + 4] {
+                *flag &= 1;
+            }
+            record[MODE] %= 3;
+            assert_eq!(machine_of(&record).map(|machine| record_of(&machine)), Some(record));
+        }
+    }
+
+    #[test]
+    fn no_machine_holds_these() {
+        let record = record_of(&fresh());
+        for (place, value) in [(24, 2), (25, 2), (26, 255), (27, 2), (36, 3), (36, 255)] {
+            let mut spoilt = record.clone();
+            spoilt[place] = value;
+            assert_eq!(machine_of(&spoilt), None);
+        }
+        assert_eq!(machine_of(&record[..408]), None);
+        assert_eq!(machine_of(&[]), None);
+        assert_eq!(machine_of(&[&record[..], &[0]].concat()), None);
+    }
+
+    #[test]
+    fn places_are_the_headers() {
+        let mut machine = fresh();
+        machine.dp = 0xABC;
+        machine.time_base = 0x123450;
+        machine.ports.p30 = 9;
+        machine.zf = true;
+        machine.ram[371] = 7;
+        let record = record_of(&machine);
+        assert_eq!((record[18], record[19]), (0xBC, 0x0A));
+        assert_eq!(record[29..33], [0x50, 0x34, 0x12, 0]);
+        assert_eq!((record[15], record[25], record[26], record[408]), (9, 1, 1, 7));
+        assert_eq!(record[33..37], [15, 15, 1, 0]);
+        assert_eq!((field_at(15), field_at(408)), ("P30".to_string(), "RAM 17Fh".to_string()));
+        assert_eq!((field_at(37 + 0xF3), field_at(37 + 0xF4)), ("RAM 0F3h".to_string(), "RAM 100h".to_string()));
+    }
+}

@@ -1,0 +1,169 @@
+//! The plain emulator's answers to the calls.
+
+use crate::calls::{Answer, Call, MOST_VALUES};
+use crate::layout::{machine_of, record_of, RECORD_BYTES};
+use plain::{numbers, Bound, Insn, Machine, Options, Row};
+
+pub fn answer(call: &Call) -> Answer {
+    let refusal = |number| refused(number, call);
+    let answered = match call {
+        Call::Fresh { record } => fresh(record),
+        Call::Reset { record } => reset(record),
+        Call::IsValid { record } => machine_of_valid(record).map(|_| record_answer(record.clone(), numbers::NONE, &[])),
+        Call::Step { image, wake, sound, record, frame } => step(image, options(*wake, *sound), record, frame),
+        Call::Run { image, wake, sound, record, frames } => run(image, options(*wake, *sound), record, frames),
+        Call::Display { record, dots } => display(record, dots),
+        Call::Read { image, address } => read(image, *address),
+        Call::Write { row, a, b } => write(*row, *a, *b),
+        Call::Bound { image, address, path } => return bound(image, *address, path),
+    };
+    answered.unwrap_or_else(refusal)
+}
+
+/// "A refusal changes no buffer, and sets the numbers that come back to 0."
+fn refused(number: u8, call: &Call) -> Answer {
+    record_answer(call.changing().to_vec(), number, &[])
+}
+
+fn record_answer(buffer: Vec<u8>, number: u8, values: &[u32]) -> Answer {
+    let mut four_values = [0; MOST_VALUES];
+    four_values[..values.len()].copy_from_slice(values);
+    Answer { number, values: four_values, buffer, margins_kept: true }
+}
+
+fn options(wake: u8, sound: u8) -> Options {
+    Options { wake, sound: sound != 0 }
+}
+
+/// The machine of a record, or one that every call refuses with 2 where the bytes are none.
+fn machine_or_none_valid(record: &[u8]) -> Machine {
+    machine_of(record).unwrap_or_else(|| {
+        let mut none_valid = plain::fresh();
+        none_valid.acc = 16;
+        none_valid
+    })
+}
+
+fn machine_of_valid(record: &[u8]) -> Result<Machine, u8> {
+    let machine = machine_or_none_valid(record);
+    if plain::is_valid(&machine) {
+        Ok(machine)
+    } else {
+        Err(numbers::RECORD_RANGE)
+    }
+}
+
+fn fresh(record: &[u8]) -> Result<Answer, u8> {
+    if record.len() != RECORD_BYTES {
+        return Err(numbers::RECORD_RANGE);
+    }
+    Ok(record_answer(record_of(&plain::fresh()), numbers::NONE, &[]))
+}
+
+fn reset(record: &[u8]) -> Result<Answer, u8> {
+    let machine = plain::reset(&machine_or_none_valid(record))?;
+    Ok(record_answer(record_of(&machine), numbers::NONE, &[]))
+}
+
+fn step(image: &[u8], options: Options, record: &[u8], frame: &[u8]) -> Result<Answer, u8> {
+    let stepped = plain::step(image, options, &machine_or_none_valid(record), frame)?;
+    Ok(record_answer(record_of(&stepped.machine), stepped.stop, &[stepped.cycles]))
+}
+
+fn run(image: &[u8], options: Options, record: &[u8], frames: &[u8]) -> Result<Answer, u8> {
+    // "A last frame cut short is no frame": the plain run sees its characters and refuses them.
+    let ran = plain::run(image, options, &machine_or_none_valid(record), frames)?;
+    let cycles = u32::try_from(ran.cycles).expect("65,536 steps spend fewer than 2^32 cycles");
+    Ok(record_answer(record_of(&ran.machine), ran.stop, &[ran.steps, cycles]))
+}
+
+fn display(record: &[u8], dots: &[u8]) -> Result<Answer, u8> {
+    let mut dots = dots.to_vec();
+    plain::display(&machine_or_none_valid(record), &mut dots)?;
+    Ok(record_answer(dots, numbers::NONE, &[]))
+}
+
+fn read(image: &[u8], address: u32) -> Result<Answer, u8> {
+    let insn = plain::read(image, address as usize)?;
+    let (a, b) = slots_of(insn);
+    Ok(record_answer(Vec::new(), numbers::NONE, &[insn.row as u32, a as u32, b as u32]))
+}
+
+fn write(row: u8, a: u16, b: u8) -> Result<Answer, u8> {
+    let code = plain::write(insn_of(row, a, b))?;
+    let mut values = [code.len() as u32, 0, 0, 0];
+    for (value, byte) in values[1..].iter_mut().zip(&code) {
+        *value = *byte as u32;
+    }
+    Ok(record_answer(Vec::new(), numbers::NONE, &values))
+}
+
+fn bound(image: &[u8], address: u32, path: &[u8]) -> Answer {
+    let mut path = path.to_vec();
+    let found = plain::bound(image, address, &mut path);
+    let value = match found {
+        Bound::ImageSize | Bound::AddressOver8191 => 0,
+        Bound::Excluded(lowest) | Bound::Repetition(lowest) => lowest as u32,
+        Bound::PathBuffer(bytes) => bytes as u32,
+        Bound::Cycles { most, .. } => most,
+    };
+    record_answer(path, found.number(), &[value])
+}
+
+/// The header has operands by their letter: "a is x, k, the address, the bit, r or n; b is y or p".
+fn is_in_b(letter: u8) -> bool {
+    matches!(letter, b'y' | b'p')
+}
+
+/// The operand letters of a row in its mnemonic's order; none where there is no such row.
+fn letters_of(row: u8) -> &'static [u8] {
+    Row::from_number(row).map_or(&[], |row| row.sheet().operands.as_bytes())
+}
+
+pub fn slots_of(insn: Insn) -> (u16, u8) {
+    let (mut a, mut b) = (0, 0);
+    for (&letter, operand) in letters_of(insn.row).iter().zip([insn.a, insn.b]) {
+        if is_in_b(letter) {
+            b = operand as u8;
+        } else {
+            a = operand;
+        }
+    }
+    (a, b)
+}
+
+/// The instruction in the mnemonic's order. A slot that the row does not have comes last, where the plain writer sees
+/// and refuses it.
+pub fn insn_of(row: u8, a: u16, b: u8) -> Insn {
+    let b = b as u16;
+    let (first, second) = match letters_of(row).first() {
+        Some(&letter) if is_in_b(letter) => (b, a),
+        _ => (a, b),
+    };
+    Insn { row, a: first, b: second }
+}
+
+#[cfg(test)]
+mod tests {
+    use super::*;
+    use plain::SHEET;
+
+    #[test]
+    fn operands_go_to_their_slots_and_back() {
+        let sep = Row::Sep.number();
+        assert_eq!(insn_of(sep, 3, 9), Insn { row: sep, a: 9, b: 3 });
+        assert_eq!(slots_of(Insn { row: sep, a: 9, b: 3 }), (3, 9));
+        let std = Row::Std.number();
+        assert_eq!(slots_of(Insn { row: std, a: 7, b: 3 }), (7, 3));
+        let outa = Row::Outa.number();
+        assert_eq!(slots_of(Insn { row: outa, a: 28, b: 0 }), (0, 28));
+        assert_eq!(write(outa, 1, 28), Err(11));
+        for sheet in &SHEET {
+            let insn = Insn { row: sheet.row.number(), a: 1, b: 2 };
+            let (a, b) = slots_of(insn);
+            if sheet.operands.len() == 2 {
+                assert_eq!(insn_of(insn.row, a, b), insn);
+            }
+        }
+    }
+}
