@@ -5,4 +5,5 @@ pub mod calls;
 pub mod chance;
 pub mod layout;
 pub mod plainly;
+pub mod proved;
 pub mod records;

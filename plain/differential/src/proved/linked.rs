@@ -1,0 +1,151 @@
+//! The archive linked into this program.
+
+use crate::calls::{Answer, Call, MOST_VALUES};
+
+/// include/em73862.h, a slice being a pointer and a length.
+pub mod header {
+    extern "C" {
+        pub fn em73862_fresh(record: *mut u8, record_length: usize) -> u8;
+        pub fn em73862_reset(record: *mut u8, record_length: usize) -> u8;
+        pub fn em73862_is_valid(record: *const u8, record_length: usize) -> u8;
+        pub fn em73862_step(
+            image: *const u8,
+            image_length: usize,
+            wake: u8,
+            sound: u8,
+            record: *mut u8,
+            record_length: usize,
+            frame: *const u8,
+            frame_length: usize,
+            cycles: *mut u32,
+        ) -> u8;
+        pub fn em73862_run(
+            image: *const u8,
+            image_length: usize,
+            wake: u8,
+            sound: u8,
+            record: *mut u8,
+            record_length: usize,
+            frames: *const u8,
+            frames_length: usize,
+            steps: *mut u32,
+            cycles: *mut u32,
+        ) -> u8;
+        pub fn em73862_display(record: *const u8, record_length: usize, dots: *mut u8, dots_length: usize) -> u8;
+        pub fn em73862_read(
+            image: *const u8,
+            image_length: usize,
+            address: u32,
+            row: *mut u8,
+            a: *mut u16,
+            b: *mut u8,
+        ) -> u8;
+        pub fn em73862_write(row: u8, a: u16, b: u8, length: *mut u8, b0: *mut u8, b1: *mut u8, b2: *mut u8) -> u8;
+        pub fn em73862_bound(
+            image: *const u8,
+            image_length: usize,
+            address: u32,
+            path: *mut u8,
+            path_length: usize,
+            value: *mut u32,
+        ) -> u8;
+    }
+}
+
+/// What the numbers that come back hold before a call: one that a call leaves alone shows.
+const UNSET: u8 = 0xAA;
+const UNSET_16: u16 = 0xAAAA;
+const UNSET_32: u32 = 0xAAAA_AAAA;
+
+const MARGIN: [u8; 16] = [0xA5; 16];
+
+pub struct Proved;
+
+impl Proved {
+    #[allow(clippy::new_without_default)]
+    pub fn new() -> Proved {
+        Proved
+    }
+
+    pub fn answers(&mut self, calls: &[Call]) -> Vec<Answer> {
+        calls.iter().map(answer).collect()
+    }
+}
+
+fn answer(call: &Call) -> Answer {
+    let given = call.changing();
+    let mut held = [&MARGIN, given, &MARGIN].concat();
+    let inside = MARGIN.len()..MARGIN.len() + given.len();
+    let (number, values) = ask(call, &mut held[inside.clone()]);
+    Answer {
+        number,
+        values,
+        buffer: held[inside.clone()].to_vec(),
+        margins_kept: held[..inside.start] == MARGIN && held[inside.end..] == MARGIN,
+    }
+}
+
+/// Makes the call with `buffer` for the one that it may change. Every pointer below is that of a whole slice or of a
+/// number, with the slice's length beside it, as the header asks.
+fn ask(call: &Call, buffer: &mut [u8]) -> (u8, [u32; MOST_VALUES]) {
+    let (changing, length) = (buffer.as_mut_ptr(), buffer.len());
+    match call {
+        Call::Fresh { .. } => (unsafe { header::em73862_fresh(changing, length) }, [0; 4]),
+        Call::Reset { .. } => (unsafe { header::em73862_reset(changing, length) }, [0; 4]),
+        Call::IsValid { .. } => (unsafe { header::em73862_is_valid(changing, length) }, [0; 4]),
+        Call::Step { image, wake, sound, frame, .. } => {
+            let mut cycles = UNSET_32;
+            let number = unsafe {
+                header::em73862_step(
+                    image.as_ptr(),
+                    image.len(),
+                    *wake,
+                    *sound,
+                    changing,
+                    length,
+                    frame.as_ptr(),
+                    frame.len(),
+                    &mut cycles,
+                )
+            };
+            (number, [cycles, 0, 0, 0])
+        }
+        Call::Run { image, wake, sound, frames, .. } => {
+            let (mut steps, mut cycles) = (UNSET_32, UNSET_32);
+            let number = unsafe {
+                header::em73862_run(
+                    image.as_ptr(),
+                    image.len(),
+                    *wake,
+                    *sound,
+                    changing,
+                    length,
+                    frames.as_ptr(),
+                    frames.len(),
+                    &mut steps,
+                    &mut cycles,
+                )
+            };
+            (number, [steps, cycles, 0, 0])
+        }
+        Call::Display { record, .. } => {
+            (unsafe { header::em73862_display(record.as_ptr(), record.len(), changing, length) }, [0; 4])
+        }
+        Call::Read { image, address } => {
+            let (mut row, mut a, mut b) = (UNSET, UNSET_16, UNSET);
+            let number = unsafe { header::em73862_read(image.as_ptr(), image.len(), *address, &mut row, &mut a, &mut b) };
+            (number, [row as u32, a as u32, b as u32, 0])
+        }
+        Call::Write { row, a, b } => {
+            let [mut written, mut b0, mut b1, mut b2] = [UNSET; 4];
+            let number = unsafe { header::em73862_write(*row, *a, *b, &mut written, &mut b0, &mut b1, &mut b2) };
+            (number, [written, b0, b1, b2].map(u32::from))
+        }
+        Call::Bound { image, address, .. } => {
+            let mut value = UNSET_32;
+            let number =
+                unsafe { header::em73862_bound(image.as_ptr(), image.len(), *address, changing, length, &mut value) };
+            (number, [value, 0, 0, 0])
+        }
+    }
+}

@@ -1,0 +1,123 @@
+//! The archive in a server of its own, server.c, which tools/on-host runs. A batch is written by one thread and its
+//! answers are read by another, so that neither pipe can fill up for good.
+
+use crate::calls::{Answer, Call, Image, Kind, MOST_VALUES};
+use std::io::{self, BufReader, BufWriter, Read, Write};
+use std::path::Path;
+use std::process::{Child, ChildStdin, ChildStdout, Command, Stdio};
+use std::sync::Arc;
+
+/// Not a call: gives the image of those that follow.
+const TAKE_IMAGE: u32 = 0;
+
+const BUFFER: usize = 1 << 20;
+
+pub struct Proved {
+    server: Child,
+    requests: Option<BufWriter<ChildStdin>>,
+    answers: BufReader<ChildStdout>,
+    /// The image that the server has.
+    image: Option<Image>,
+}
+
+impl Proved {
+    #[allow(clippy::new_without_default)]
+    pub fn new() -> Proved {
+        let here = Path::new(env!("CARGO_MANIFEST_DIR"));
+        let program = here.join("../target/server/em73862-server");
+        assert!(program.exists(), "there is no {}: tools/build-server makes it", program.display());
+        let mut server = Command::new(here.join("../../tools/on-host"))
+            .arg(program)
+            .stdin(Stdio::piped())
+            .stdout(Stdio::piped())
+            .spawn()
+            .expect("tools/on-host starts the server");
+        let requests = server.stdin.take().map(|pipe| BufWriter::with_capacity(BUFFER, pipe));
+        let answers = BufReader::with_capacity(BUFFER, server.stdout.take().expect("the server's output is a pipe"));
+        Proved { server, requests, answers, image: None }
+    }
+
+    pub fn answers(&mut self, calls: &[Call]) -> Vec<Answer> {
+        let Proved { requests, answers, image, .. } = self;
+        let requests = requests.as_mut().expect("the server's input is a pipe");
+        std::thread::scope(|scope| {
+            let writing = scope.spawn(|| send(requests, image, calls));
+            let read: io::Result<Vec<Answer>> = calls.iter().map(|call| receive(answers, call)).collect();
+            let read = read.expect("the server answers every call");
+            writing.join().expect("the writing thread ends").expect("the server reads every call");
+            read
+        })
+    }
+}
+
+impl Drop for Proved {
+    /// The server ends at the end of its input.
+    fn drop(&mut self) {
+        self.requests = None;
+        let _ = self.server.wait();
+    }
+}
+
+fn send(requests: &mut impl Write, held: &mut Option<Image>, calls: &[Call]) -> io::Result<()> {
+    for call in calls {
+        if let Some(image) = call.image() {
+            let is_held = held.as_ref().is_some_and(|held| Arc::ptr_eq(held, image));
+            if !is_held {
+                send_request(requests, TAKE_IMAGE, [0; 3], &[], image)?;
+                *held = Some(image.clone());
+            }
+        }
+        send_request(requests, code_of(call.kind()), numbers_of(call), call.changing(), call.steady())?;
+    }
+    requests.flush()
+}
+
+/// server.c's `struct request`, then the two buffers.
+fn send_request(requests: &mut impl Write, code: u32, numbers: [u32; 3], changing: &[u8], steady: &[u8]) -> io::Result<()> {
+    let [first, second, third] = numbers;
+    let words = [code, first, second, third, changing.len() as u32, steady.len() as u32];
+    let mut head = [0; 24];
+    for (place, word) in head.chunks_exact_mut(4).zip(words) {
+        place.copy_from_slice(&word.to_le_bytes());
+    }
+    requests.write_all(&head)?;
+    requests.write_all(changing)?;
+    requests.write_all(steady)
+}
+
+/// server.c's `struct answer`, then the buffer that the call may change.
+fn receive(answers: &mut impl Read, call: &Call) -> io::Result<Answer> {
+    let mut head = [0; 24];
+    answers.read_exact(&mut head)?;
+    let word = |at: usize| u32::from_le_bytes([head[4 * at], head[4 * at + 1], head[4 * at + 2], head[4 * at + 3]]);
+    let mut values = [0; MOST_VALUES];
+    for (at, value) in values.iter_mut().enumerate() {
+        *value = word(2 + at);
+    }
+    let mut buffer = vec![0; call.changing().len()];
+    answers.read_exact(&mut buffer)?;
+    Ok(Answer { number: word(0) as u8, values, buffer, margins_kept: word(1) == 1 })
+}
+
+fn code_of(kind: Kind) -> u32 {
+    match kind {
+        Kind::Fresh => 1,
+        Kind::Reset => 2,
+        Kind::IsValid => 3,
+        Kind::Step => 4,
+        Kind::Run => 5,
+        Kind::Display => 6,
+        Kind::Read => 7,
+        Kind::Write => 8,
+        Kind::Bound => 9,
+    }
+}
+
+fn numbers_of(call: &Call) -> [u32; 3] {
+    match call {
+        Call::Step { wake, sound, .. } | Call::Run { wake, sound, .. } => [*wake as u32, *sound as u32, 0],
+        Call::Read { address, .. } | Call::Bound { address, .. } => [*address, 0, 0],
+        Call::Write { row, a, b } => [*row as u32, *a as u32, *b as u32],
+        Call::Fresh { .. } | Call::Reset { .. } | Call::IsValid { .. } | Call::Display { .. } => [0; 3],
+    }
+}
