@@ -1,8 +1,16 @@
 //! The proved calls of include/em73862.h beside the plain emulator: the same inputs to both, and every number and byte of
 //! the two answers compared.
 
+pub mod ask_bounds;
+pub mod ask_codes;
+pub mod ask_records;
+pub mod ask_steps;
+pub mod asker;
 pub mod calls;
 pub mod chance;
+pub mod coverage;
+pub mod frames;
+pub mod images;
 pub mod layout;
 pub mod plainly;
 pub mod proved;

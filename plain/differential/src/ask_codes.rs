@@ -1,0 +1,84 @@
+//! The reader and the writer of single instructions.
+
+use crate::asker::{Asker, Difference};
+use crate::calls::{Call, Image, Kind};
+use crate::chance::Chance;
+use crate::images::{any_insn, of_wrong_size, whole, Codes};
+use crate::plainly::slots_of;
+use plain::{IMAGE_SIZE, SHEET};
+
+pub fn reads(asker: &mut Asker, chance: &mut Chance, codes: &Codes, wanted: u64) -> Result<(), Difference> {
+    every_pair(asker)?;
+    while asker.coverage.asked(Kind::Read) < wanted {
+        let image = if chance.one_in(20) { of_wrong_size(chance) } else { whole(chance, codes) };
+        for _ in 0..64 {
+            let address = match chance.below(4) {
+                0 => chance.pick(&[0, 8189, 8190, 8191]),
+                1 => chance.pick(&[8192, 8193, 16384, 65536, 65537, 0x8000_0000, u32::MAX]),
+                _ => chance.below(IMAGE_SIZE) as u32,
+            };
+            asker.ask(Call::Read { image: image.clone(), address })?;
+        }
+    }
+    asker.compare_queued()
+}
+
+/// All 65,536 pairs of a first and a second byte.
+fn every_pair(asker: &mut Asker) -> Result<(), Difference> {
+    for sixteen in 0..16 {
+        let image: Image = (0..IMAGE_SIZE / 2).flat_map(|pair| [(16 * sixteen + pair / 256) as u8, pair as u8]).collect();
+        for address in (0..IMAGE_SIZE as u32).step_by(2) {
+            asker.ask(Call::Read { image: image.clone(), address })?;
+        }
+    }
+    Ok(())
+}
+
+pub fn writes(asker: &mut Asker, chance: &mut Chance, wanted: u64) -> Result<(), Difference> {
+    every_row(asker)?;
+    while asker.coverage.asked(Kind::Write) < wanted {
+        if chance.one_in(2) {
+            let (row, a, b) = a_row(chance);
+            asker.ask(Call::Write { row, a, b })?;
+            continue;
+        }
+        let row = if chance.one_in(4) { chance.byte() } else { 1 + chance.below(107) as u8 };
+        let a = match chance.below(4) {
+            0 => 0,
+            1 => chance.number() as u16,
+            _ => chance.number() as u16 >> (3 + chance.below(13)),
+        };
+        let b = match chance.below(4) {
+            0 | 1 => 0,
+            2 => chance.byte(),
+            _ => chance.byte() >> (3 + chance.below(3)),
+        };
+        asker.ask(Call::Write { row, a, b })?;
+    }
+    asker.compare_queued()
+}
+
+/// A row of the sheet with operands that mostly fit.
+fn a_row(chance: &mut Chance) -> (u8, u16, u8) {
+    let sheet = &SHEET[chance.below(SHEET.len())];
+    let insn = any_insn(chance, sheet);
+    let (a, b) = slots_of(insn);
+    (insn.row, a, b)
+}
+
+/// Every row number, of the sheet or not, with operands at, below and over the ends of every field.
+fn every_row(asker: &mut Asker) -> Result<(), Difference> {
+    const A: [u16; 23] = [
+        0, 1, 3, 4, 5, 15, 16, 31, 63, 64, 0xF0, 0xF3, 0xF4, 0xF7, 0xFB, 0xFF, 0x100, 0x7FF, 0x800, 0xFFF, 0x1FFF, 0x2000,
+        0xFFFF,
+    ];
+    const B: [u8; 10] = [0, 1, 3, 4, 15, 16, 17, 31, 32, 255];
+    for row in 0..=255 {
+        for a in A {
+            for b in B {
+                asker.ask(Call::Write { row, a, b })?;
+            }
+        }
+    }
+    Ok(())
+}

@@ -1,0 +1,155 @@
+//! Steps and runs.
+
+use crate::asker::{Asker, Difference};
+use crate::calls::{Call, Image, Kind};
+use crate::chance::Chance;
+use crate::frames::{bad, bad_of_any_length, Pins};
+use crate::images::{calm, of_wrong_size, whole, Codes};
+use crate::layout::{self, machine_of, record_of};
+use crate::records::{self, fresh_or_valid, spoilt, valid};
+use plain::{Frame, FRAME_LENGTH, MOST_FRAMES};
+
+/// Single steps from records that are anything valid, and walks, in which a step goes on from what the one before left.
+pub fn steps(asker: &mut Asker, chance: &mut Chance, codes: &Codes, wanted: u64) -> Result<(), Difference> {
+    while asker.coverage.asked(Kind::Step) < wanted {
+        let image = whole(chance, codes);
+        for _ in 0..64 {
+            walk(asker, chance, &image, 1)?;
+        }
+        for _ in 0..chance.pick(&[1, 2, 4]) {
+            let length = chance.pick(&[5, 20, 60, 300]);
+            walk(asker, chance, &image, length)?;
+        }
+    }
+    asker.compare_queued()
+}
+
+fn walk(asker: &mut Asker, chance: &mut Chance, image: &Image, length: usize) -> Result<(), Difference> {
+    let (wake, sound) = options(chance);
+    let mut record = record_of(&if length == 1 { valid(chance) } else { fresh_or_valid(chance) });
+    let mut pins = pins_after(chance, &record);
+    for _ in 0..length {
+        if chance.one_in(25) {
+            refused_step(asker, chance, image, &record)?;
+        }
+        let frame = pins.next(chance).to_vec();
+        let answer = asker.ask(Call::Step { image: image.clone(), wake, sound, record: record.clone(), frame })?;
+        if answer.number == 0 {
+            record.copy_from_slice(&answer.buffer);
+            // Nothing wakes some sleepers.
+            if record[layout::MODE] != 0 && chance.one_in(16) {
+                return Ok(());
+            }
+        } else if chance.one_in(4) {
+            return Ok(());
+        } else {
+            // A walk that stops goes on somewhere else with the state that it has.
+            record[layout::PC] = chance.byte();
+            record[layout::PC + 1] = chance.byte() & 0x1F;
+        }
+    }
+    Ok(())
+}
+
+/// A step with one wrong input, now and then with more: the table's order decides.
+fn refused_step(asker: &mut Asker, chance: &mut Chance, image: &Image, record: &[u8]) -> Result<(), Difference> {
+    let wrong = chance.pick(&[1, 2, 2, 2, 4, 4, 4, 3, 5, 6, 7]);
+    let (wake, sound) = options(chance);
+    asker.ask(Call::Step {
+        image: if wrong & 1 != 0 { of_wrong_size(chance) } else { image.clone() },
+        wake,
+        sound,
+        record: if wrong & 2 != 0 { spoilt(chance) } else { record.to_vec() },
+        frame: if wrong & 4 != 0 { bad_of_any_length(chance) } else { b"fF0".to_vec() },
+    })?;
+    Ok(())
+}
+
+fn options(chance: &mut Chance) -> (u8, u8) {
+    let wake = match chance.below(3) {
+        0 => chance.pick(&[0, 0xFF, 0x0F, 0xF0]),
+        1 => 1 << chance.below(8),
+        _ => chance.byte(),
+    };
+    (wake, chance.pick(&[0, 0, 0, 1, 2, 255]))
+}
+
+fn pins_after(chance: &mut Chance, record: &[u8]) -> Pins {
+    let last = machine_of(record).map_or(Frame::IDLE, |machine| machine.last_frame);
+    Pins::new(chance, last)
+}
+
+/// One run in so many has as many frames as a run takes, and as many again have more bytes than that.
+const LONG_ONE_IN: usize = 1000;
+const TOO_LONG_ONE_IN: usize = 500;
+
+pub fn runs(asker: &mut Asker, chance: &mut Chance, codes: &Codes, wanted: u64) -> Result<(), Difference> {
+    while asker.coverage.asked(Kind::Run) < wanted {
+        let image = whole(chance, codes);
+        for _ in 0..16 {
+            short_run(asker, chance, &image)?;
+        }
+        if chance.one_in(LONG_ONE_IN / 16) {
+            long_run(asker, chance, codes)?;
+        }
+        if chance.one_in(TOO_LONG_ONE_IN / 16) {
+            too_long_run(asker, chance, &image)?;
+        }
+    }
+    asker.compare_queued()
+}
+
+fn short_run(asker: &mut Asker, chance: &mut Chance, image: &Image) -> Result<(), Difference> {
+    let count = chance.pick(&[0, 1, 2, 5, 20, 60, 60, 150]);
+    let record = if chance.one_in(20) { spoilt(chance) } else { record_of(&fresh_or_valid(chance)) };
+    let mut frames = frames_after(chance, &record, count);
+    if chance.one_in(20) && count > 0 {
+        // Anywhere: also behind a stop, which a run does not reach.
+        let place = FRAME_LENGTH * chance.below(count);
+        frames[place..place + FRAME_LENGTH].copy_from_slice(&bad(chance));
+    }
+    if chance.one_in(20) {
+        frames.extend_from_slice(&b"FF"[..chance.pick(&[1, 2])]);
+    }
+    let image = if chance.one_in(100) { of_wrong_size(chance) } else { image.clone() };
+    let (wake, sound) = options(chance);
+    asker.ask(Call::Run { image, wake, sound, record, frames })?;
+    Ok(())
+}
+
+/// 65,536 frames on an image that goes on, now and then in sleep or hold.
+fn long_run(asker: &mut Asker, chance: &mut Chance, codes: &Codes) -> Result<(), Difference> {
+    let image = if chance.one_in(3) { [0; 8192].into() } else { calm(chance, codes) };
+    let mut machine = records::calm(chance);
+    if chance.one_in(4) {
+        records::fall_asleep(chance, &mut machine);
+    }
+    let record = record_of(&machine);
+    let mut frames = frames_after(chance, &record, MOST_FRAMES);
+    if chance.one_in(8) {
+        let last = frames.len() - FRAME_LENGTH;
+        frames[last..].copy_from_slice(&bad(chance));
+    }
+    let (wake, sound) = options(chance);
+    asker.ask(Call::Run { image, wake, sound, record, frames })?;
+    Ok(())
+}
+
+/// One byte, two or a frame over: 4, which 1 and 2 come before and 3 behind.
+fn too_long_run(asker: &mut Asker, chance: &mut Chance, image: &Image) -> Result<(), Difference> {
+    let length = MOST_FRAMES * FRAME_LENGTH + chance.pick(&[1, 2, 3, 300]);
+    let frames = b"FF1".iter().chain(&bad(chance)).cycle().take(length).copied().collect();
+    let record = if chance.one_in(4) { spoilt(chance) } else { record_of(&fresh_or_valid(chance)) };
+    let image = if chance.one_in(4) { of_wrong_size(chance) } else { image.clone() };
+    asker.ask(Call::Run { image, wake: 0xFF, sound: 0, record, frames })?;
+    Ok(())
+}
+
+fn frames_after(chance: &mut Chance, record: &[u8], count: usize) -> Vec<u8> {
+    let mut pins = pins_after(chance, record);
+    let mut frames = Vec::with_capacity(FRAME_LENGTH * count);
+    for _ in 0..count {
+        frames.extend(pins.next(chance));
+    }
+    frames
+}

@@ -1,0 +1,165 @@
+//! Puts each call to both sides, the proved one in batches, and compares all that comes back.
+
+use crate::calls::{Answer, Call, Kind};
+use crate::coverage::Coverage;
+use crate::layout::{self, RAM, RECORD_BYTES};
+use crate::plainly;
+use crate::proved::Proved;
+use std::fmt::Write;
+
+/// The first thing in which the two answers to a call are not the same.
+#[derive(Debug)]
+pub struct Difference {
+    /// Which call it was, counted from 1 over all kinds.
+    pub turn: u64,
+    pub kind: Kind,
+    pub inputs: String,
+    pub what: String,
+}
+
+/// A batch is asked when it has so many calls or about so many bytes.
+const BATCH_CALLS: usize = 4096;
+const BATCH_BYTES: usize = 8 << 20;
+
+pub struct Asker {
+    proved: Proved,
+    queue: Vec<(Call, Answer)>,
+    queued_bytes: usize,
+    compared: u64,
+    pub coverage: Coverage,
+}
+
+impl Asker {
+    pub fn new(proved: Proved) -> Asker {
+        Asker { proved, queue: Vec::new(), queued_bytes: 0, compared: 0, coverage: Coverage::new() }
+    }
+
+    /// Puts a call into the queue and gives the plain answer, so that a walk can go on from it.
+    pub fn ask(&mut self, call: Call) -> Result<&Answer, Difference> {
+        if self.queue.len() >= BATCH_CALLS || self.queued_bytes >= BATCH_BYTES {
+            self.compare_queued()?;
+        }
+        let answer = plainly::answer(&call);
+        self.coverage.count(&call, &answer);
+        self.queued_bytes += call.size();
+        self.queue.push((call, answer));
+        Ok(&self.queue[self.queue.len() - 1].1)
+    }
+
+    /// Asks the proved side what is queued.
+    pub fn compare_queued(&mut self) -> Result<(), Difference> {
+        self.queued_bytes = 0;
+        let (calls, plain): (Vec<Call>, Vec<Answer>) = std::mem::take(&mut self.queue).into_iter().unzip();
+        let proved = self.proved.answers(&calls);
+        assert_eq!(proved.len(), calls.len());
+        for ((call, plain), proved) in calls.iter().zip(&plain).zip(&proved) {
+            self.compared += 1;
+            if let Some(what) = first_difference(call.kind(), plain, proved) {
+                return Err(Difference { turn: self.compared, kind: call.kind(), inputs: in_short(call), what });
+            }
+        }
+        Ok(())
+    }
+}
+
+fn first_difference(kind: Kind, plain: &Answer, proved: &Answer) -> Option<String> {
+    let differs = |field: &str, plain: u32, proved: u32| Some(format!("{field}: plain {plain}, proved {proved}"));
+    if plain.number != proved.number {
+        return differs("number", plain.number.into(), proved.number.into());
+    }
+    for (place, name) in kind.values().iter().enumerate() {
+        if plain.values[place] != proved.values[place] {
+            return differs(name, plain.values[place], proved.values[place]);
+        }
+    }
+    if let Some(place) = (0..plain.buffer.len()).find(|place| plain.buffer[*place] != proved.buffer[*place]) {
+        let field = match kind {
+            Kind::Display => format!("dots, byte {place}"),
+            Kind::Bound => format!("path, byte {place}"),
+            _ => format!("record, byte {place}, {}", layout::field_at(place)),
+        };
+        return differs(&field, plain.buffer[place].into(), proved.buffer[place].into());
+    }
+    if !proved.margins_kept {
+        return Some("the proved call changed bytes beside its buffer".to_string());
+    }
+    // All that there is was compared: the rest of both answers is the same by its form.
+    (plain != proved).then(|| "the form of the answers".to_string())
+}
+
+/// The inputs in one line: what is needed to see the case. The seed and the turn give the rest.
+fn in_short(call: &Call) -> String {
+    let mut text = String::new();
+    if let Some(image) = call.image() {
+        let start = match call {
+            Call::Read { address, .. } | Call::Bound { address, .. } => *address as usize,
+            _ => pc_of(call.changing()),
+        };
+        let codes: Vec<u8> = (0..8).filter_map(|offset| image.get((start + offset) % 8192)).copied().collect();
+        let _ = write!(text, "image of {} bytes, from {start:04X}h {}; ", image.len(), hexadecimal(&codes));
+    }
+    let _ = match call {
+        Call::Fresh { record } | Call::Reset { record } | Call::IsValid { record } => {
+            write!(text, "{}", record_in_short(record))
+        }
+        Call::Step { wake, sound, record, frame, .. } => {
+            write!(text, "wake {wake:02X}h, sound {sound}, frame {}, {}", frame.escape_ascii(), record_in_short(record))
+        }
+        Call::Run { wake, sound, record, frames, .. } => {
+            let first = &frames[..frames.len().min(30)];
+            let length = frames.len();
+            write!(
+                text,
+                "wake {wake:02X}h, sound {sound}, {length} bytes of frames from {}, {}",
+                first.escape_ascii(),
+                record_in_short(record)
+            )
+        }
+        Call::Display { record, dots } => write!(text, "{} bytes for dots, {}", dots.len(), record_in_short(record)),
+        Call::Read { address, .. } => write!(text, "address {address:X}h"),
+        Call::Write { row, a, b } => write!(text, "row {row}, a {a}, b {b}"),
+        Call::Bound { address, path, .. } => write!(text, "address {address:X}h, {} bytes for the path", path.len()),
+    };
+    text
+}
+
+fn pc_of(record: &[u8]) -> usize {
+    layout::machine_of(record).map_or(0, |machine| machine.pc as usize)
+}
+
+fn record_in_short(record: &[u8]) -> String {
+    if record.len() != RECORD_BYTES {
+        return format!("record of {} bytes", record.len());
+    }
+    let ram: String = record[RAM..].iter().map(|nibble| format!("{nibble:X}")).collect();
+    format!("record {} RAM {ram}", hexadecimal(&record[..RAM]))
+}
+
+fn hexadecimal(bytes: &[u8]) -> String {
+    bytes.iter().map(|byte| format!("{byte:02X}")).collect::<Vec<_>>().join(" ")
+}
+
+#[cfg(test)]
+mod tests {
+    use super::*;
+
+    #[test]
+    fn every_part_of_an_answer_is_compared() {
+        let answer = Answer { number: 0, values: [7, 8, 0, 0], buffer: vec![1; RECORD_BYTES], margins_kept: true };
+        assert_eq!(first_difference(Kind::Run, &answer, &answer), None);
+        type Change = fn(&mut Answer);
+        let changes: [(Change, &str); 6] = [
+            (|answer| answer.number = 30, "number: plain 0, proved 30"),
+            (|answer| answer.values[1] = 9, "cycles: plain 8, proved 9"),
+            (|answer| answer.buffer[0] = 0, "record, byte 0, ACC: plain 1, proved 0"),
+            (|answer| answer.buffer[408] = 0, "record, byte 408, RAM 17Fh: plain 1, proved 0"),
+            (|answer| answer.margins_kept = false, "the proved call changed bytes beside its buffer"),
+            (|answer| answer.values[3] = 1, "the form of the answers"),
+        ];
+        for (change, what) in changes {
+            let mut changed = answer.clone();
+            change(&mut changed);
+            assert_eq!(first_difference(Kind::Run, &answer, &changed).as_deref(), Some(what));
+        }
+    }
+}

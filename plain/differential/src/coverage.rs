@@ -1,0 +1,234 @@
+//! What the calls met, counted, and how often each must have come: so that the comparison cannot go blind.
+
+use crate::calls::{Answer, Call, Kind};
+use crate::layout::machine_of;
+use plain::{read, Machine, Mode, Row, MOST_FRAMES, SHEET};
+
+const NUMBERS: usize = 35;
+
+/// Each answer's number, and how often it comes at least in a whole comparison (with the factor 1).
+const AT_LEAST: [(Kind, &[(u8, u64)]); 9] = [
+    (Kind::Step, &STEP_AT_LEAST),
+    (Kind::Run, &RUN_AT_LEAST),
+    (Kind::Display, &[(0, 30_000), (2, 10_000), (5, 10_000)]),
+    (Kind::Read, &[(0, 60_000), (1, 500), (20, 5_000), (30, 1_500)]),
+    (Kind::Write, &[(0, 10_000), (11, 50_000)]),
+    (Kind::Bound, &[(0, 20_000), (1, 500), (20, 500), (21, 10_000), (22, 10_000), (23, 10_000)]),
+    (Kind::Fresh, &[(0, 30_000), (2, 10_000)]),
+    (Kind::Reset, &[(0, 30_000), (2, 30_000)]),
+    (Kind::IsValid, &[(0, 30_000), (2, 30_000)]),
+];
+const STEP_AT_LEAST: [(u8, u64); 9] =
+    [(0, 400_000), (1, 5_000), (2, 5_000), (3, 5_000), (30, 3_000), (31, 5_000), (32, 5_000), (33, 5_000), (34, 500)];
+const RUN_AT_LEAST: [(u8, u64); 10] =
+    [(0, 20_000), (1, 300), (2, 1_000), (3, 3_000), (4, 50), (30, 1_000), (31, 1_000), (32, 1_000), (33, 1_000), (34, 300)];
+
+/// Each row is executed so often at least by single steps that do not stop.
+const EACH_ROW: u64 = 300;
+
+/// What single steps do besides executing a row.
+#[derive(Clone, Copy, Debug, PartialEq, Eq)]
+enum Event {
+    AcceptsInt0,
+    AcceptsTrga,
+    AcceptsTrgb,
+    AcceptsTbi,
+    AcceptsInt1,
+    EntersSleep,
+    EntersHold,
+    WaitsOn,
+    WakesBy0,
+    WakesBy1,
+    WakesBy2,
+    WakesFromHold,
+    SetsIl5,
+    SetsIl3,
+    SetsIl2,
+    SetsIl1,
+    SetsIl0,
+    CountsTa,
+    CountsTb,
+    TimeBaseWraps,
+    PcWraps,
+}
+
+const EVENTS: [(Event, &str); 21] = [
+    (Event::AcceptsInt0, "accepts INT0"),
+    (Event::AcceptsTrga, "accepts TRGA"),
+    (Event::AcceptsTrgb, "accepts TRGB"),
+    (Event::AcceptsTbi, "accepts TBI"),
+    (Event::AcceptsInt1, "accepts INT1"),
+    (Event::EntersSleep, "enters sleep"),
+    (Event::EntersHold, "enters hold"),
+    (Event::WaitsOn, "waits on"),
+    (Event::WakesBy0, "wakes from sleep 0"),
+    (Event::WakesBy1, "wakes from sleep 1"),
+    (Event::WakesBy2, "wakes from sleep 2"),
+    (Event::WakesFromHold, "wakes from hold"),
+    (Event::SetsIl5, "sets IL5"),
+    (Event::SetsIl3, "sets IL3"),
+    (Event::SetsIl2, "sets IL2"),
+    (Event::SetsIl1, "sets IL1"),
+    (Event::SetsIl0, "sets IL0"),
+    (Event::CountsTa, "counts TA"),
+    (Event::CountsTb, "counts TB"),
+    (Event::TimeBaseWraps, "wraps the time base"),
+    (Event::PcWraps, "wraps the PC"),
+];
+
+/// Each event comes so often at least in single steps.
+const EACH_EVENT: u64 = 300;
+
+/// So many runs at least take all the frames that a run can have.
+const LONGEST_RUNS: u64 = 10;
+
+pub struct Coverage {
+    answers: [[u64; NUMBERS]; 9],
+    rows: [u64; 108],
+    events: [u64; EVENTS.len()],
+    longest_runs: u64,
+}
+
+impl Coverage {
+    #[allow(clippy::new_without_default)]
+    pub fn new() -> Coverage {
+        Coverage { answers: [[0; NUMBERS]; 9], rows: [0; 108], events: [0; EVENTS.len()], longest_runs: 0 }
+    }
+
+    pub fn count(&mut self, call: &Call, answer: &Answer) {
+        self.answers[call.kind() as usize][answer.number as usize] += 1;
+        if call.kind() == Kind::Run && answer.values[0] as usize == MOST_FRAMES {
+            self.longest_runs += 1;
+        }
+        if let Call::Step { image, record, .. } = call {
+            if answer.number == 0 {
+                if let (Some(before), Some(after)) = (machine_of(record), machine_of(&answer.buffer)) {
+                    self.count_step(image, &before, &after);
+                }
+            }
+        }
+    }
+
+    pub fn asked(&self, kind: Kind) -> u64 {
+        self.answers[kind as usize].iter().sum()
+    }
+
+    fn happens(&mut self, event: Event, whether: bool) {
+        self.events[event as usize] += whether as u64;
+    }
+
+    fn count_step(&mut self, image: &[u8], before: &Machine, after: &Machine) {
+        if before.mode != Mode::Running {
+            self.count_waiting(before, after);
+            return;
+        }
+        let set = after.il & !before.il;
+        for (bit, event) in
+            [(5, Event::SetsIl5), (3, Event::SetsIl3), (2, Event::SetsIl2), (1, Event::SetsIl1), (0, Event::SetsIl0)]
+        {
+            self.happens(event, set >> bit & 1 != 0);
+        }
+        self.happens(Event::TimeBaseWraps, after.time_base < before.time_base && after.mode == Mode::Running);
+        // Only an acceptance lowers SP and clears EI.
+        if before.ei && !after.ei && after.sp + 1 == before.sp {
+            for (entry, event) in [
+                (0x02, Event::AcceptsInt0),
+                (0x06, Event::AcceptsTrga),
+                (0x08, Event::AcceptsTrgb),
+                (0x0A, Event::AcceptsTbi),
+                (0x0C, Event::AcceptsInt1),
+            ] {
+                self.happens(event, after.pc == entry);
+            }
+            return;
+        }
+        self.happens(Event::EntersSleep, after.mode == Mode::Sleep);
+        self.happens(Event::EntersHold, after.mode == Mode::Hold);
+        if let Ok(insn) = read(image, before.pc as usize) {
+            self.rows[insn.row as usize] += 1;
+            let row = Row::from_number(insn.row);
+            self.happens(Event::CountsTa, after.ta != before.ta && !row.is_some_and(stores_ta));
+            self.happens(Event::CountsTb, after.tb != before.tb && !row.is_some_and(stores_tb));
+            self.happens(Event::PcWraps, row.is_some_and(|row| before.pc + row.bytes() >= 8192));
+        }
+    }
+
+    fn count_waiting(&mut self, before: &Machine, after: &Machine) {
+        self.happens(Event::WaitsOn, after.mode != Mode::Running);
+        if after.mode == Mode::Running {
+            let wakes = [Event::WakesBy0, Event::WakesBy1, Event::WakesBy2, Event::WakesFromHold];
+            self.happens(wakes[before.ports.p16 as usize & 3], true);
+        }
+    }
+
+    /// The numbers that came of each call, then the rows and events that came least.
+    pub fn report(&self) -> Vec<String> {
+        let mut lines = Vec::new();
+        for kind in Kind::ALL {
+            let answers = self.answers[kind as usize].iter().enumerate().filter(|(_, count)| **count > 0);
+            let words: Vec<String> = answers.map(|(number, count)| format!("{number}: {count}")).collect();
+            lines.push(format!("{} answered {}", kind.name(), words.join(", ")));
+        }
+        if let Some(least) = SHEET.iter().min_by_key(|sheet| self.rows[sheet.row.number() as usize]) {
+            lines.push(format!(
+                "each row was executed at least {} times ({})",
+                self.rows[least.row.number() as usize],
+                least.mnemonic
+            ));
+        }
+        let words: Vec<String> =
+            EVENTS.iter().map(|(event, name)| format!("{name} {}", self.events[*event as usize])).collect();
+        lines.push(format!("a step {}", words.join(", ")));
+        lines.push(format!("a run made {MOST_FRAMES} steps {} times", self.longest_runs));
+        lines
+    }
+
+    /// What came less often than it must.
+    pub fn shortfalls(&self) -> Vec<String> {
+        let mut found = Vec::new();
+        for (kind, least) in AT_LEAST {
+            for (number, least) in least {
+                let count = self.answers[kind as usize][*number as usize];
+                if count < *least {
+                    found.push(format!("{} answered {number} only {count} times, not {least}", kind.name()));
+                }
+            }
+        }
+        for sheet in &SHEET {
+            let count = self.rows[sheet.row.number() as usize];
+            if count < EACH_ROW {
+                found.push(format!("{} was executed only {count} times, not {EACH_ROW}", sheet.mnemonic));
+            }
+        }
+        for (event, name) in EVENTS {
+            let count = self.events[event as usize];
+            if count < EACH_EVENT {
+                found.push(format!("a step {name} only {count} times, not {EACH_EVENT}"));
+            }
+        }
+        if self.longest_runs < LONGEST_RUNS {
+            found.push(format!("a run made {MOST_FRAMES} steps only {} times, not {LONGEST_RUNS}", self.longest_runs));
+        }
+        found
+    }
+}
+
+fn stores_ta(row: Row) -> bool {
+    matches!(row, Row::Statal | Row::Statam | Row::Statah)
+}
+
+fn stores_tb(row: Row) -> bool {
+    matches!(row, Row::Statbl | Row::Statbm | Row::Statbh)
+}
+
+#[cfg(test)]
+mod tests {
+    use super::*;
+
+    #[test]
+    fn events_stand_at_their_numbers() {
+        for (place, (event, _)) in EVENTS.iter().enumerate() {
+            assert_eq!(*event as usize, place);
+        }
+    }
+}
