@@ -1,0 +1,7 @@
+.PHONY: test bench
+
+test:
+	@tools/test
+
+bench:
+	@tools/bench
