@@ -74,10 +74,9 @@ impl Codes {
         const A_ROW: usize = 64;
         let mut codes = Codes { any: Vec::new(), calm: Vec::new() };
         for sheet in &SHEET {
-            let mut any = Vec::new();
-            while any.len() < A_ROW {
-                any.extend(write(any_insn(chance, sheet)).ok());
-            }
+            let fitting = (0..100 * A_ROW).filter_map(|_| write(any_insn(chance, sheet)).ok());
+            let any: Vec<Vec<u8>> = fitting.take(A_ROW).collect();
+            assert!(any.len() == A_ROW, "the plain writer refuses {} with operands that fit", sheet.mnemonic);
             codes.calm.push(any.iter().filter(|code| goes_on(code)).cloned().collect());
             codes.any.push(any);
         }
