@@ -12,6 +12,10 @@ const TAKE_IMAGE: u32 = 0;
 
 const BUFFER: usize = 1 << 20;
 
+/// An emulator does `rep stosb` and `rep movsb` a byte at a time: with them a bound, which clears its places, takes fifty
+/// times as long. So libc is told to use them from a gigabyte up.
+const TUNABLES: &str = "glibc.cpu.x86_rep_stosb_threshold=1000000000:glibc.cpu.x86_rep_movsb_threshold=1000000000";
+
 pub struct Proved {
     server: Child,
     requests: Option<BufWriter<ChildStdin>>,
@@ -28,6 +32,7 @@ impl Proved {
         assert!(program.exists(), "there is no {}: tools/build-server makes it", program.display());
         let mut server = Command::new(here.join("../../tools/on-host"))
             .arg(program)
+            .env("GLIBC_TUNABLES", TUNABLES)
             .stdin(Stdio::piped())
             .stdout(Stdio::piped())
             .spawn()
