@@ -11,6 +11,7 @@ long read(int file, void *bytes, size_t length);
 long write(int file, const void *bytes, size_t length);
 void *memcpy(void *to, const void *from, size_t length);
 void *memset(void *to, int byte, size_t length);
+int memcmp(const void *one, const void *other, size_t length);
 void _exit(int status) __attribute__((noreturn));
 
 struct request {
@@ -18,7 +19,7 @@ struct request {
 };
 
 struct answer {
-    uint32_t number, margins_kept, values[4];
+    uint32_t number, others_kept, values[4];
 };
 
 enum { MOST_BYTES = 1 << 20, MARGIN = 16, MARGIN_BYTE = 0xA5 };
@@ -27,6 +28,7 @@ static uint8_t input[MOST_BYTES], output[MOST_BYTES];
 static size_t input_start, input_end, output_end;
 static uint8_t image[MOST_BYTES], steady[MOST_BYTES], held[MARGIN + MOST_BYTES + MARGIN];
 static uint8_t *const changing = held + MARGIN;
+static uint8_t image_copy[MOST_BYTES], steady_copy[MOST_BYTES];
 static size_t image_length;
 
 static void flush(void) {
@@ -68,11 +70,12 @@ static void give(const void *bytes, size_t length) {
     output_end += length;
 }
 
-static int margins_kept(size_t length) {
+/* Whether the call left alone all that is not its changing buffer. */
+static int others_kept(const struct request *r) {
     for (size_t at = 0; at < MARGIN; at++)
-        if (held[at] != MARGIN_BYTE || changing[length + at] != MARGIN_BYTE)
+        if (held[at] != MARGIN_BYTE || changing[r->changing_length + at] != MARGIN_BYTE)
             return 0;
-    return 1;
+    return !memcmp(image, image_copy, image_length) && !memcmp(steady, steady_copy, r->steady_length);
 }
 
 /* The numbers that come back hold AAh before a call: one that a call leaves alone shows. */
@@ -128,11 +131,13 @@ int main(void) {
         if (request.call == 0) {
             take(image, request.steady_length, 0);
             image_length = request.steady_length;
+            memcpy(image_copy, image, image_length);
             continue;
         }
         take(steady, request.steady_length, 0);
+        memcpy(steady_copy, steady, request.steady_length);
         struct answer answer = ask(&request);
-        answer.margins_kept = margins_kept(request.changing_length);
+        answer.others_kept = others_kept(&request);
         give(&answer, sizeof answer);
         give(changing, request.changing_length);
     }

@@ -80,8 +80,8 @@ fn first_difference(kind: Kind, plain: &Answer, proved: &Answer) -> Option<Strin
         };
         return differs(&field, plain.buffer[place].into(), proved.buffer[place].into());
     }
-    if !proved.margins_kept {
-        return Some("the proved call changed bytes beside its buffer".to_string());
+    if !proved.others_kept {
+        return Some("the proved call changed bytes outside its buffer".to_string());
     }
     // All that there is was compared: the rest of both answers is the same by its form.
     (plain != proved).then(|| "the form of the answers".to_string())
@@ -145,7 +145,7 @@ mod tests {
 
     #[test]
     fn every_part_of_an_answer_is_compared() {
-        let answer = Answer { number: 0, values: [7, 8, 0, 0], buffer: vec![1; RECORD_BYTES], margins_kept: true };
+        let answer = Answer { number: 0, values: [7, 8, 0, 0], buffer: vec![1; RECORD_BYTES], others_kept: true };
         assert_eq!(first_difference(Kind::Run, &answer, &answer), None);
         type Change = fn(&mut Answer);
         let changes: [(Change, &str); 6] = [
@@ -153,7 +153,7 @@ mod tests {
             (|answer| answer.values[1] = 9, "cycles: plain 8, proved 9"),
             (|answer| answer.buffer[0] = 0, "record, byte 0, ACC: plain 1, proved 0"),
             (|answer| answer.buffer[408] = 0, "record, byte 408, RAM 17Fh: plain 1, proved 0"),
-            (|answer| answer.margins_kept = false, "the proved call changed bytes beside its buffer"),
+            (|answer| answer.others_kept = false, "the proved call changed bytes outside its buffer"),
             (|answer| answer.values[3] = 1, "the form of the answers"),
         ];
         for (change, what) in changes {

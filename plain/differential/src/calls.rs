@@ -59,6 +59,21 @@ impl Kind {
         }
     }
 
+    /// What a number of its calls is called.
+    pub fn plural(self) -> &'static str {
+        match self {
+            Kind::Fresh => "fresh",
+            Kind::Reset => "resets",
+            Kind::IsValid => "is_valid",
+            Kind::Step => "steps",
+            Kind::Run => "runs",
+            Kind::Display => "displays",
+            Kind::Read => "reads",
+            Kind::Write => "writes",
+            Kind::Bound => "bounds",
+        }
+    }
+
     /// The numbers that a call gives back besides its answer's number, in the header's order.
     pub fn values(self) -> &'static [&'static str] {
         match self {
@@ -81,8 +96,8 @@ pub struct Answer {
     pub values: [u32; MOST_VALUES],
     /// The buffer that the call may change, as it was left: the record, the dots or the path.
     pub buffer: Vec<u8>,
-    /// Whether the bytes just before and behind that buffer, which are none of the call's, stayed.
-    pub margins_kept: bool,
+    /// Whether all other bytes stayed: the image, the steady buffer, and what is just before and behind `buffer`.
+    pub others_kept: bool,
 }
 
 impl Call {
@@ -120,7 +135,7 @@ impl Call {
         }
     }
 
-    /// The other buffer besides the image.
+    /// The other buffer besides the image, which no call may change.
     pub fn steady(&self) -> &[u8] {
         match self {
             Call::Step { frame, .. } => frame,

@@ -28,7 +28,7 @@ fn refused(number: u8, call: &Call) -> Answer {
 fn record_answer(buffer: Vec<u8>, number: u8, values: &[u32]) -> Answer {
     let mut four_values = [0; MOST_VALUES];
     four_values[..values.len()].copy_from_slice(values);
-    Answer { number, values: four_values, buffer, margins_kept: true }
+    Answer { number, values: four_values, buffer, others_kept: true }
 }
 
 fn options(wake: u8, sound: u8) -> Options {

@@ -43,7 +43,7 @@ fn main() {
         exit(2);
     }
     let asked: Vec<String> =
-        Kind::ALL.iter().map(|kind| format!("{} {}", asker.coverage.asked(*kind), kind.name())).collect();
+        Kind::ALL.iter().map(|kind| format!("{} {}", asker.coverage.asked(*kind), kind.plural())).collect();
     println!("differential: {}, 0 differ", asked.join(", "));
 }
 

@@ -1,6 +1,7 @@
 //! The archive linked into this program.
 
-use crate::calls::{Answer, Call, MOST_VALUES};
+use crate::calls::{Answer, Call, Image, MOST_VALUES};
+use std::sync::Arc;
 
 /// include/em73862.h, a slice being a pointer and a length.
 pub mod header {
@@ -59,29 +60,43 @@ const UNSET_32: u32 = 0xAAAA_AAAA;
 
 const MARGIN: [u8; 16] = [0xA5; 16];
 
-pub struct Proved;
+pub struct Proved {
+    /// The image of the last call that had one, and a copy of it that no call sees.
+    image: Option<(Image, Vec<u8>)>,
+}
 
 impl Proved {
     #[allow(clippy::new_without_default)]
     pub fn new() -> Proved {
-        Proved
+        Proved { image: None }
     }
 
     pub fn answers(&mut self, calls: &[Call]) -> Vec<Answer> {
-        calls.iter().map(answer).collect()
+        calls.iter().map(|call| self.answer(call)).collect()
     }
-}
 
-fn answer(call: &Call) -> Answer {
-    let given = call.changing();
-    let mut held = [&MARGIN, given, &MARGIN].concat();
-    let inside = MARGIN.len()..MARGIN.len() + given.len();
-    let (number, values) = ask(call, &mut held[inside.clone()]);
-    Answer {
-        number,
-        values,
-        buffer: held[inside.clone()].to_vec(),
-        margins_kept: held[..inside.start] == MARGIN && held[inside.end..] == MARGIN,
+    fn answer(&mut self, call: &Call) -> Answer {
+        self.copy_image(call);
+        let steady = call.steady().to_vec();
+        let given = call.changing();
+        let mut held = [&MARGIN, given, &MARGIN].concat();
+        let inside = MARGIN.len()..MARGIN.len() + given.len();
+        let (number, values) = ask(call, &mut held[inside.clone()]);
+        let margins_kept = held[..inside.start] == MARGIN && held[inside.end..] == MARGIN;
+        let image_kept = !self.image.as_ref().is_some_and(|(image, copy)| image[..] != copy[..]);
+        Answer {
+            number,
+            values,
+            buffer: held[inside].to_vec(),
+            others_kept: margins_kept && image_kept && call.steady() == steady,
+        }
+    }
+
+    fn copy_image(&mut self, call: &Call) {
+        let Some(image) = call.image() else { return };
+        if !self.image.as_ref().is_some_and(|(held, _)| Arc::ptr_eq(held, image)) {
+            self.image = Some((image.clone(), image.to_vec()));
+        }
     }
 }
 

@@ -101,7 +101,7 @@ fn receive(answers: &mut impl Read, call: &Call) -> io::Result<Answer> {
     }
     let mut buffer = vec![0; call.changing().len()];
     answers.read_exact(&mut buffer)?;
-    Ok(Answer { number: word(0) as u8, values, buffer, margins_kept: word(1) == 1 })
+    Ok(Answer { number: word(0) as u8, values, buffer, others_kept: word(1) == 1 })
 }
 
 fn code_of(kind: Kind) -> u32 {
