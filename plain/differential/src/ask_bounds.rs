@@ -96,7 +96,7 @@ fn handler(chance: &mut Chance, codes: &Codes, start: usize) -> Image {
                 if chance.one_in(backward_one_in) { at.wrapping_sub(chance.below(12)) } else { at + 1 + chance.below(24) };
             let code = branch(chance, at % IMAGE_SIZE, target % IMAGE_SIZE);
             put(&mut image, &mut at, &code);
-        } else if !is_excluded(row) {
+        } else if !has_its_own_turn(row) {
             put(&mut image, &mut at, codes.calm_of(chance, row));
         }
     }
@@ -106,8 +106,8 @@ fn handler(chance: &mut Chance, codes: &Codes, start: usize) -> Image {
     image.into()
 }
 
-/// Rows that a handler has only where it is meant to; branches are made with their targets.
-fn is_excluded(row: Row) -> bool {
+/// Rows that are excluded or end a path, which come only where they are meant to, and branches, which need a target.
+fn has_its_own_turn(row: Row) -> bool {
     matches!(row, Row::Lcall | Row::Scall | Row::Ret | Row::Eicil | Row::Rti | Row::Sbr | Row::Lbr | Row::Slbr)
 }
 
