@@ -1,9 +1,11 @@
 /* The base calls of Bakethrush on numbers and byte buffers.
  *
- * Every call answers document 01's number: 0, a refusal or a stop. A refusal changes no buffer, and sets the numbers that come back to 0.
- * A slice is a pointer and a length; a slice of no bytes may have any pointer.
+ * Every call answers document 01's number: 0, a refusal or a stop. A refusal changes no buffer, and sets the numbers
+ * that come back to 0, but for the value that comes with 21, 22 and 23.
+ * A slice is a pointer and a length; a slice of no bytes may have any pointer. No two arguments of a call overlap.
+ * crates/calls/specs/Calls.antt says what each call answers, and crates/layout/specs/Layout.antt the bytes of a record.
  *
- * A record is 409 bytes, a number in each:
+ * A record is 409 bytes, each number in one byte unless said otherwise:
  *   0 ACC, 1 HR, 2 LR, 3 SP, 4 mask,
  *   5 to 15 the latches of P4, P8, P9, P16, P23, P24, P25, P27, P28, P29, P30,
  *   16 PC, 18 DP, 20 TA, 22 TB (two bytes each, low first),
@@ -26,6 +28,7 @@
 
 uint8_t em73862_fresh(uint8_t *record, size_t record_length);
 uint8_t em73862_reset(uint8_t *record, size_t record_length);
+/* 0 where the buffer holds a record within its ranges, else 2. */
 uint8_t em73862_is_valid(const uint8_t *record, size_t record_length);
 uint8_t em73862_step(const uint8_t *image, size_t image_length, uint8_t wake, uint8_t sound,
                      uint8_t *record, size_t record_length,
@@ -33,6 +36,7 @@ uint8_t em73862_step(const uint8_t *image, size_t image_length, uint8_t wake, ui
 uint8_t em73862_run(const uint8_t *image, size_t image_length, uint8_t wake, uint8_t sound,
                     uint8_t *record, size_t record_length,
                     const uint8_t *frames, size_t frames_length, uint32_t *steps, uint32_t *cycles);
+/* The first 40 bytes of dots; later bytes stay. */
 uint8_t em73862_display(const uint8_t *record, size_t record_length, uint8_t *dots, size_t dots_length);
 /* row 1 to 107; a and b are the operands, 0 where the row has none: a is x, k, the address, the bit, r or n; b is y or p. */
 uint8_t em73862_read(const uint8_t *image, size_t image_length, uint32_t address,
@@ -40,7 +44,8 @@ uint8_t em73862_read(const uint8_t *image, size_t image_length, uint32_t address
 /* length bytes of b0, b1, b2; the others are 0. */
 uint8_t em73862_write(uint8_t row, uint16_t a, uint8_t b,
                       uint8_t *length, uint8_t *b0, uint8_t *b1, uint8_t *b2);
-/* value: N where the answer is 0; the lowest address for 21 and 22; the bytes needed for 23; else 0. */
+/* path: the addresses of the longest path, two bytes each, low first; later bytes stay.
+ * value: N where the answer is 0; the lowest address for 21 and 22; the bytes needed for 23; else 0. */
 uint8_t em73862_bound(const uint8_t *image, size_t image_length, uint32_t address,
                       uint8_t *path, size_t path_length, uint32_t *value);
 #endif

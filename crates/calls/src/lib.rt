@@ -1,5 +1,5 @@
 // The base calls on numbers and byte buffers, for C and for whatever calls C: include/em73862.h declares them. Each takes its bytes apart, calls the public function and puts numbers back.
-// Any two answers to the same are equal, of each of the nine: proofs/OneAnswer.antt.
+// Two answers of a call to the same inputs are equal, for each of the nine: proofs/OneAnswer.antt. A step and a reset whose number is not 0 leave the record's bytes as they were: proofs/Kept.antt.
 use bound::Bounded;
 use bound::bound;
 use display::display;

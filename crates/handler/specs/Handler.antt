@@ -1,4 +1,4 @@
--- Demand 3: "Every emulated run from there (running, SF set, EI clear, frames enough) reaches the return or a named stop having spent at most N, for any pins."
+-- Demand 3 (docs/PROMISES.md): "Every emulated run from there (running, SF set, EI clear, frames enough) reaches the return or a named stop having spent at most N, for any pins."
 -- Assumes nothing.
 use mathlib.Core.Path.{_≡_}
 use mathlib.Core.Logic.{_⊎_}
@@ -23,6 +23,8 @@ use Rattle.run.specs.Run.{runOf}
 use Rattle.run.specs.Answers.{RunOf}
 use Rattle.run.specs.declared.Ran.{Ran}
 use Rattle.flow.specs.Bound.{HasBound}
+use Rattle.paper.specs.ComesBack.{answered}
+use Rattle.bound.specs.Answer.{BoundAnswer}
 
 -- a record at the start of a handler: "running, SF set, EI clear"
 pub record Enters (m : Machine) (start : ℕ) : Type 0 where
@@ -46,7 +48,7 @@ pub data Ends (rom : ℕ → ℕ) (o : Options) (m : Machine) (pins : Pins) : Ty
   returns : Returns rom o m pins → Ends rom o m pins
   stops : 31 ≤ stepOf rom o m pins .stop → stepOf rom o m pins .stop ≤ 34 → Ends rom o m pins
 
--- of these frames the first k are before and last: the steps of before complete, the step of last ends the handler, and the k steps are at most N and spend at most N cycles
+-- the frames are before, last and after: the steps of before complete, the step of last ends the handler; these steps are at most N and spend at most N cycles
 pub record EndsWithin (rom : ℕ → ℕ) (o : Options) (m : Machine) (frames : List Pins) (N : ℕ) : Type 0 where
   pub before : List Pins
   pub last : Pins
@@ -84,10 +86,10 @@ pub record RunEndsWithin (image : List ℕ) (o : Options) (m : Machine) (frames 
   pub shown : frameAt frames (3 * before) ≡ Seen last
   pub answers : (q r : Ran) → RunOf image o m (take (3 * before) frames) q → RunOf image o m (take (3 * suc before) frames) r → RunEnds (romOf image) o last before N q r
 
--- the same demand of the call run, on a buffer of frames that it does not refuse
-abbrev pub Demand3OfRun : Type 0
-Demand3OfRun =
-    (image : List ℕ) → length image ≡ 8192 → ((at : ℕ) → romOf image at < 256) → (start N : ℕ) → start < 8192 → (path : List ℕ) → HasBound (romOf image) start N path
+-- the same demand of the two calls: bound answers N, and run is given a buffer of frames that it does not refuse
+abbrev pub Demand3OfCalls : Type 0
+Demand3OfCalls =
+    (image : List ℕ) → ((at : ℕ) → romOf image at < 256) → (start N : ℕ) (path path′ : List ℕ) → BoundAnswer image start path path′ (answered (N ∷ []))
     → (o : Options) (m : Machine) → Enters m start
     → (frames : List ℕ) → areFrames frames ≡ true → length frames ≤ 196608 → N ≤ length (framesOf frames)
     → RunEndsWithin image o m frames N

@@ -15,6 +15,9 @@ use Rattle.bits.specs.Bits.{bitOf}
 use Rattle.ports.specs.declared.Ports.{Ports}
 use Rattle.ports.specs.declared.Mode.{Mode}
 use Rattle.machine.specs.declared.Machine.{Machine}
+use Rattle.machine.specs.declared.Registers.{Registers}
+use Rattle.machine.specs.declared.Timers.{Timers}
+use Rattle.layout.specs.Unpacked.{RegistersAt, TimersAt}
 use Rattle.layout.specs.Layout.{two, four, modeNumber, latches, nibblesOf, othersOf, headOf, Holds}
 
 -- n elements from i on
@@ -38,10 +41,10 @@ head-parts h l =
     ∙ ap (λ (r : List ℕ). listed (λ k. getD h k 0) 0 5 ++ r) (rest ∙ ap (λ (r : List ℕ). take 11 (drop 5 h) ++ r) (sym last ∙ sym (listed-part h 16 21 (omega arith)))))
 
 -- the scalars whose bytes those are
-pub head-laid : (h : List ℕ) (p : Ports) (pc dp ta tb base : ℕ) (cf zf sf ei : Bool) (mode : Mode) → length h ≡ 37 → latches p ≡ take 11 (drop 5 h) → two pc ≡ getD h 16 0 ∷ getD h 17 0 ∷ [] → two dp ≡ getD h 18 0 ∷ getD h 19 0 ∷ [] → two ta ≡ getD h 20 0 ∷ getD h 21 0 ∷ [] → two tb ≡ getD h 22 0 ∷ getD h 23 0 ∷ [] → bitOf cf ≡ getD h 24 0 → bitOf zf ≡ getD h 25 0 → bitOf sf ≡ getD h 26 0 → bitOf ei ≡ getD h 27 0 → four base ≡ getD h 29 0 ∷ getD h 30 0 ∷ getD h 31 0 ∷ getD h 32 0 ∷ [] → modeNumber mode ≡ getD h 36 0 → h ≡ headOf (record { regs = record { acc = getD h 0 0; hr = getD h 1 0; lr = getD h 2 0; cf = cf; zf = zf; sf = sf }; pc = pc; ptrs = record { sp = getD h 3 0; dp = dp }; ints = record { ei = ei; il = getD h 28 0; mask = getD h 4 0 }; timers = record { base = base; ta = ta; tb = tb }; ports = p; pins = record { p0 = getD h 33 0; p8 = getD h 34 0; p4 = getD h 35 0 }; mode = mode })
+pub head-laid : (h : List ℕ) (r : Registers) (t : Timers) (p : Ports) (pc dp : ℕ) (ei : Bool) (mode : Mode) → length h ≡ 37 → RegistersAt h r → TimersAt h t → latches p ≡ take 11 (drop 5 h) → two pc ≡ getD h 16 0 ∷ getD h 17 0 ∷ [] → two dp ≡ getD h 18 0 ∷ getD h 19 0 ∷ [] → bitOf ei ≡ getD h 27 0 → modeNumber mode ≡ getD h 36 0 → h ≡ headOf (record { regs = r; pc = pc; ptrs = record { sp = getD h 3 0; dp = dp }; ints = record { ei = ei; il = getD h 28 0; mask = getD h 4 0 }; timers = t; ports = p; pins = record { p0 = getD h 33 0; p8 = getD h 34 0; p4 = getD h 35 0 }; mode = mode })
 unfolding nibblesOf othersOf
-head-laid h p pc dp ta tb base cf zf sf ei mode l ep epc edp eta etb ecf ezf esf eei eb em =
-    rw (ep, epc, edp, eta, etb, ecf, ezf, esf, eei, eb, em) (head-parts h l)
+head-laid h r t p pc dp ei mode l er et ep epc edp eei em =
+    rw (er .acc, er .hr, er .lr, er .cf, er .zf, er .sf, et .ta, et .tb, et .base, ep, epc, edp, eei, em) (head-parts h l)
 
 -- a part copied into a buffer from a place on
 pub put-wrote : (out part y : List ℕ) (from : ℕ) → from + length part ≤ length out → y ≡ take (length part) part ++ drop (length part) (take (length out - from) (drop from out)) → Wrote out (putMid from (length out - from) out y) from (from + length part) part

@@ -21,7 +21,7 @@ ghost use Rattle.laws.specs.Decides.{Decides};
 ghost use Rattle.laws.specs.Writing.{Wrote};
 ghost use Rattle.bits.specs.Bits.{bitOf};
 ghost use Rattle.layout.specs.Layout.{two, four, modeNumber, latches, nibblesOf, othersOf, headOf, Holds};
-ghost use Rattle.layout.specs.Unpacked.{FlagsFit, Unpacks};
+ghost use Rattle.layout.specs.Unpacked.{FlagsFit, RegistersAt, TimersAt, Unpacks};
 
 // Whether a buffer holds a record, and that record; where it holds none, the fresh one.
 pub struct Unpacked {
@@ -185,18 +185,34 @@ fn ports_of(head: &[u8; 37]) -> Ports
     }
 }
 
-fn core_of(head: &[u8; 37]) -> Core
-    requires { ⌜ (length (now head) ≡ 37) × (FlagsFit (now head)) ⌝ }
-    ensures { λ r. ⌜ now (head .entry) ≡ headOf r ⌝ }
+fn registers_of(head: &[u8; 37]) -> Registers
+    requires { ⌜ FlagsFit (now head) ⌝ }
+    ensures { λ r. ⌜ RegistersAt (now (head .entry)) r ⌝ }
 {
-    let regs = Registers {
+    Registers {
         acc: head[0],
         hr: head[1],
         lr: head[2],
         cf: flag(head[24]),
         zf: flag(head[25]),
         sf: flag(head[26]),
-    };
+    }
+}
+
+fn timers_of(head: &[u8; 37]) -> Timers
+    ensures { λ r. ⌜ TimersAt (now (head .entry)) r ⌝ }
+{
+    Timers {
+        base: from_four(head[29], head[30], head[31], head[32]),
+        ta: from_two(head[20], head[21]),
+        tb: from_two(head[22], head[23]),
+    }
+}
+
+fn core_of(head: &[u8; 37]) -> Core
+    requires { ⌜ (length (now head) ≡ 37) × (FlagsFit (now head)) ⌝ }
+    ensures { λ r. ⌜ now (head .entry) ≡ headOf r ⌝ }
+{
     let ptrs = Pointers {
         sp: head[3],
         dp: from_two(head[18], head[19]),
@@ -206,22 +222,17 @@ fn core_of(head: &[u8; 37]) -> Core
         il: head[28],
         mask: head[4],
     };
-    let timers = Timers {
-        base: from_four(head[29], head[30], head[31], head[32]),
-        ta: from_two(head[20], head[21]),
-        tb: from_two(head[22], head[23]),
-    };
     let pins = Pins {
         p0: head[33],
         p8: head[34],
         p4: head[35],
     };
     Core {
-        regs: regs,
+        regs: registers_of(head),
         pc: from_two(head[16], head[17]),
         ptrs: ptrs,
         ints: ints,
-        timers: timers,
+        timers: timers_of(head),
         ports: ports_of(head),
         pins: pins,
         mode: mode_of(head[36]),

@@ -1,14 +1,16 @@
--- Demand 3 of the call run: on the frames up to the step that ends the handler it answers within N cycles, with RTI executed or a named stop.
+-- Demand 3 of the two calls: where bound answers N, run answers to the frames up to the step that ends the handler within N cycles, with RTI executed or a named stop.
 -- Assumes nothing.
-use mathlib.Core.Path.{_≡_, refl, ap, _∙_}
+use mathlib.Core.Path.{_≡_, refl, sym, ap, subst, _∙_}
 use mathlib.Core.Logic.{inl, inr}
-use mathlib.Core.Bool.{true}
+use mathlib.Core.Bool.{true, false}
 use mathlib.Core.List.{List, [], _∷_, _++_}
-use Prim.Native.Nat.{ℕ, suc, _+_, _*_, _≤_}
+use Prim.Native.Nat.{ℕ, suc, _+_, _*_, _≤_, _<_}
 use native.Mathlib.Omega.{arith}
-use lib.ListN.{length, take, length-take, length-append}
+use lib.Dec.{T, eqb}
+use lib.ListN.{length, getD, take, length-take, length-append}
 use lib.Seq.{take-suc, take-append-seam, getD-append-seam}
 use borrow.Author.Tests.{eq-eqb, ne-eqb}
+use Rattle.paper.specs.ComesBack.{Paper, answered}
 use Rattle.sheet.specs.Reading.{romOf}
 use Rattle.frame.specs.Frame.{areFrames, framesOf}
 use Rattle.frame.specs.declared.Pins.{Pins}
@@ -21,7 +23,9 @@ use Rattle.step.specs.declared.Options.{Options}
 use Rattle.run.specs.Run.{runOf}
 use Rattle.run.specs.Answers.{RunOf}
 use Rattle.run.specs.declared.Ran.{Ran}
-use Rattle.handler.specs.Handler.{Ends, EndsWithin, RunEnds, RunEndsWithin, Demand3OfRun}
+use Rattle.flow.specs.Bound.{HasBound}
+use Rattle.bound.specs.Answer.{FlowAnswer, gives-21, gives-22, gives-23, gives-N, BoundAnswer, gives-1, gives-20, by-flow}
+use Rattle.handler.specs.Handler.{Ends, EndsWithin, RunEnds, RunEndsWithin, Demand3OfCalls}
 use Rattle.run.proofs.Rest.{run-rest}
 use Rattle.frame.proofs.First.{frames-take, are-take}
 use Rattle.handler.proofs.Buffers.{all-in-range}
@@ -65,7 +69,31 @@ module _ (image : List ℕ) (o : Options) (m : Machine) (frames : List ℕ) (len
             (run-ends (romOf image) o m N (e .before) (e .last) (e .completes) (e .cycles) (e .ends));
       }
 
-pub demand-3-of-run : Demand3OfRun
-demand-3-of-run image len bytes start N start-lt path bound o m enters frames good few enough =
-    ends-by-call image o m frames len (enters .valid) good few N enough
-    (demand-3 (romOf image) bytes start N start-lt path bound o m enters (framesOf frames) (all-in-range frames good) enough)
+-- where the call bound answers N, the image and the start are good and N bounds the handler
+pub record Bounds (image : List ℕ) (start N : ℕ) : Type 0 where
+  pub size : length image ≡ 8192
+  pub inside : start < 8192
+  pub path : List ℕ
+  pub bound : HasBound (romOf image) start N path
+
+-- a refusal's number is not 0
+not-0 : {p q : Paper} → p ≡ q → T (eqb (q .number) 0) → eqb (p .number) 0 ≡ false → ⊥
+not-0 {p} {q} same t f = subst T (sym (ap (λ (r : Paper). eqb (r .number) 0) same) ∙ f) t
+
+bounds-by-flow : (image : List ℕ) (start N : ℕ) (path path′ : List ℕ) (p : Paper) → length image ≡ 8192 → start < 8192 → FlowAnswer (romOf image) start path path′ p → p ≡ answered (N ∷ []) → Bounds image start N
+bounds-by-flow image start N path path′ p len lt (gives-21 a e) same = absurd (not-0 same tt refl)
+bounds-by-flow image start N path path′ p len lt (gives-22 none a e) same = absurd (not-0 same tt refl)
+bounds-by-flow image start N path path′ p len lt (gives-23 b s e) same = absurd (not-0 same tt refl)
+bounds-by-flow image start N path path′ p len lt (gives-N {N = n} {l = l} b s e) same =
+    record { size = len; inside = lt; path = l; bound = subst (λ k. HasBound (romOf image) start k l) (ap (λ (q : Paper). getD (q .values) 0 0) same) b }
+
+bounds-by : (image : List ℕ) (start N : ℕ) (path path′ : List ℕ) (p : Paper) → BoundAnswer image start path path′ p → p ≡ answered (N ∷ []) → Bounds image start N
+bounds-by image start N path path′ p (gives-1 n e) same = absurd (not-0 same tt refl)
+bounds-by image start N path path′ p (gives-20 len over e) same = absurd (not-0 same tt refl)
+bounds-by image start N path path′ p (by-flow len le f) same = bounds-by-flow image start N path path′ p len (omega arith) f same
+
+pub demand-3-of-calls : Demand3OfCalls
+demand-3-of-calls image bytes start N path path′ answer o m enters frames good few enough =
+    let b = bounds-by image start N path path′ (answered (N ∷ [])) answer refl in
+    ends-by-call image o m frames (b .size) (enters .valid) good few N enough
+    (demand-3 (romOf image) bytes start N (b .inside) (b .path) (b .bound) o m enters (framesOf frames) (all-in-range frames good) enough)
