@@ -6,6 +6,7 @@ use fields::cursor::hexadecimal_at;
 use fields::cursor::next_word;
 use fields::cursor::word_end;
 use fields::say::say;
+use laws::both;
 use machine::Core;
 use machine::Machine;
 use machine::ram::at_x;
@@ -139,23 +140,37 @@ pub fn nibble(b: Bench, text: &[u8], from: usize) -> Bench
     )
 }
 
+// A word that names no field is told.
+fn is_field(text: &[u8], at: usize) -> bool
+    requires { ⌜ at < length (now text) ⌝ }
+{
+    if fields::named(text, at) < 28 {
+        return true;
+    }
+    say(b"  no field\n");
+    false
+}
+
 pub fn with(b: Bench, text: &[u8], from: usize) -> Bench
     requires { ⌜ from < length (now text) ⌝ }
 {
     let mut core = b.machine.core;
     let ram = b.machine.ram;
+    let mut same = b.same;
     let mut at = next_word(text, from);
     while at < text.len() {
+        same = both(is_field(text, at), same);
         core = fields::settings::with_word(core, text, at);
         at = next_word(text, at);
     }
-    with_machine(
-        b,
-        Machine {
+    Bench {
+        machine: Machine {
             core: core,
             ram: ram,
         },
-    )
+        number: b.number,
+        same: same,
+    }
 }
 
 // So many steps with one frame; a stop or a refusal is the last.

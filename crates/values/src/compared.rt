@@ -12,7 +12,6 @@ use fields::say::say_decimal;
 use fields::say::say_number;
 use laws::both;
 use machine::Core;
-ghost use mathlib.Core.Path.{_≡_};
 ghost use Prim.Native.Nat.{_<_, _≤_};
 ghost use lib.ListN.{length};
 
@@ -59,6 +58,9 @@ pub fn named_fields(b: Bench, text: &[u8], from: usize) -> Bench
     let core = b.machine.core;
     let mut same = true;
     let mut at = next_word(text, from);
+    if at == text.len() {
+        return nothing(b);
+    }
     say(b"  is");
     while at < text.len() {
         same = both(field(core, text, at), same);
@@ -80,9 +82,12 @@ pub fn cell(b: Bench, text: &[u8], from: usize) -> Bench
         return nothing(b);
     }
     let v = ram[place] as u32;
+    let written = next_word(text, at);
+    if written == text.len() {
+        return nothing(b);
+    }
     say(b"  is ");
     say_number(16, 1, v);
-    let written = next_word(text, at);
     judged(b, v == hexadecimal_at(text, written))
 }
 
@@ -142,9 +147,12 @@ pub fn dots(b: Bench, text: &[u8], from: usize) -> Bench
 pub fn number(b: Bench, text: &[u8], from: usize) -> Bench
     requires { ⌜ from < length (now text) ⌝ }
 {
+    let written = next_word(text, from);
+    if written == text.len() {
+        return nothing(b);
+    }
     say(b"  is ");
     say_decimal(b.number as u64);
-    let written = next_word(text, from);
     judged(b, b.number as u32 == decimal_at(text, written))
 }
 
@@ -188,7 +196,10 @@ fn joined(low: u8, high: u8) -> u32 {
     low as u32 + 256 * (high as u32)
 }
 
-// Whether the path's addresses are the words from a place on, 32 at most; as many as there are words are printed.
+// What the path buffer holds before the call.
+const UNTOUCHED: u8 = 0xEE;
+
+// Whether the path's addresses are the words from a place on, at most 31, and the buffer is untouched behind them; as many as there are words are printed.
 fn path_is(path: &[u8; 64], text: &[u8], from: usize) -> bool
     requires { ⌜ from ≤ length (now text) ⌝ }
 {
@@ -203,7 +214,10 @@ fn path_is(path: &[u8; 64], text: &[u8], from: usize) -> bool
         at = next_word(text, at);
         k = (k + 1) % 32;
     }
-    same
+    both(
+        same,
+        both(path[2 * k] == UNTOUCHED, path[2 * k + 1] == UNTOUCHED),
+    )
 }
 
 pub fn bound(image: &[u8; 8192], b: Bench, text: &[u8], from: usize) -> Bench
@@ -221,7 +235,7 @@ pub fn bound(image: &[u8; 8192], b: Bench, text: &[u8], from: usize) -> Bench
     if value_at_word == text.len() {
         return nothing(b);
     }
-    let mut path = [0u8; 64];
+    let mut path = [UNTOUCHED; 64];
     let found = numbered(bound::bound(image, hexadecimal_at(text, at), &mut path));
     say(b"  is ");
     say_decimal(found.number as u64);

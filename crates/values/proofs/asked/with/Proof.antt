@@ -7,16 +7,22 @@ use Rattle.values.proofs.asked.with.Statement.{statement}
 use Rattle.values.proofs.asked.with.Tie as tie
 
 abbrev Inv-loop : tie.InvT-loop
-Inv-loop b text from core₀ ram at₀ core at = at ≤ length text
+Inv-loop b text from core₀ ram same₀ at₀ core same at = at ≤ length text
 
 abbrev μ-loop : tie.MeasureT-loop
-μ-loop b text from core₀ ram at₀ core at = length text - at
+μ-loop b text from core₀ ram same₀ at₀ core same at = length text - at
 
 next-word-requires : tie.Need-next-word-requires Inv-loop μ-loop
 next-word-requires c κs = search needs
 
 loop-holds : tie.Need-loop-holds Inv-loop μ-loop
 loop-holds c = search needs
+
+is-field-requires : tie.Need-is-field-requires Inv-loop μ-loop
+is-field-requires c κs = search needs
+
+both-requires : tie.Need-both-requires Inv-loop μ-loop
+both-requires c κs = search needs
 
 with-word-requires : tie.Need-with-word-requires Inv-loop μ-loop
 with-word-requires c κs = search needs
@@ -30,9 +36,6 @@ loop-less c = search needs
 loop-again : tie.Need-loop-again Inv-loop μ-loop
 loop-again c = search needs
 
-with-machine-requires : tie.Need-with-machine-requires Inv-loop μ-loop
-with-machine-requires c κs = search needs
-
 returns : tie.Need-returns Inv-loop μ-loop
 returns c = search needs
 
@@ -44,9 +47,10 @@ with-spec =
     μ-loop
     next-word-requires
     loop-holds
+    is-field-requires
+    both-requires
     with-word-requires
     next-word-requires-2
     loop-less
     loop-again
-    with-machine-requires
     returns)

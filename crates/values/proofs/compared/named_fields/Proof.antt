@@ -15,6 +15,12 @@ abbrev μ-loop : tie.MeasureT-loop
 next-word-requires : tie.Need-next-word-requires Inv-loop μ-loop
 next-word-requires c κs = search needs
 
+nothing-requires : tie.Need-nothing-requires Inv-loop μ-loop
+nothing-requires c κs = search needs
+
+returns : tie.Need-returns Inv-loop μ-loop
+returns c = search needs
+
 slice-aggregate-say : tie.Need-slice-aggregate-say Inv-loop μ-loop
 slice-aggregate-say c = search needs
 
@@ -42,8 +48,8 @@ loop-again c = search needs
 judged-requires : tie.Need-judged-requires Inv-loop μ-loop
 judged-requires c κs = search needs
 
-returns : tie.Need-returns Inv-loop μ-loop
-returns c = search needs
+returns-2 : tie.Need-returns-2 Inv-loop μ-loop
+returns-2 c = search needs
 
 pub named-fields-spec : {M : Type 1} → statement M
 named-fields-spec =
@@ -52,6 +58,8 @@ named-fields-spec =
     Inv-loop
     μ-loop
     next-word-requires
+    nothing-requires
+    returns
     slice-aggregate-say
     say-requires
     loop-holds
@@ -61,4 +69,4 @@ named-fields-spec =
     loop-less
     loop-again
     judged-requires
-    returns)
+    returns-2)

@@ -60,6 +60,27 @@ loop-less c = search needs
 loop-again : tie.Need-loop-again Inv-loop μ-loop
 loop-again c = search needs
 
+mul-both : tie.Need-mul-both Inv-loop μ-loop
+mul-both c = search needs
+
+element-copy-out-both : tie.Need-element-copy-out-both Inv-loop μ-loop
+element-copy-out-both c = search needs
+
+mul-both-2 : tie.Need-mul-both-2 Inv-loop μ-loop
+mul-both-2 c = search needs
+
+add-both : tie.Need-add-both Inv-loop μ-loop
+add-both c = search needs
+
+element-copy-out-both-2 : tie.Need-element-copy-out-both-2 Inv-loop μ-loop
+element-copy-out-both-2 c = search needs
+
+both-requires-2 : tie.Need-both-requires-2 Inv-loop μ-loop
+both-requires-2 c κs = search needs
+
+both-requires-3 : tie.Need-both-requires-3 Inv-loop μ-loop
+both-requires-3 c κs = search needs
+
 returns : tie.Need-returns Inv-loop μ-loop
 returns c = search needs
 
@@ -85,4 +106,11 @@ path-is-spec =
     add-k
     loop-less
     loop-again
+    mul-both
+    element-copy-out-both
+    mul-both-2
+    add-both
+    element-copy-out-both-2
+    both-requires-2
+    both-requires-3
     returns)
