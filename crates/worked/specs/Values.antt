@@ -10,9 +10,7 @@ use lib.ListN.{set}
 use Rattle.laws.specs.Choice.{pick}
 use Rattle.bits.specs.Bits.{bitOf}
 use Rattle.sheet.specs.Operation.Op.{Plus, Minus}
-use Rattle.sheet.specs.Operation.Entry.{short}
 use Rattle.sheet.specs.Reading.{insn}
-use Rattle.sheet.specs.Flow.{entryOf}
 use Rattle.alu.specs.Making.{made}
 use Rattle.alu.specs.declared.Made.{Made}
 use Rattle.start.specs.Start.{freshMachine}
@@ -96,14 +94,14 @@ workedValues =
     claim "SBCAM, RAM 5, ACC 3, CF 0: ACC 1" (acc sbcam) 1 ∷
     claim "CF 1" (cf sbcam) 1 ∷
     claim "SF 1" (sf sbcam) 1 ∷
-    claim "SCALL 0 goes to 0086h" (entryOf short 0) 0x0086 ∷
-    claim "1 to 000Eh" (entryOf short 1) 0x000E ∷
-    claim "15 to 007Eh" (entryOf short 15) 0x007E ∷
+    claim "SCALL 0 goes to 0086h" (run 72 0 (withSp 1 freshMachine) .machine .core .pc) 0x0086 ∷
+    claim "1 to 000Eh" (run 72 1 (withSp 1 freshMachine) .machine .core .pc) 0x000E ∷
+    claim "15 to 007Eh" (run 72 15 (withSp 1 freshMachine) .machine .core .pc) 0x007E ∷
     claim "SP 1 takes a call" (run 71 0x123 (withSp 1 freshMachine) .stop) 0 ∷
     claim "SP 0 .. stop with 32" (run 71 0x123 (withSp 0 freshMachine) .stop) 32 ∷
     claim "and 14" (run 71 0x123 (withSp 14 freshMachine) .stop) 32 ∷
     claim "RET at 12 works" (run 73 0 (withSp 12 freshMachine) .stop) 0 ∷
     claim "at 13 stops" (run 73 0 (withSp 13 freshMachine) .stop) 32 ∷
-    claim "DP 777h reads ROM 1777h, by LDAX" (acc (run 3 0 (withDp 0x777 freshMachine))) 6 ∷
-    claim "and by LDAXI" (acc (run 4 0 (withDp 0x777 freshMachine))) 5 ∷
+    claim "DP 777h reads ROM 1777h" (acc (run 3 0 (withDp 0x777 freshMachine))) 6 ∷
+    claim "DP 777h reads ROM 1777h" (acc (run 4 0 (withDp 0x777 freshMachine))) 5 ∷
     []
