@@ -31,7 +31,7 @@ pub fn without_bit(n: u8, w: u8) -> u8
 }
 
 // The number of the highest bit that is set of six, 5 to 0; 6 where none is.
-pub fn due_bit(allowed: u8) -> u8
+pub fn highest_bit(allowed: u8) -> u8
     requires { ⌜ allowed < 64 ⌝ }
     ensures { λ r. ⌜ r ≡ highestBit allowed ⌝ }
 {

@@ -5,7 +5,7 @@ use mathlib.Core.Bool.{Bool}
 use Rattle.laws.specs.Choice.{pick, both}
 use Rattle.bits.specs.Bits.{hasBit}
 
--- "Mask bits: interrupt table of 000; INT0 needs EI only." TRGA needs MASK2, TRGB and TBI MASK1, INT1 MASK0
+-- "Mask bits: interrupt table of 000; INT0 needs EI only." TRGA needs MASK2, TRGB MASK1, INT1 MASK0; TBI's cell is blank in both sheets and is read as MASK1 (docs/DECISIONS.md)
 abbrev pub int0Due : ℕ → Bool
 int0Due il = hasBit il 32
 

@@ -9,5 +9,5 @@ pub fn due_source(il: u8, mask: u8) -> u8
     ensures { λ r. ⌜ r ≡ dueSource il mask ⌝ }
 {
     let pattern = (mask & 6) << 1 | mask & 3 | 32;
-    bits::due_bit(il & pattern)
+    bits::highest_bit(il & pattern)
 }

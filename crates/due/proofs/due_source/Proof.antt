@@ -7,11 +7,11 @@ use Rattle.due.proofs.Sources.{by-pattern}
 use Rattle.due.proofs.due_source.Statement.{statement}
 use Rattle.due.proofs.due_source.Tie as tie
 
-due-bit-requires : tie.Need-due-bit-requires
-due-bit-requires c κs = lt-of-le-of-lt (and-le-l _ _) (c .pre .0)
+highest-bit-requires : tie.Need-highest-bit-requires
+highest-bit-requires c κs = lt-of-le-of-lt (and-le-l _ _) (c .pre .0)
 
 returns : tie.Need-returns
-returns c = c .due-bit .ensures ∙ by-pattern (c .before .args .il) (c .before .args .mask) (c .before .pre .0) (c .before .pre .1)
+returns c = c .highest-bit .ensures ∙ by-pattern (c .before .args .il) (c .before .args .mask) (c .before .pre .0) (c .before .pre .1)
 
 pub due-source-spec : {M : Type 1} → statement M
-due-source-spec = tie.close (tie.spec due-bit-requires returns)
+due-source-spec = tie.close (tie.spec highest-bit-requires returns)

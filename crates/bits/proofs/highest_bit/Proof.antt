@@ -1,12 +1,12 @@
--- `bits::due_bit` meets its contract: 31 less the leading zeros is the number of the highest bit.
+-- `bits::highest_bit` meets its contract: 31 less the leading zeros is the number of the highest bit.
 -- Assumes nothing.
 use native.Mathlib.Omega.{arith}
 use lib.Count.{leading-le}
 use borrow.Author.Needs.{needs}
 use borrow.Author.Tests.{ne-eqb}
 use Rattle.bits.proofs.Laws.{by-zeros}
-use Rattle.bits.proofs.due_bit.Statement.{statement}
-use Rattle.bits.proofs.due_bit.Tie as tie
+use Rattle.bits.proofs.highest_bit.Statement.{statement}
+use Rattle.bits.proofs.highest_bit.Tie as tie
 
 returns : tie.Need-returns
 returns c = rw (by-zeros _ (c .before .pre), c .if1 .taken)
@@ -20,5 +20,5 @@ cast-result c = search needs
 returns-2 : tie.Need-returns-2
 returns-2 c = rw (by-zeros _ (c .before .pre), ne-eqb _ _ (c .if1 .left))
 
-pub due-bit-spec : {M : Type 1} → statement M
-due-bit-spec = tie.close (tie.spec returns sub-result cast-result returns-2)
+pub highest-bit-spec : {M : Type 1} → statement M
+highest-bit-spec = tie.close (tie.spec returns sub-result cast-result returns-2)
