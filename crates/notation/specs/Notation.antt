@@ -1,4 +1,4 @@
--- A row in the notation of sheet 000: its mnemonic, with each operand in the place of its letter.
+-- A row in the notation of sheet 000: its mnemonic, with each operand in the place of its letter. Sentences in quotation marks are of docs/PROGRAMS.md.
 -- Assumes nothing.
 use Prim.Native.Nat.{ℕ}
 use Prim.Native.Char.{Char, code}

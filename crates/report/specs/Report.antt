@@ -1,8 +1,9 @@
--- What the bounder says of an answer, and a line of its path, as characters.
+-- What the bounder says of an answer, and a line of its path, as characters. Sentences in quotation marks are of docs/PROGRAMS.md.
 -- Assumes nothing.
 use Prim.Native.Nat.{ℕ, _-_}
 use mathlib.Core.List.{List, [], _∷_, _++_}
 use lib.ListN.{length}
+use Rattle.paper.specs.ComesBack.{image-is-not-8192-bytes, address-over-8191, excluded-instruction-reachable, repetition-reachable, path-buffer-too-short}
 use Rattle.sheet.specs.Reading.{readAt, cyclesOf}
 use Rattle.sheet.specs.declared.Read.{Read}
 use Rattle.digits.specs.Digits.{characters, hex, inBase, decimal, blanks}
@@ -18,11 +19,11 @@ refusedAt n address = refusedText n ++ (characters " " ++ hex 4 address)
 
 -- an address in four hexadecimal digits, bytes and cycles in decimal
 abbrev pub summaryOf : Bounded → List ℕ
-summaryOf Bounded.ImageSize = refusedText 1
-summaryOf Bounded.AddressRange = refusedText 20
-summaryOf (Bounded.Excluded address) = refusedAt 21 address
-summaryOf (Bounded.Repeats address) = refusedAt 22 address
-summaryOf (Bounded.Short bytes) = refusedText 23 ++ (characters " " ++ decimal bytes)
+summaryOf Bounded.ImageSize = refusedText image-is-not-8192-bytes
+summaryOf Bounded.AddressRange = refusedText address-over-8191
+summaryOf (Bounded.Excluded address) = refusedAt excluded-instruction-reachable address
+summaryOf (Bounded.Repeats address) = refusedAt repetition-reachable address
+summaryOf (Bounded.Short bytes) = refusedText path-buffer-too-short ++ (characters " " ++ decimal bytes)
 summaryOf (Bounded.Longest cycles) = characters "N " ++ decimal cycles
 
 -- as the lister's line, then a blank and the total of cycles so far, right-aligned in five characters

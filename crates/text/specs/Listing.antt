@@ -1,4 +1,4 @@
--- The lister's lines, and its sweep over an image.
+-- The lister's lines, and its sweep over an image. Sentences in quotation marks are of docs/PROGRAMS.md.
 -- Assumes nothing.
 use Prim.Native.Nat.{ℕ, zero, suc, _+_}
 use mathlib.Core.List.{List, [], _∷_, _++_}
@@ -51,7 +51,7 @@ abbrev pub past : ℕ → Read → ℕ
 past at (Row i) = at + bytesOf (i .row)
 past at Unassigned = at + 1
 
--- "one row a line, as a sweep from ADDRESS for COUNT lines (at most to the end of the image)"; "A row that begins before the end and wraps is shown whole, and is the last line."
+-- "one row a line, as a sweep from ADDRESS (default 0000) for COUNT lines (decimal, default and at most to the end of the image)"; "A row that begins before the end and wraps is shown whole, and is the last line."
 unfoldable pub listingOf : (ℕ → ℕ) → ℕ → ℕ → List ℕ
 listingOf rom at zero = []
 listingOf rom at (suc n) = pick (ltb at 8192) (lineOf rom at ++ listingOf rom (past at (readAt rom at)) n) []

@@ -1,4 +1,4 @@
--- The words that a program is given: an address, and a number of lines.
+-- The words that a program is given: an address, and a number of lines. Sentences in quotation marks are of docs/PROGRAMS.md.
 -- Assumes nothing.
 use Prim.Native.Nat.{ℕ, _+_, _-_, _*_, min}
 use Prim.Native.Char.{code}
