@@ -8,7 +8,7 @@ use Rattle.sheet.specs.Table.{Line, set}
 use Rattle.machine.specs.declared.Machine.{Machine}
 use Rattle.execute.specs.Rows.{Done, past}
 
--- the row puts a value to the port that its operand p names
+-- whether a place is a port
 abbrev pub isPort : Place → Bool
 isPort (Place.register r) = false
 isPort (Place.given g) = false
@@ -28,7 +28,7 @@ afterWrites After.alone = false
 afterWrites (After.flags-of t) = stepWrites t
 afterWrites (After.flags-before t) = stepWrites t
 
--- "any row other than RTI that sets EI"
+-- the row sets EI: EICIL and RTI
 abbrev pub setsEi : Operation → Bool
 setsEi (Operation.work s a) = false
 setsEi (Operation.branch t) = false
@@ -59,7 +59,7 @@ isOrdinary Operation.return-FLAG = false
 isOrdinary (Operation.IL⟵IL-and-r e) = true
 isOrdinary Operation.no-operation = true
 
--- such a row moves PC by its length, spends its cycles, sets SF where S is 1, sets EI only where its operation does, and leaves the mode unless it writes a port
+-- such a row moves PC by its length, spends its cycles, sets SF where S is 1, sets EI only where its operation does, and keeps the mode unless it writes a port
 pub record Ordinary (m : Machine) (l : Line) (o : Operation) (x : Done) : Type 0 where
   pub pc : x .machine .core .pc ≡ past m l
   pub cycles : x .cycles ≡ l .cycles

@@ -65,7 +65,7 @@ worked m w s (After.flags-before t) = inTurn (stepOf m w s) (stepOf (stepOf m w 
 unfoldable pub workOf : Machine → Around → Line → Step → After → Done
 workOf m w l s a = ended m l (worked m w s a)
 
--- "If SF=1 then PC←a else null"; "A branch sets SF, taken or not"
+-- sheet 000: "If SF=1 then PC←a else null"; "A branch sets SF, taken or not"
 unfoldable pub branchOf : Machine → Around → Line → Target → Done
 branchOf m w l t =
     spent (l .cycles)
@@ -87,7 +87,7 @@ enabled Enable.EI⟵EI ei = ei
 enabled Enable.EI⟵0 ei = false
 enabled Enable.EI⟵1 ei = true
 
--- CIL, DICIL, EICIL: "IL←IL & r"
+-- CIL, DICIL, EICIL, sheet 000: "IL←IL & r"
 unfoldable pub latchesOf : Machine → Around → Line → Enable → Done
 latchesOf m w l e =
     spent (l .cycles)

@@ -32,7 +32,7 @@ putStep m w d o x y = record {
   machine = putOf (touched m w x) w d (made-of m w o x y .value) .machine;
 }
 
--- the flags speak of "the one ACC receives", which is the first place's
+-- the flags speak of "the one ACC receives": in the rows that mark Z, ACC is the first place
 unfoldable pub exchangeStep : Machine → Around → Place → Place → Did
 exchangeStep m w d x = record {
   stop = firstOf (getOf m w d .stop) (getOf m w x .stop);

@@ -19,7 +19,7 @@ pub struct Node {
     pub cost: u32,
 }
 
-// By a row's number, a letter a row and a line for each section of the sheet: how a path goes on after it, as specs/Ways.antt numbers the ways, of which `a` is way 0. The first letter is row 0's, which is none.
+// By a row's number, a letter a row and a line for each section of the sheet: how a path goes on after it, as specs/Ways.antt numbers the ways, of which `a` is way 0; `h` is a row that writes a port: whether that is P16 decides. The first letter is row 0's, which is none.
 const WAYS: [u8; 108] = *b"\
     dccccccccccddcdcc\
     dd\

@@ -11,7 +11,7 @@ pub record Paper : Type 0 where
 abbrev pub answered : List ℕ → Paper
 answered vs = record { number = 0; values = vs }
 
--- "Returned: nothing else"
+-- column "Returned": "nothing else"
 abbrev pub refused : ℕ → Paper
 refused n = record { number = n; values = [] }
 

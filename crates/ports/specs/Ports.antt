@@ -76,7 +76,7 @@ noRead p = record { stop = absent-port; value = 0; ports = p }
 unfoldable pub readPort : Bool → Pins → Ports → ℕ → PortRead
 readPort sound pins p n = pick (isReadable n) (readAs (pinsOf sound pins p n) (touched p n)) (noRead p)
 
--- "34: 10xx written to P25 or P27"
+-- 34, "10xx written to P25 or P27"
 abbrev pub reservedStop : ℕ → ℕ
 reservedStop v = pick (eqb (v / 4) 2) reserved-10xx 0
 

@@ -1,4 +1,4 @@
--- The field of an operand: how many values its bits in the object code can have. What is read is below it.
+-- The field of an operand: what its values stay below, by its bits in the object code; of xxxx xx00 that is 256, and only multiples of 4 are read.
 -- Assumes nothing.
 use Prim.Native.Nat.{ℕ, suc, _*_, _<_, max}
 use Prim.Native.String.{String}

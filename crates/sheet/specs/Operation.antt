@@ -12,7 +12,7 @@ pub data Given : Type 0 where
 pub data Cell : Type 0 where
   by-hl by-x beside-x by-y : Cell
 
--- a port, named by p or by LR 3..2: at its pins where it is read, and where it is written; or at its latch
+-- a port, named by p or by LR 3..2: its pins where it is read, the port where it is written; or what its latch holds
 pub data Port : Type 0 where
   pins-p pins-l latch-p latch-l : Port
 
