@@ -3,7 +3,7 @@
  * Every call answers document 01's number: 0, a refusal or a stop. A refusal changes no buffer, and sets the numbers
  * that come back to 0, but for the value that comes with 21, 22 and 23.
  * A slice is a pointer and a length; a slice of no bytes may have any pointer. No two arguments of a call overlap.
- * crates/calls/specs/Calls.antt says what each call answers, and crates/layout/specs/Layout.antt the bytes of a record.
+ * crates/calls/specs/Calls.antt says what each call answers, and crates/machine_bytes/specs/Layout.antt the bytes of a record.
  *
  * A record is 409 bytes, each number in one byte unless said otherwise:
  *   0 ACC, 1 HR, 2 LR, 3 SP, 4 mask,

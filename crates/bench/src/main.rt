@@ -1,15 +1,15 @@
 // bench IMAGE RUNS < FRAMES: so many runs of the same frames, each from the record that the one before left, for time(1). It prints the last run's number and the last PC.
-use digits::number;
+use text_digits::number;
 use libc::STDERR_FILENO;
 use libc::STDIN_FILENO;
 use libc::STDOUT_FILENO;
 use machine::Machine;
 use run::Ran;
 use run::run;
-use start::fresh;
+use machine_start::fresh;
 use step::Options;
-use words::Number;
-use words::read_number;
+use text_words::Number;
+use text_words::read_number;
 
 fn again(image: &[u8], frames: &[u8], m: Machine) -> Ran {
     let options = Options {

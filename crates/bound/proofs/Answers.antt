@@ -7,11 +7,11 @@ use native.Mathlib.Omega.{arith}
 use Rattle.graph.specs.Laid.{graphOf, costOf}
 use Rattle.graph.proofs.Agree.{Agree}
 use Rattle.graph.proofs.Unique.{least-address}
-use Rattle.route.specs.Route.{encode}
-use Rattle.longest.specs.Means.{Means}
-use Rattle.longest.specs.declared.Found.{Found}
-use Rattle.flow.specs.Flow.{flowGraph, flowCost, startOf}
-use Rattle.explore.specs.Explored.{Explored}
+use Rattle.graph_route.specs.Route.{encode}
+use Rattle.graph_longest.specs.Means.{Means}
+use Rattle.graph_longest.specs.declared.Found.{Found}
+use Rattle.bound_flow.specs.Flow.{flowGraph, flowCost, startOf}
+use Rattle.bound_explore.specs.Explored.{Explored}
 use Rattle.bound.specs.Answer.{answerOf, paperOf, addressBytes, FlowAnswer, gives-21, gives-22, gives-23, gives-N}
 
 -- what was laid is the flow graph, as far as it is reached

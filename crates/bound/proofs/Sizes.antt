@@ -4,15 +4,15 @@ use mathlib.Core.List.{List}
 use Prim.Native.Nat.{ℕ, _<_, _≤_}
 use native.Mathlib.Omega.{arith}
 use lib.ListN.{length, getD}
-use Rattle.paper.specs.ComesBack.{Paper}
+use Rattle.numbers.specs.ComesBack.{Paper}
 use Rattle.sheet.specs.Reading.{romOf}
 use Rattle.graph.specs.Graph.{Reach}
 use Rattle.graph.proofs.Reach.{reach-inside}
 use Rattle.graph.proofs.Length.{path-length, sum-at-most}
 use Rattle.graph.proofs.Unique.{longest-path}
-use Rattle.flow.specs.Flow.{addressOf, flowGraph, flowCost, startOf}
-use Rattle.flow.specs.Bound.{HasBound}
-use Rattle.flow.proofs.Inside.{node-good, flow-inside}
+use Rattle.bound_flow.specs.Flow.{addressOf, flowGraph, flowCost, startOf}
+use Rattle.bound_flow.specs.Bound.{HasBound}
+use Rattle.bound_flow.proofs.Inside.{node-good, flow-inside}
 use Rattle.bound.specs.Answer.{FlowAnswer, gives-21, gives-22, gives-23, gives-N, BoundAnswer, gives-1, gives-20, by-flow}
 
 module _ {rom : ℕ → ℕ} (bytes : (at : ℕ) → rom at < 256) {start : ℕ} (in-rom : start ≤ 8191) where

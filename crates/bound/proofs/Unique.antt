@@ -7,11 +7,11 @@ use native.Mathlib.Omega.{arith}
 use lib.Dec.{eqb}
 use lib.ListN.{length, drop, getD}
 use Rattle.laws.specs.Choice.{pick}
-use Rattle.paper.specs.ComesBack.{Paper, answered, refusedWith, excluded-instruction-reachable, repetition-reachable, path-buffer-too-short}
+use Rattle.numbers.specs.ComesBack.{Paper, answered, refusedWith, excluded-instruction-reachable, repetition-reachable, path-buffer-too-short}
 use Rattle.graph.specs.Graph.{sum}
 use Rattle.graph.proofs.Unique.{least-unique, longest-unique}
-use Rattle.flow.specs.Flow.{flowCost}
-use Rattle.flow.specs.Bound.{HasBound}
+use Rattle.bound_flow.specs.Flow.{flowCost}
+use Rattle.bound_flow.specs.Bound.{HasBound}
 use Rattle.bound.specs.Answer.{paperOf, addressBytes, FlowAnswer, gives-21, gives-22, gives-23, gives-N, BoundAnswer, gives-1, gives-20, by-flow}
 use Rattle.bound.specs.declared.Bounded.{Bounded}
 

@@ -4,12 +4,12 @@ use mathlib.Core.Path.{_≡_}
 use mathlib.Core.List.{List, [], _∷_, _++_}
 use Prim.Native.Nat.{ℕ, _+_, _*_, _/_, _%_, _≤_, _<_}
 use lib.ListN.{length, drop}
-use Rattle.paper.specs.ComesBack.{Paper, answered, refused, refusedWith, image-is-not-8192-bytes, address-over-8191, excluded-instruction-reachable, repetition-reachable, path-buffer-too-short}
+use Rattle.numbers.specs.ComesBack.{Paper, answered, refused, refusedWith, image-is-not-8192-bytes, address-over-8191, excluded-instruction-reachable, repetition-reachable, path-buffer-too-short}
 use Rattle.sheet.specs.Reading.{romOf}
 use Rattle.graph.specs.Graph.{Least, Bad, Loops}
-use Rattle.flow.specs.Flow.{addressOf, flowGraph, startOf}
-use Rattle.flow.specs.Bound.{HasBound}
-use Rattle.longest.specs.declared.Found.{Found}
+use Rattle.bound_flow.specs.Flow.{addressOf, flowGraph, startOf}
+use Rattle.bound_flow.specs.Bound.{HasBound}
+use Rattle.graph_longest.specs.declared.Found.{Found}
 use Rattle.bound.specs.declared.Bounded.{Bounded}
 
 -- document 01's number and value for each case of the answer

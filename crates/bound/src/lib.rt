@@ -1,15 +1,15 @@
 // The handler bound: the most cycles that any path of the flow rules takes from an address to RTI, and the path.
-use explore::explore;
-use longest::Found;
-use longest::longest;
+use bound_explore::explore;
+use graph_longest::Found;
+use graph_longest::longest;
 ghost use mathlib.Core.Path.{_≡_};
 ghost use Prim.Native.Nat.{_<_};
 ghost use lib.ListN.{length};
 ghost use Rattle.sheet.specs.Reading.{romOf};
-ghost use Rattle.search.specs.Marks.{Blank};
-ghost use Rattle.flow.specs.Flow.{flowGraph, flowCost};
-ghost use Rattle.explore.specs.Explored.{Empty};
-ghost use Rattle.longest.specs.Means.{Means};
+ghost use Rattle.graph_search.specs.Marks.{Blank};
+ghost use Rattle.bound_flow.specs.Flow.{flowGraph, flowCost};
+ghost use Rattle.bound_explore.specs.Explored.{Empty};
+ghost use Rattle.graph_longest.specs.Means.{Means};
 ghost use Rattle.bound.specs.Answer.{answerOf, paperOf, BoundAnswer};
 
 // What the call answers; specs/Answer.antt gives document 01's number and value for each.

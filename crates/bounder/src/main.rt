@@ -2,15 +2,15 @@
 // The words are judged from the left: the image, the address, and that there are no more.
 use bound::Bounded;
 use bound::bound;
-use digits::number;
-use digits::put;
-use digits::put_text;
+use text_digits::number;
+use text_digits::put;
+use text_digits::put_text;
 use libc::STDERR_FILENO;
 use libc::STDOUT_FILENO;
-use report::cycles_at;
-use report::path_line;
-use report::summary;
-use words::Address;
+use text_bounder::cycles_at;
+use text_bounder::path_line;
+use text_bounder::summary;
+use text_words::Address;
 ghost use mathlib.Core.Path.{_≡_};
 ghost use Prim.Native.Nat.{_+_, _*_, _<_, _≤_};
 ghost use lib.ListN.{length, getD};
@@ -122,7 +122,7 @@ fn bound_image(image: &[u8])
     }
     let mut word = io::buffer();
     let n = os::arg(2, &mut word);
-    let Address::At(at) = words::read_address(&word[..n]) else {
+    let Address::At(at) = text_words::read_address(&word[..n]) else {
         io::write_all(STDOUT_FILENO, b"refused 20\n");
         return;
     };

@@ -4,14 +4,14 @@ use Prim.Native.Nat.{ℕ}
 use mathlib.Core.List.{List}
 use mathlib.Core.Path.{_≡_, refl, sym, ap, subst, _∙_}
 use lib.ListN.{length}
-use Rattle.paper.specs.ComesBack.{Paper}
+use Rattle.numbers.specs.ComesBack.{Paper}
 use Rattle.reader.specs.Answer.{readPaper}
 use Rattle.writer.specs.Writing.{paperOf, fromPaper}
 use Rattle.writer.specs.declared.Code.{Code}
 use Rattle.writer.specs.declared.Written.{Written}
 use Rattle.writer.specs.declared.Written.the-variants as written
 use Rattle.machine.specs.declared.Machine.{Machine}
-use Rattle.layout.specs.Layout.{Holds}
+use Rattle.machine_bytes.specs.Layout.{Holds}
 use Rattle.step.specs.Answers.{StepOf}
 use Rattle.step.specs.declared.Options.{Options}
 use Rattle.step.specs.declared.Stepped.{Stepped}

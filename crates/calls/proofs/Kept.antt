@@ -8,12 +8,12 @@ use lib.ListN.{length}
 use Rattle.frame.specs.Frame.{frameOf}
 use Rattle.frame.specs.declared.Frame.{Frame}
 use Rattle.machine.specs.Valid.{Valid}
-use Rattle.start.specs.Start.{ResetOf}
+use Rattle.machine_start.specs.Start.{ResetOf}
 use Rattle.machine.specs.declared.Machine.{Machine}
-use Rattle.start.specs.declared.AfterReset.{AfterReset}
-use Rattle.valid.proofs.Validity.{valid?}
+use Rattle.machine_start.specs.declared.AfterReset.{AfterReset}
+use Rattle.machine_valid.proofs.Validity.{valid?}
 use Rattle.sheet.specs.Reading.{romOf}
-use Rattle.layout.specs.Layout.{bytesOf}
+use Rattle.machine_bytes.specs.Layout.{bytesOf}
 use Rattle.step.specs.Answers.{StepOf, stepRefused, stepped}
 use Rattle.step.specs.declared.Options.{Options}
 use Rattle.step.specs.declared.Stepped.{Stepped}

@@ -4,17 +4,17 @@ use Prim.Native.Nat.{ℕ}
 use mathlib.Core.List.{List}
 use mathlib.Core.Path.{_≡_, sym, ap, subst, _∙_}
 use lib.ListN.{length}
-use Rattle.paper.specs.ComesBack.{Paper}
+use Rattle.numbers.specs.ComesBack.{Paper}
 use Rattle.sheet.specs.declared.Insn.{Insn}
 use Rattle.writer.specs.Writing.{paperOf as codePaper}
 use Rattle.writer.proofs.RoundTrip.{one-answer as one-written}
 use Rattle.machine.specs.Valid.{Valid}
 use Rattle.machine.specs.declared.Machine.{Machine}
-use Rattle.start.specs.declared.AfterReset.{AfterReset}
-use Rattle.start.proofs.Starting.{reset-determined}
-use Rattle.valid.proofs.Validity.{valid?}
-use Rattle.layout.specs.Layout.{bytesOf}
-use Rattle.layout.proofs.Tells.{one-record}
+use Rattle.machine_start.specs.declared.AfterReset.{AfterReset}
+use Rattle.machine_start.proofs.Starting.{reset-determined}
+use Rattle.machine_valid.proofs.Validity.{valid?}
+use Rattle.machine_bytes.specs.Layout.{bytesOf}
+use Rattle.machine_bytes.proofs.Tells.{one-record}
 use Rattle.step.specs.declared.Options.{Options}
 use Rattle.step.specs.declared.Stepped.{Stepped}
 use Rattle.step.proofs.Answering.{one-answer as one-stepped}

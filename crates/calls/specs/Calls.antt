@@ -7,17 +7,17 @@ use mathlib.Core.Path.{_≡_}
 use lib.Dec.{eqb}
 use lib.ListN.{length, getD}
 use Rattle.laws.specs.Choice.{pick}
-use Rattle.paper.specs.ComesBack.{Paper, image-is-not-8192-bytes, record-outside-the-ranges}
+use Rattle.numbers.specs.ComesBack.{Paper, image-is-not-8192-bytes, record-outside-the-ranges}
 use Rattle.sheet.specs.declared.Insn.{Insn}
 use Rattle.reader.specs.Answer.{readPaper}
 use Rattle.writer.specs.Writing.{Writes}
 use Rattle.writer.specs.Writing.{paperOf as codePaper}
 use Rattle.writer.specs.declared.Written.{Written}
 use Rattle.machine.specs.Valid.{Valid}
-use Rattle.start.specs.Start.{freshMachine, ResetOf}
+use Rattle.machine_start.specs.Start.{freshMachine, ResetOf}
 use Rattle.machine.specs.declared.Machine.{Machine}
-use Rattle.start.specs.declared.AfterReset.{AfterReset}
-use Rattle.layout.specs.Layout.{bytesOf, Holds, HoldsNone}
+use Rattle.machine_start.specs.declared.AfterReset.{AfterReset}
+use Rattle.machine_bytes.specs.Layout.{bytesOf, Holds, HoldsNone}
 use Rattle.step.specs.Answers.{StepOf}
 use Rattle.step.specs.declared.Options.{Options}
 use Rattle.step.specs.declared.Stepped.{Stepped}

@@ -2,7 +2,7 @@
 -- Assumes nothing.
 use mathlib.Core.Path.{_≡_}
 use lib.ListN.{length}
-use Rattle.paper.specs.ComesBack.{Paper}
+use Rattle.numbers.specs.ComesBack.{Paper}
 use Rattle.calls.specs.Calls.{valueAt}
 use Rattle.calls.specs.declared.ReadNumbers.{ReadNumbers}
 use Rattle.calls.specs.declared.WriteNumbers.{WriteNumbers}

@@ -1,7 +1,7 @@
 // Document 01, "Display": "Row c, dot s is bit s mod 4 of RAM 20h + 16c + s/4 (rounded down). Forty bytes, five a row, low nibble first; all zero unless P27 is 11xx. Later bytes stay."
 use display::display;
 use machine::Machine;
-use start::fresh;
+use machine_start::fresh;
 use telling::say::count;
 use telling::say::digits;
 use telling::say::flag;

@@ -2,7 +2,7 @@
 use machine::Machine;
 use run::Ran;
 use run::run;
-use start::fresh;
+use machine_start::fresh;
 use step::step;
 use telling::say::answer;
 use telling::say::count;

@@ -1,6 +1,6 @@
 // Document 01, "Worked values": "RAM 0F3h and 17Fh exist; 0F4h and 180h stop with 31 by HL." The bank is P9.3.
 use machine::Machine;
-use start::fresh;
+use machine_start::fresh;
 use telling::say::answer;
 use telling::say::count;
 use telling::say::digits;

@@ -12,8 +12,8 @@ use Rattle.laws.specs.Decides.{Decides}
 use Rattle.laws.proofs.Computed.{true→T}
 use Rattle.machine.specs.Valid.{Valid}
 use Rattle.machine.specs.declared.Machine.{Machine}
-use Rattle.valid.proofs.Validity.{valid?}
-use Rattle.paper.specs.ComesBack.{record-outside-the-ranges, display-buffer-under-40-bytes}
+use Rattle.machine_valid.proofs.Validity.{valid?}
+use Rattle.numbers.specs.ComesBack.{record-outside-the-ranges, display-buffer-under-40-bytes}
 use Rattle.display.specs.Display.{shownOf, Refused, DisplayOf}
 
 -- what is known where the test that decides a statement failed, and where it passed

@@ -8,7 +8,7 @@ use lib.Dec.{eqb}
 use lib.ListN.{length, getD, drop}
 use Rattle.laws.specs.Choice.{pick, both}
 use Rattle.bits.specs.Bits.{hasBit}
-use Rattle.paper.specs.ComesBack.{record-outside-the-ranges, display-buffer-under-40-bytes}
+use Rattle.numbers.specs.ComesBack.{record-outside-the-ranges, display-buffer-under-40-bytes}
 use Rattle.machine.specs.Valid.{Valid}
 use Rattle.machine.specs.declared.Machine.{Machine}
 

@@ -1,7 +1,7 @@
 // Document 01, "Display": the forty bytes that say which dots are on.
 use machine::Machine;
 use machine::ram::peek;
-use valid::is_valid;
+use machine_valid::is_valid;
 ghost use mathlib.Core.Path.{_≡_};
 ghost use mathlib.Core.List.{_++_};
 ghost use Prim.Native.Nat.{_+_, _*_, _/_, _%_, _<_, _≤_};

@@ -5,7 +5,7 @@ use fields::cursor::value_of;
 use fields::say::say;
 use fields::settings;
 use machine::Core;
-use words::Number;
+use text_words::Number;
 ghost use Prim.Native.Nat.{_<_, _≤_};
 ghost use lib.ListN.{length};
 
@@ -24,7 +24,7 @@ pub fn byte(text: &[u8], from: usize, i: usize) -> u8
     }
     let at = from + i;
     let end = at + 2;
-    let Number::Value(v) = words::read_number(&text[at..end], 16) else {
+    let Number::Value(v) = text_words::read_number(&text[at..end], 16) else {
         return 0;
     };
     (v % 256) as u8

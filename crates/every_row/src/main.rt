@@ -14,7 +14,7 @@ use libc::STDIN_FILENO;
 use machine::Machine;
 use sheet::Insn;
 use sheet::Read;
-use valid::is_valid;
+use machine_valid::is_valid;
 ghost use mathlib.Core.Path.{_≡_};
 ghost use Prim.Native.Nat.{_<_};
 ghost use lib.ListN.{length};
@@ -31,7 +31,7 @@ fn execute(image: &[u8], s: Setup, insn: Insn)
     };
     if is_valid(before) {
         let mut after = ram;
-        let turn = perform::perform(image, s.sound, core, &mut after, insn);
+        let turn = row_dispatch::perform(image, s.sound, core, &mut after, insn);
         changes::say_turn(core, turn, &ram, &after);
         return;
     }

@@ -7,6 +7,6 @@ pub fn say_row(at: u16, insn: Insn) {
     say_decimal(insn.row as u64);
     say(b" ");
     let mut out = [0u8; 24];
-    let n = notation::row(&mut out, 0, at, insn);
+    let n = text_notation::row(&mut out, 0, at, insn);
     say(&out[..n]);
 }

@@ -1,5 +1,5 @@
 // Where lines and words are in a text, and what a word says.
-use words::Number;
+use text_words::Number;
 ghost use Prim.Native.Nat.{_<_, _≤_};
 ghost use lib.ListN.{length};
 
@@ -71,7 +71,7 @@ pub fn hexadecimal_at(text: &[u8], from: usize) -> u32
     requires { ⌜ from ≤ length (now text) ⌝ }
 {
     let end = word_end(text, from);
-    let Number::Value(v) = words::read_number(&text[from..end], 16) else {
+    let Number::Value(v) = text_words::read_number(&text[from..end], 16) else {
         return 0;
     };
     v
@@ -81,7 +81,7 @@ pub fn decimal_at(text: &[u8], from: usize) -> u32
     requires { ⌜ from ≤ length (now text) ⌝ }
 {
     let end = word_end(text, from);
-    let Number::Value(v) = words::read_number(&text[from..end], 10) else {
+    let Number::Value(v) = text_words::read_number(&text[from..end], 10) else {
         return 0;
     };
     v

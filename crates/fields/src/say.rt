@@ -10,7 +10,7 @@ pub fn say_number(base: u32, places: u32, v: u32)
     requires { ⌜ (0 < base) × (base ≤ 16) × (places ≤ 8) ⌝ }
 {
     let mut out = [0u8; 8];
-    let n = digits::number(&mut out, 0, base, places, v);
+    let n = text_digits::number(&mut out, 0, base, places, v);
     say(&out[..n]);
 }
 

@@ -2,8 +2,8 @@
 // The words are judged from the left: the image, the address, the number of lines, and that there are no more.
 use libc::STDERR_FILENO;
 use libc::STDOUT_FILENO;
-use words::Address;
-use words::Number;
+use text_words::Address;
+use text_words::Number;
 ghost use mathlib.Core.Path.{_≡_};
 ghost use Prim.Native.Nat.{_≤_};
 ghost use lib.ListN.{length};
@@ -23,7 +23,7 @@ fn list(image: &[u8], at: u16, count: u32)
     requires { ⌜ (length (now image) ≡ 8192) × (count ≤ 8192) ⌝ }
 {
     let mut out = room();
-    let n = text::line::listing(&mut out, image, at, count);
+    let n = text_lister::line::listing(&mut out, image, at, count);
     io::write_all(STDOUT_FILENO, &out[..n]);
 }
 
@@ -36,7 +36,7 @@ fn list_from(image: &[u8], at: u16)
     }
     let mut word = io::buffer();
     let n = os::arg(3, &mut word);
-    let Number::Value(count) = words::read_number(&word[..n], 10) else {
+    let Number::Value(count) = text_words::read_number(&word[..n], 10) else {
         usage();
         return;
     };
@@ -56,7 +56,7 @@ fn list_image(image: &[u8])
     }
     let mut word = io::buffer();
     let n = os::arg(2, &mut word);
-    let Address::At(at) = words::read_address(&word[..n]) else {
+    let Address::At(at) = text_words::read_address(&word[..n]) else {
         io::write_all(STDOUT_FILENO, b"refused 20\n");
         return;
     };

@@ -10,15 +10,15 @@ use Rattle.clock.specs.Clock.{met, tick, passed, eventCount}
 use Rattle.alu.specs.Flags.{flagAfter}
 use Rattle.alu.specs.Making.{made}
 use Rattle.due.specs.Due.{dueSource}
-use Rattle.start.specs.Start.{freshMachine}
-use Rattle.execute.specs.Rows.{workOf, branchOf}
-use Rattle.execute.specs.Steps.{putStep}
-use Rattle.look.specs.Look.{edgesCounted, looked}
-use Rattle.act.specs.Act.{sourceOf, runOne, turnOf, coreAfter, actOf}
+use Rattle.machine_start.specs.Start.{freshMachine}
+use Rattle.row.specs.Rows.{workOf, branchOf}
+use Rattle.row.specs.Steps.{putStep}
+use Rattle.step_look.specs.Look.{edgesCounted, looked}
+use Rattle.step_act.specs.Act.{sourceOf, runOne, turnOf, coreAfter, actOf}
 use Rattle.step.specs.Step.{stepOf}
-use Rattle.digits.specs.Digits.{characters, digit, inBase, placesOf}
-use Rattle.lines.specs.Lines.{header, stepLine}
-use Rattle.script.specs.Script.{linesOf}
+use Rattle.text_digits.specs.Digits.{characters, digit, inBase, placesOf}
+use Rattle.text_runner.specs.Lines.{header, stepLine}
+use Rattle.text_script.specs.Script.{linesOf}
 use Rattle.listing.specs.Listing.{answerOf, toldOver}
 
 -- "D0 D3 6E 55 6E 5D 6E 5E 08, zeros after"

@@ -14,12 +14,12 @@ use Rattle.laws.proofs.Computed.{true→T}
 use Rattle.machine.specs.Valid.{Valid}
 use Rattle.machine.specs.declared.Core.{Core}
 use Rattle.machine.specs.declared.Machine.{Machine}
-use Rattle.near.specs.Quiet.{assembled}
-use Rattle.script.specs.Script.{linesOf, upTo}
+use Rattle.row_registers.specs.Quiet.{assembled}
+use Rattle.text_script.specs.Script.{linesOf, upTo}
 use Rattle.listing.specs.Listing.{answerOf, toldOver}
 use Rattle.listing.specs.Tells.{Tells, Feeds}
 use Rattle.listing.specs.declared.Told.{Told}
-use Rattle.script.proofs.Ends.{lines-first}
+use Rattle.text_script.proofs.Ends.{lines-first}
 
 -- so many characters are used, and no line was the last
 pub record Feeding (rom : ℕ → ℕ) (m : Machine) (part before after : List ℕ) (from at : ℕ) (now : Machine) (used : ℕ) : Type 0 where

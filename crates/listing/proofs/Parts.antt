@@ -12,15 +12,15 @@ use Rattle.sheet.specs.Reading.{romOf}
 use Rattle.frame.specs.Frame.{em73862Digits, frameOf}
 use Rattle.frame.specs.declared.Frame.the-variants.{NoFrame}
 use Rattle.frame.proofs.Characters.{no-frame, not-seen}
-use Rattle.start.specs.Start.{freshMachine}
+use Rattle.machine_start.specs.Start.{freshMachine}
 use Rattle.machine.specs.declared.Machine.{Machine}
-use Rattle.near.specs.Quiet.{assembled}
-use Rattle.lines.specs.Lines.{header, refusedLine}
-use Rattle.script.specs.Script.{linesOf, upTo}
+use Rattle.row_registers.specs.Quiet.{assembled}
+use Rattle.text_runner.specs.Lines.{header, refusedLine}
+use Rattle.text_script.specs.Script.{linesOf, upTo}
 use Rattle.listing.specs.Listing.{answerOf, toldOver, listingOf}
 use Rattle.listing.specs.Tells.{Feeds}
 use Rattle.listing.specs.declared.Fed.{Fed}
-use Rattle.script.proofs.Ends.{lines-last, begins}
+use Rattle.text_script.proofs.Ends.{lines-last, begins}
 
 -- "A bad or unreadable image .. prints "refused 01""
 pub image-refused : (image script : List ℕ) → (length image ≡ 8192 → ⊥) → listingOf image script ≡ refusedLine 1

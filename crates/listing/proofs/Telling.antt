@@ -13,13 +13,13 @@ use Rattle.frame.specs.declared.Frame.the-variants.{Seen, NoFrame}
 use Rattle.machine.specs.Valid.{Valid}
 use Rattle.machine.specs.declared.Core.{Core}
 use Rattle.machine.specs.declared.Machine.{Machine}
-use Rattle.execute.specs.Rows.{Done}
-use Rattle.near.specs.Quiet.{assembled}
+use Rattle.row.specs.Rows.{Done}
+use Rattle.row_registers.specs.Quiet.{assembled}
 use Rattle.step.specs.Step.{stepOf}
 use Rattle.step.specs.Gives.{Gives}
 use Rattle.step.specs.declared.Advanced.{Advanced}
 use Rattle.step.proofs.StepValid.{step-valid}
-use Rattle.lines.specs.Lines.{stepLine, refusedLine}
+use Rattle.text_runner.specs.Lines.{stepLine, refusedLine}
 use Rattle.listing.specs.Listing.{Answer, options, answerOf}
 use Rattle.listing.specs.Tells.{Tells}
 use Rattle.listing.specs.declared.Told.{Told}

@@ -6,18 +6,18 @@ use mathlib.Core.List.{List, [], _∷_, _++_}
 use lib.Dec.{eqb}
 use lib.ListN.{length}
 use Rattle.laws.specs.Choice.{pick}
-use Rattle.paper.specs.ComesBack.{image-is-not-8192-bytes, no-frame}
+use Rattle.numbers.specs.ComesBack.{image-is-not-8192-bytes, no-frame}
 use Rattle.sheet.specs.Reading.{romOf}
 use Rattle.frame.specs.Frame.{frameOf}
 use Rattle.frame.specs.declared.Frame.{Frame}
 use Rattle.frame.specs.declared.Frame.the-variants.{Seen, NoFrame}
-use Rattle.start.specs.Start.{freshMachine}
+use Rattle.machine_start.specs.Start.{freshMachine}
 use Rattle.machine.specs.declared.Machine.{Machine}
-use Rattle.execute.specs.Rows.{Done}
+use Rattle.row.specs.Rows.{Done}
 use Rattle.step.specs.Step.{stepOf}
 use Rattle.step.specs.declared.Options.{Options}
-use Rattle.lines.specs.Lines.{header, stepLine, refusedLine}
-use Rattle.script.specs.Script.{linesOf}
+use Rattle.text_runner.specs.Lines.{header, stepLine, refusedLine}
+use Rattle.text_script.specs.Script.{linesOf}
 
 -- "all wake pins enabled, SOUND off"
 abbrev pub options : Options

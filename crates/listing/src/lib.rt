@@ -2,7 +2,7 @@
 use frame::Frame;
 use frame::frame_of;
 use machine::Core;
-use script::line_end;
+use text_script::line_end;
 use step::Options;
 use step::advance;
 ghost use mathlib.Core.Path.{_≡_};
@@ -41,7 +41,7 @@ pub fn tell(
     ensures { λ r. ⌜ Tells (answerOf (romOf (now (image .entry))) (record { core = m; ram = now (ram .entry) }) (now (text .entry))) (now (out .entry)) (now (out .exit)) from (now (ram .exit)) r ⌝ }
 {
     let Frame::Seen(pins) = frame_of(text) else {
-        let end = lines::refused(out, from, 3);
+        let end = text_runner::refused(out, from, 3);
         return Told {
             core: m,
             ended: true,
@@ -54,7 +54,7 @@ pub fn tell(
     };
     let x = advance(image, options, m, ram, pins);
     let core = x.core;
-    let end = lines::line(out, from, core, x.cycles, x.stop);
+    let end = text_runner::line(out, from, core, x.cycles, x.stop);
     Told {
         core: core,
         ended: x.stop != 0,

@@ -6,7 +6,7 @@ use mathlib.Core.List.{[], _∷_}
 use lib.Dec.{eqb}
 use Rattle.laws.specs.Among.{among}
 use Rattle.laws.specs.Choice.{pick, both, either}
-use Rattle.paper.specs.ComesBack.{absent-port, reserved-10xx}
+use Rattle.numbers.specs.ComesBack.{absent-port, reserved-10xx}
 use Rattle.bits.specs.Bits.{hasBit}
 use Rattle.frame.specs.declared.Pins.{Pins}
 use Rattle.ports.specs.declared.Ports.{Ports}

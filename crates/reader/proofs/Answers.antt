@@ -6,7 +6,7 @@ use Prim.Native.Nat.{ℕ}
 use lib.Dec.{eqb}
 use lib.ListN.{getD}
 use Rattle.laws.specs.Choice.{pick}
-use Rattle.paper.specs.ComesBack.{Paper, answered}
+use Rattle.numbers.specs.ComesBack.{Paper, answered}
 use Rattle.sheet.specs.Reading.{insn, readAt}
 use Rattle.sheet.specs.Timing.{TimedFrom}
 use Rattle.sheet.specs.declared.Insn.{Insn}

@@ -5,7 +5,7 @@ use mathlib.Core.List.{List, [], _∷_}
 use lib.Dec.{eqb, ltb}
 use lib.ListN.{length}
 use Rattle.laws.specs.Choice.{pick}
-use Rattle.paper.specs.ComesBack.{Paper, answered, refused, image-is-not-8192-bytes, address-over-8191, unassigned-code}
+use Rattle.numbers.specs.ComesBack.{Paper, answered, refused, image-is-not-8192-bytes, address-over-8191, unassigned-code}
 use Rattle.sheet.specs.Reading.{readAt, romOf, bytesOf, cyclesOf}
 use Rattle.sheet.specs.declared.Insn.{Insn}
 use Rattle.sheet.specs.declared.Read.{Read}

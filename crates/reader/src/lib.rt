@@ -1,5 +1,5 @@
 // The reader: what a code is, by its bytes and by an image and an address.
-use families::found;
+use sheet_rows::found;
 use sheet::Insn;
 use sheet::Read;
 ghost use mathlib.Core.Path.{_≡_};

@@ -12,7 +12,7 @@ use Rattle.sheet.specs.Reading.{romOf}
 use Rattle.frame.specs.Frame.{areFrames, framesOf}
 use Rattle.machine.specs.Valid.{Valid}
 use Rattle.machine.specs.declared.Machine.{Machine}
-use Rattle.valid.proofs.Validity.{valid?}
+use Rattle.machine_valid.proofs.Validity.{valid?}
 use Rattle.step.specs.declared.Options.{Options}
 use Rattle.run.specs.Run.{runOf}
 use Rattle.run.specs.Answers.{runRefused, RunOf}

@@ -15,8 +15,8 @@ use Rattle.frame.proofs.Sequence.{are-next, frames-rest, frames-next, frames-en
 use Rattle.machine.specs.Valid.{Valid}
 use Rattle.machine.specs.declared.Core.{Core}
 use Rattle.machine.specs.declared.Machine.{Machine}
-use Rattle.execute.specs.Rows.{Done}
-use Rattle.near.specs.Quiet.{assembled}
+use Rattle.row.specs.Rows.{Done}
+use Rattle.row_registers.specs.Quiet.{assembled}
 use Rattle.step.specs.Gives.{Gives}
 use Rattle.step.specs.Step.{stepOf}
 use Rattle.step.specs.declared.Advanced.{Advanced}

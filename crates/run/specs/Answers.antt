@@ -5,7 +5,7 @@ use mathlib.Core.Bool.{true, false}
 use mathlib.Core.List.{List}
 use mathlib.Core.Path.{_≡_}
 use lib.ListN.{length}
-use Rattle.paper.specs.ComesBack.{image-is-not-8192-bytes, record-outside-the-ranges, no-frame, more-than-65536-frames}
+use Rattle.numbers.specs.ComesBack.{image-is-not-8192-bytes, record-outside-the-ranges, no-frame, more-than-65536-frames}
 use Rattle.sheet.specs.Reading.{romOf}
 use Rattle.frame.specs.Frame.{areFrames, framesOf}
 use Rattle.machine.specs.Valid.{Valid}

@@ -4,7 +4,7 @@ use frame::pins_at;
 use machine::Machine;
 use step::Options;
 use step::advance;
-use valid::is_valid;
+use machine_valid::is_valid;
 ghost use mathlib.Core.Path.{_≡_};
 ghost use mathlib.Core.Bool.{true};
 ghost use Prim.Native.Nat.{_≤_};

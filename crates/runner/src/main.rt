@@ -3,12 +3,12 @@
 use libc::STDERR_FILENO;
 use libc::STDIN_FILENO;
 use libc::STDOUT_FILENO;
-use lines::header;
-use lines::refused;
+use text_runner::header;
+use text_runner::refused;
 use listing::feed;
 use listing::tell;
 use machine::Core;
-use start::fresh;
+use machine_start::fresh;
 ghost use mathlib.Core.Path.{_≡_};
 ghost use mathlib.Core.Bool.{true, false};
 ghost use Prim.Native.Nat.{_+_, _≤_};

@@ -13,12 +13,12 @@ use Rattle.frame.specs.declared.Pins.{Pins}
 use Rattle.ports.specs.declared.Mode.the-variants.{Running}
 use Rattle.machine.specs.Valid.{Valid}
 use Rattle.machine.specs.declared.Machine.{Machine}
-use Rattle.execute.specs.Rows.{Done, spent, stops}
-use Rattle.look.specs.Look.{looked}
-use Rattle.look.specs.declared.Looked.{Looked}
-use Rattle.look.proofs.LookValid.{looked-valid, acts-running}
-use Rattle.act.specs.Act.{actOf}
-use Rattle.act.proofs.ActValid.{act-valid}
+use Rattle.row.specs.Rows.{Done, spent, stops}
+use Rattle.step_look.specs.Look.{looked}
+use Rattle.step_look.specs.declared.Looked.{Looked}
+use Rattle.step_look.proofs.LookValid.{looked-valid, acts-running}
+use Rattle.step_act.specs.Act.{actOf}
+use Rattle.step_act.proofs.ActValid.{act-valid}
 use Rattle.step.specs.Step.{undone, goneOn, stepOf}
 use Rattle.step.specs.declared.Options.{Options}
 

@@ -9,15 +9,15 @@ use Rattle.frame.specs.Frame.{PinsInRange}
 use Rattle.frame.specs.declared.Pins.{Pins}
 use Rattle.machine.specs.Valid.{ValidCore}
 use Rattle.machine.specs.declared.Core.{Core}
-use Rattle.execute.specs.Rows.{Done}
-use Rattle.near.specs.Quiet.{assembled}
-use Rattle.turns.specs.declared.Turn.{Turn}
-use Rattle.look.specs.Look.{seen, isRunning, waited, looked}
-use Rattle.look.specs.declared.Looked.{Looked}
-use Rattle.look.proofs.LookValid.{seen-valid, running-is, waited-rests}
-use Rattle.act.specs.Act.{actOf}
-use Rattle.act.specs.Gives as act
-use Rattle.act.proofs.Stops.{act-keeps-ram}
+use Rattle.row.specs.Rows.{Done}
+use Rattle.row_registers.specs.Quiet.{assembled}
+use Rattle.row_control.specs.declared.Turn.{Turn}
+use Rattle.step_look.specs.Look.{seen, isRunning, waited, looked}
+use Rattle.step_look.specs.declared.Looked.{Looked}
+use Rattle.step_look.proofs.LookValid.{seen-valid, running-is, waited-rests}
+use Rattle.step_act.specs.Act.{actOf}
+use Rattle.step_act.specs.Gives as act
+use Rattle.step_act.proofs.Stops.{act-keeps-ram}
 use Rattle.step.specs.Step.{stepOf}
 use Rattle.step.specs.Gives.{Gives}
 use Rattle.step.specs.declared.Options.{Options}

@@ -5,10 +5,10 @@ use lib.Dec.{eqb}
 use Rattle.laws.specs.Choice.{pick}
 use Rattle.frame.specs.declared.Pins.{Pins}
 use Rattle.machine.specs.declared.Machine.{Machine}
-use Rattle.execute.specs.Rows.{Done, spent, stops}
-use Rattle.look.specs.Look.{looked}
-use Rattle.look.specs.declared.Looked.{Looked}
-use Rattle.act.specs.Act.{actOf}
+use Rattle.row.specs.Rows.{Done, spent, stops}
+use Rattle.step_look.specs.Look.{looked}
+use Rattle.step_look.specs.declared.Looked.{Looked}
+use Rattle.step_act.specs.Act.{actOf}
 use Rattle.step.specs.declared.Options.{Options}
 
 -- "A stop gives the record from before that step, last frame included, and zero cycles for it."

@@ -1,14 +1,14 @@
 // One step: for any image, options, record and frame the record, the stop and the cycles that document 01 says, or a refusal by number that changes nothing.
-use act::act;
+use step_act::act;
 use frame::Frame;
 use frame::Pins;
 use frame::frame_of;
-use look::is_running;
-use look::seen;
-use look::waited;
+use step_look::is_running;
+use step_look::seen;
+use step_look::waited;
 use machine::Core;
 use machine::Machine;
-use valid::is_valid;
+use machine_valid::is_valid;
 ghost use mathlib.Core.Path.{_≡_};
 ghost use lib.ListN.{length};
 ghost use Rattle.sheet.specs.Reading.{romOf};

@@ -1,5 +1,5 @@
 // How the cases write what came back, and the step that most of them make.
-use digits::number;
+use text_digits::number;
 use frame::Pins;
 use libc::STDOUT_FILENO;
 use machine::Machine;

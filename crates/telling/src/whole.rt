@@ -14,7 +14,7 @@ use machine::Registers;
 use machine::Timers;
 use ports::Mode;
 use ports::Ports;
-use start::fresh;
+use machine_start::fresh;
 
 fn registers(r: Registers) {
     count(b", ACC ", r.acc as u32);

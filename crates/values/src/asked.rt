@@ -23,7 +23,7 @@ pub fn begin(image: &mut [u8; 8192], b: Bench) -> Bench {
         image[i] = 0;
     }
     Bench {
-        machine: start::fresh(),
+        machine: machine_start::fresh(),
         number: 0,
         same: b.same,
     }
@@ -78,10 +78,10 @@ fn list_row(image: &[u8], at: u16, end: u16) -> u16
         return at;
     }
     let mut out = [0u8; 40];
-    let n = text::line::line(&mut out, 0, image, at);
+    let n = text_lister::line::line(&mut out, 0, image, at);
     say(b"  ");
     say(&out[..n]);
-    text::line::after(image, at) % 8192
+    text_lister::line::after(image, at) % 8192
 }
 
 // The rows from an address up to another, sixteen at most.

@@ -10,7 +10,7 @@ pub struct Bench {
 
 pub fn fresh_bench() -> Bench {
     Bench {
-        machine: start::fresh(),
+        machine: machine_start::fresh(),
         number: 0,
         same: true,
     }

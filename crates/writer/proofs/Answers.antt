@@ -10,7 +10,7 @@ use lib.ListN.{take}
 use borrow.Author.Tests.{eq-eqb}
 use Rattle.laws.specs.Choice.{both}
 use Rattle.laws.proofs.Computed.{both-left, both-right, true→T}
-use Rattle.paper.specs.ComesBack.{answered}
+use Rattle.numbers.specs.ComesBack.{answered}
 use Rattle.sheet.specs.Code.{digits}
 use Rattle.sheet.specs.Reading.{readBytes, bytesOf}
 use Rattle.sheet.specs.Timing.{TimedFrom}

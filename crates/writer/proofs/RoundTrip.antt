@@ -5,7 +5,7 @@ use mathlib.Core.List.{List, [], _∷_}
 use Prim.Native.Nat.{ℕ}
 use native.Mathlib.Omega.{arith}
 use lib.ListN.{take}
-use Rattle.paper.specs.ComesBack.{Paper, answered}
+use Rattle.numbers.specs.ComesBack.{Paper, answered}
 use Rattle.sheet.specs.Reading.{readBytes}
 use Rattle.sheet.specs.declared.Insn.{Insn}
 use Rattle.sheet.specs.declared.Read.the-variants.{Row}

@@ -7,7 +7,7 @@ use mathlib.Core.Path.{_≡_}
 use lib.Dec.{eqb}
 use lib.ListN.{length, take, getD}
 use Rattle.laws.specs.Choice.{pick}
-use Rattle.paper.specs.ComesBack.{Paper, answered, refused, not-to-be-written}
+use Rattle.numbers.specs.ComesBack.{Paper, answered, refused, not-to-be-written}
 use Rattle.sheet.specs.Reading.{readBytes, bytesOf}
 use Rattle.sheet.specs.declared.Insn.{Insn}
 use Rattle.sheet.specs.declared.Read.the-variants.{Row}

@@ -2,7 +2,7 @@
 -- Assumes nothing.
 use mathlib.Core.Path.{refl}
 use native.Mathlib.Omega.{arith}
-use Rattle.search.proofs.Zeros.{blank-zeros}
+use Rattle.graph_search.proofs.Zeros.{blank-zeros}
 use Rattle.bound.specs.Answer.{gives-1, gives-20, by-flow}
 use Rattle.bound.proofs.Answers.{answers}
 use borrow.Author.Needs.{needs}

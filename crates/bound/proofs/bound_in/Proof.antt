@@ -1,7 +1,7 @@
 -- `bound::bound_in` meets its contract.
 -- Assumes nothing.
 use native.Mathlib.Omega.{arith}
-use Rattle.longest.proofs.Unique.{means-to}
+use Rattle.graph_longest.proofs.Unique.{means-to}
 use Rattle.bound.proofs.Answers.{explored-agrees}
 use borrow.Author.Needs.{needs}
 use Rattle.bound.proofs.bound_in.Statement.{statement}

@@ -2,7 +2,7 @@
 -- Assumes nothing.
 use native.Mathlib.Omega.{arith}
 use Rattle.bound.proofs.Sizes.{answer-small}
-use Rattle.report.proofs.Values.{longest-small}
+use Rattle.text_bounder.proofs.Values.{longest-small}
 use borrow.Author.Needs.{needs}
 use Rattle.bounder.proofs.bound_at.Statement.{statement}
 use Rattle.bounder.proofs.bound_at.Tie as tie

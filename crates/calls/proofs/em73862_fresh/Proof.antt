@@ -1,7 +1,7 @@
 -- `calls::em73862_fresh` meets its contract.
 -- Assumes nothing.
 use mathlib.Core.Path.{refl, ap, _∙_}
-use Rattle.layout.specs.Layout.{bytesOf}
+use Rattle.machine_bytes.specs.Layout.{bytesOf}
 use Rattle.calls.specs.Calls.{wrong-length, fresh}
 use borrow.Author.Needs.{needs}
 use Rattle.calls.proofs.em73862_fresh.Statement.{statement}

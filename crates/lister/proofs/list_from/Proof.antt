@@ -1,7 +1,7 @@
 -- `lister::list_from` meets its contract.
 -- Assumes nothing.
 use mathlib.Core.Path.{sym, _∙_}
-use Rattle.words.proofs.Values.{number-up-to-8192}
+use Rattle.text_words.proofs.Values.{number-up-to-8192}
 use borrow.Author.Needs.{needs}
 use Rattle.lister.proofs.list_from.Statement.{statement}
 use Rattle.lister.proofs.list_from.Tie as tie

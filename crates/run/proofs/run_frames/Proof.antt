@@ -6,7 +6,7 @@ use lib.ListN.{length}
 use borrow.Author.Needs.{needs}
 use Rattle.sheet.specs.Reading.{romOf}
 use Rattle.frame.specs.Frame.{framesOf}
-use Rattle.near.specs.Quiet.{assembled}
+use Rattle.row_registers.specs.Quiet.{assembled}
 use Rattle.run.specs.Run.{runOf}
 use Rattle.run.proofs.Going.{Going, starts, room, shows, ended, goes-on, ends-early}
 use Rattle.run.proofs.run_frames.Statement.{statement}

@@ -1,6 +1,6 @@
 -- `runner::run` meets its contract.
 -- Assumes nothing.
-use Rattle.start.proofs.Starting.{fresh-valid}
+use Rattle.machine_start.proofs.Starting.{fresh-valid}
 use borrow.Author.Needs.{needs}
 use Rattle.runner.proofs.run.Statement.{statement}
 use Rattle.runner.proofs.run.Tie as tie

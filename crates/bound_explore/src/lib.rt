@@ -1,0 +1,65 @@
+// The places of an image that are reached from a place, laid in arrays as a graph.
+use bound_flow::node_at;
+use graph_search::mark;
+ghost use mathlib.Core.Path.{_≡_};
+ghost use Prim.Native.Nat.{_<_};
+ghost use lib.ListN.{length};
+ghost use Rattle.graph.specs.Graph.{Edge};
+ghost use Rattle.sheet.specs.Reading.{romOf};
+ghost use Rattle.graph_search.specs.Marks.{Blank, Room, Grown};
+ghost use Rattle.graph_search.specs.Search.{Visited};
+ghost use Rattle.bound_flow.specs.Flow.{flowGraph};
+ghost use Rattle.bound_explore.specs.Explored.{Sized, Empty, Lays, Explored};
+
+// Lays the node of v, and marks what follows it.
+fn visit(
+    image: &[u8],
+    kind: &mut [u8],
+    next: &mut [u16],
+    other: &mut [u16],
+    cost: &mut [u32],
+    m: &mut [u8],
+    q: &mut [u16],
+    count: usize,
+    v: usize,
+) -> usize
+    requires { ⌜ (length (now image) ≡ 8192) × Sized (now kind) (now next) (now other) (now cost) × Room (now m) (now q) count × (length (now m) ≡ 16384) × (v < 16384) ⌝ }
+    ensures { λ r. ⌜ Lays (romOf (now (image .entry))) v (now (kind .entry)) (now (next .entry)) (now (other .entry)) (now (cost .entry)) (now (kind .exit)) (now (next .exit)) (now (other .exit)) (now (cost .exit))
+        × Grown (Edge (flowGraph (romOf (now (image .entry)))) v) (now (m .entry)) (now (q .entry)) count (now (m .exit)) (now (q .exit)) r
+        × Visited (flowGraph (romOf (now (image .entry)))) v (now (m .exit)) ⌝ }
+{
+    let x = node_at(image, v);
+    kind[v] = x.kind;
+    next[v] = x.next;
+    other[v] = x.other;
+    cost[v] = x.cost;
+    if x.kind != 1 {
+        return count;
+    }
+    let next_count = mark(m, q, count, x.next as usize);
+    mark(m, q, next_count, x.other as usize)
+}
+
+// Reads what is reached from s and no more. Returns how many places that is.
+pub fn explore(
+    image: &[u8],
+    s: usize,
+    kind: &mut [u8],
+    next: &mut [u16],
+    other: &mut [u16],
+    cost: &mut [u32],
+    m: &mut [u8],
+    q: &mut [u16],
+) -> usize
+    requires { ⌜ (length (now image) ≡ 8192) × (s < 16384) × Empty (now kind) (now next) (now other) (now cost) × Blank (now m) × (length (now m) ≡ 16384) × (length (now q) ≡ 16384) ⌝ }
+    ensures { λ r. ⌜ Explored (romOf (now (image .entry))) s (now (kind .exit)) (now (next .exit)) (now (other .exit)) (now (cost .exit)) (now (m .exit)) (now (q .exit)) r ⌝ }
+{
+    let mut count = mark(m, q, 0, s);
+    let mut head = 0;
+    while head < count {
+        let v = q[head] as usize;
+        count = visit(image, kind, next, other, cost, m, q, count, v);
+        head += 1;
+    }
+    count
+}

@@ -1,0 +1,34 @@
+-- What the code makes of a place is its node.
+-- Assumes nothing.
+use mathlib.Core.Path.{_≡_}
+use Prim.Native.Nat.{ℕ, _<_}
+use native.Mathlib.Omega.{arith}
+use lib.Dec.{leb, leb→le}
+use Rattle.laws.proofs.Computed.{at}
+use Rattle.sheet.specs.Fields.{fieldA, InFields}
+use Rattle.sheet.specs.Reading.{readAt}
+use Rattle.sheet.specs.Table.{lines, lineAt}
+use Rattle.sheet.specs.Timing.{TimedFrom}
+use Rattle.sheet.specs.declared.Insn.{Insn}
+use Rattle.sheet.specs.declared.Read.{Read}
+use Rattle.reader.proofs.Rows.{columns}
+use Rattle.bound_flow.specs.Flow.{addressOf, isKnown, excluded, nodeBy, nodeOf}
+use Rattle.bound_flow.specs.Ways.{numbered, IsWay}
+use Rattle.bound_flow.specs.declared.Node.{Node}
+
+-- no operand is longer than an address
+pub operand-lt : (i : Insn) → InFields i → i .a < 8192
+unfolding lineAt lines
+operand-lt i h = omega (arith, h .a, leb→le (fieldA (lineAt (i .row) .codes)) 8192 (at (λ row. leb (fieldA (lineAt row .codes)) 8192) 108 tt (i .row) (h .row)))
+
+module _ (rom : ℕ → ℕ) (v : ℕ) where
+  pub none-node : readAt rom (addressOf v) ≡ Read.Unassigned → (x : Node) → x ≡ excluded → x ≡ nodeOf rom v
+  unfolding nodeOf
+  none-node e x q = rw e q
+
+  pub row-node : (i : Insn) → readAt rom (addressOf v) ≡ Read.Row i → (bytes cycles way : ℕ) → TimedFrom (rom (addressOf v)) bytes cycles → IsWay i way
+      → (x : Node) → x ≡ nodeBy (addressOf v) (isKnown v) i bytes cycles (numbered way) → x ≡ nodeOf rom v
+  unfolding nodeOf
+  row-node i e bytes cycles way timed is x q =
+      let c = columns rom (addressOf v) i e bytes cycles timed in
+      rw (e, c .bytes, c .cycles, is .is) q

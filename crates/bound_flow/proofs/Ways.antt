@@ -1,0 +1,99 @@
+-- The code's table of ways is the one that the sheet's columns make.
+-- Assumes nothing.
+use mathlib.Core.Path.{_≡_, refl, _∙_}
+use mathlib.Core.Bool.{Bool, true, false}
+use mathlib.Core.List.{List, [], _∷_}
+use Prim.Native.Nat.{ℕ, _+_, _-_, _<_}
+use native.Mathlib.Omega.{arith}
+use lib.Dec.{T, eqb, eqb→eq, ltb, ltb→lt}
+use lib.ListN.{getD}
+use borrow.Author.Tests.{eq-eqb, ne-eqb}
+use Rattle.laws.specs.Choice.{pick, both}
+use Rattle.laws.proofs.Computed.{listed, listed-at, implies, at, NoKey, rest-at}
+use Rattle.sheet.specs.Operation.{Target, Operation}
+use Rattle.sheet.specs.Table.{Mark, lines, lineAt}
+use Rattle.sheet.specs.Fields.{InFields}
+use Rattle.sheet.specs.declared.Insn.{Insn}
+use Rattle.row.specs.Columns.{setsEi, writesPort}
+use Rattle.bound_flow.specs.Flow.{Way, isOne, wayBy, wayOf}
+use Rattle.bound_flow.specs.Flow.Way.{nowhere, onward}
+use Rattle.bound_flow.specs.Ways.{numbered, IsWay}
+
+-- the number of a row's way, 7 where the port that it writes decides
+abbrev numberBy : Mark → Operation → ℕ
+numberBy s (Operation.work d a) = pick (writesPort (Operation.work d a)) 7 (pick (isOne s) 2 3)
+numberBy s (Operation.branch Target.page) = 4
+numberBy s (Operation.branch Target.half) = 5
+numberBy s (Operation.branch Target.whole) = 6
+numberBy s (Operation.call e) = 0
+numberBy s Operation.return = 0
+numberBy s Operation.return-FLAG = 1
+numberBy s (Operation.IL⟵IL-and-r e) = pick (setsEi (Operation.IL⟵IL-and-r e)) 0 (pick (isOne s) 2 3)
+numberBy s Operation.no-operation = pick (isOne s) 2 3
+
+abbrev pub numberOf : ℕ → ℕ
+numberOf row = numberBy (lineAt row .s) (lineAt row .operation)
+
+-- the code's table: `a` is way 0
+unfoldable pub letters : List ℕ
+letters = listed (λ row. 97 + numberOf row) 0 108
+
+pub letter-of : (row : ℕ) → row < 108 → getD letters row 0 ≡ 97 + numberOf row
+unfolding letters
+letter-of row h = listed-at (λ row. 97 + numberOf row) 108 row h
+
+-- each row that writes a port has S 1
+port-sets : (row : ℕ) → row < 108 → T (implies (writesPort (lineAt row .operation)) (isOne (lineAt row .s)))
+unfolding lineAt lines
+port-sets row h = at (λ row. implies (writesPort (lineAt row .operation)) (isOne (lineAt row .s))) 108 tt row h
+
+few-ways : (row : ℕ) → row < 108 → numberOf row < 8
+unfolding lineAt lines
+few-ways row h = ltb→lt (numberOf row) 8 (at (λ row. ltb (numberOf row) 8) 108 tt row h)
+
+-- a way by its number and by whether the port is P16
+abbrev settled : ℕ → Bool → Way
+settled n to16 = pick (eqb n 7) (pick to16 nowhere (onward true)) (numbered n)
+
+work-way : (writes one to16 : Bool) → T (implies writes one) → pick (both writes to16) nowhere (onward one) ≡ settled (pick writes 7 (pick one 2 3)) to16
+work-way true true true t = refl
+work-way true true false t = refl
+work-way true false to16 t = absurd t
+work-way false true to16 t = refl
+work-way false false to16 t = refl
+
+latch-way : (sets one to16 : Bool) → pick sets nowhere (onward one) ≡ settled (pick sets 0 (pick one 2 3)) to16
+latch-way true one to16 = refl
+latch-way false true to16 = refl
+latch-way false false to16 = refl
+
+way-by : (i : Insn) (s : Mark) (o : Operation) → T (implies (writesPort o) (isOne s)) → wayBy i s o ≡ settled (numberBy s o) (eqb (i .b) 16)
+way-by i s (Operation.work d a) t = work-way (writesPort (Operation.work d a)) (isOne s) (eqb (i .b) 16) t
+way-by i s (Operation.branch Target.page) t = refl
+way-by i s (Operation.branch Target.half) t = refl
+way-by i s (Operation.branch Target.whole) t = refl
+way-by i s (Operation.call e) t = refl
+way-by i s Operation.return t = refl
+way-by i s Operation.return-FLAG t = refl
+way-by i s (Operation.IL⟵IL-and-r e) t = latch-way (setsEi (Operation.IL⟵IL-and-r e)) (isOne s) (eqb (i .b) 16)
+way-by i s Operation.no-operation t = latch-way false (isOne s) (eqb (i .b) 16)
+
+module _ (i : Insn) (h : InFields i) (way : ℕ) (e : way ≡ getD letters (i .row) 0 - 97) where
+  way-number : way ≡ numberOf (i .row)
+  way-number = e ∙ rw (letter-of (i .row) (h .row)) (omega arith)
+
+  settles : wayOf i (lineAt (i .row)) ≡ settled way (eqb (i .b) 16)
+  settles = way-by i (lineAt (i .row) .s) (lineAt (i .row) .operation) (port-sets (i .row) (h .row)) ∙ rw way-number
+
+  pub plain-way : (way ≡ 7 → ⊥) → IsWay i way
+  plain-way ne = record { is = settles ∙ rw (ne-eqb way 7 ne); few = omega (arith, ne, way-number, few-ways (i .row) (h .row)) }
+
+  pub to-p16 : way ≡ 7 → i .b ≡ 16 → IsWay i 0
+  to-p16 s p = record { is = settles ∙ rw (eq-eqb way 7 s, eq-eqb (i .b) 16 p); few = omega arith }
+
+  pub to-other-port : way ≡ 7 → (i .b ≡ 16 → ⊥) → IsWay i 2
+  to-other-port s p = record { is = settles ∙ rw (eq-eqb way 7 s, ne-eqb (i .b) 16 p); few = omega arith }
+
+-- of the seven ways the last
+pub last-way : (way : ℕ) → way < 7 → NoKey way (5 ∷ 4 ∷ 3 ∷ 2 ∷ 1 ∷ 0 ∷ []) → way ≡ 6
+last-way way l r = eqb→eq way 6 (rest-at (λ n. eqb n 6) (5 ∷ 4 ∷ 3 ∷ 2 ∷ 1 ∷ 0 ∷ []) 7 tt way l r)

@@ -1,0 +1,103 @@
+-- Document 01, "The handler bound": the places of an image and what follows each, read off the columns of the sheet.
+-- Assumes nothing.
+use Prim.Native.Nat.{ℕ, _+_, _*_, _/_, _%_}
+use mathlib.Core.Bool.{Bool, true, false}
+use lib.Dec.{eqb}
+use Rattle.laws.specs.Choice.{pick, both}
+use Rattle.bits.specs.Bits.{bitOf}
+use Rattle.sheet.specs.Operation.{Target, Operation}
+use Rattle.sheet.specs.Table.{Mark, Line, lineAt}
+use Rattle.sheet.specs.Reading.{readAt, wrapped}
+use Rattle.sheet.specs.Flow.{targetOf}
+use Rattle.sheet.specs.declared.Insn.{Insn}
+use Rattle.sheet.specs.declared.Read.{Read}
+use Rattle.row.specs.Columns.{setsEi, writesPort}
+use Rattle.graph.specs.Graph.{Graph}
+use Rattle.bound_flow.specs.declared.Node.{Node}
+
+-- "A place is an address with "SF known set" or not": twice the address, and one more where SF is known set
+abbrev pub place : ℕ → Bool → ℕ
+place at known = 2 * at + bitOf known
+
+abbrev pub addressOf : ℕ → ℕ
+addressOf v = v / 2
+
+abbrev pub isKnown : ℕ → Bool
+isKnown v = eqb (v % 2) 1
+
+-- "A row whose S column is 1 makes it known, any other unknown."
+abbrev pub isOne : Mark → Bool
+isOne Mark.kept = false
+isOne Mark.carry = false
+isOne Mark.not-carry = false
+isOne Mark.is-zero = false
+isOne Mark.not-zero = false
+isOne Mark.clear = false
+isOne Mark.set = true
+isOne Mark.by-operation = false
+
+-- a port is written by its number p, or as PORT[LR₃₋₂+4], which is one of 4 to 7; a row without p has 0 for it
+abbrev pub writesP16 : Insn → Operation → Bool
+writesP16 i o = both (writesPort o) (eqb (i .b) 16)
+
+-- how a path goes on after a row: not at all; to its end; at the next instruction, with SF known set or not; as a branch
+pub data Way : Type 0 where
+  nowhere : Way
+  end : Way
+  onward : Bool → Way
+  branches : Target → Way
+
+-- "RTI ends a path. Excluded, with no next place: calls, RET, .., any row other than RTI that sets EI, any row writing P16."
+abbrev pub wayBy : Insn → Mark → Operation → Way
+wayBy i s (Operation.work d a) = pick (writesP16 i (Operation.work d a)) Way.nowhere (Way.onward (isOne s))
+wayBy i s (Operation.branch t) = Way.branches t
+wayBy i s (Operation.call e) = Way.nowhere
+wayBy i s Operation.return = Way.nowhere
+wayBy i s Operation.return-FLAG = Way.end
+wayBy i s (Operation.IL⟵IL-and-r e) = pick (setsEi (Operation.IL⟵IL-and-r e)) Way.nowhere (Way.onward (isOne s))
+wayBy i s Operation.no-operation = Way.onward (isOne s)
+
+abbrev pub wayOf : Insn → Line → Way
+wayOf i l = wayBy i (l .s) (l .operation)
+
+-- a node: a place's kind in the graph, what follows it, and its cycles
+abbrev pub excluded : Node
+excluded = record { kind = 0; next = 0; other = 0; cost = 0 }
+
+abbrev pub ending : ℕ → Node
+ending cycles = record { kind = 2; next = 0; other = 0; cost = cycles }
+
+abbrev pub going : ℕ → ℕ → ℕ → Node
+going next other cycles = record { kind = 1; next = next; other = other; cost = cycles }
+
+-- "Branches make it known; one at a known place has only its target, at an unknown place also the next instruction."
+abbrev pub forked : Bool → ℕ → ℕ → ℕ → Node
+forked known on target cycles = going (pick known (place target true) (place on true)) (place target true) cycles
+
+abbrev pub nodeBy : ℕ → Bool → Insn → ℕ → ℕ → Way → Node
+nodeBy at known i bytes cycles Way.nowhere = excluded
+nodeBy at known i bytes cycles Way.end = ending cycles
+nodeBy at known i bytes cycles (Way.onward set) = going (place (wrapped at bytes) set) (place (wrapped at bytes) set) cycles
+nodeBy at known i bytes cycles (Way.branches t) = forked known (wrapped at bytes) (targetOf t at (i .a)) cycles
+
+abbrev pub nodeRow : ℕ → Bool → Insn → Line → Node
+nodeRow at known i l = nodeBy at known i (l .bytes) (l .cycles) (wayOf i l)
+
+-- "unassigned codes"
+abbrev pub nodeRead : ℕ → Bool → Read → Node
+nodeRead at known (Read.Row i) = nodeRow at known i (lineAt (i .row))
+nodeRead at known Read.Unassigned = excluded
+
+unfoldable pub nodeOf : (ℕ → ℕ) → ℕ → Node
+nodeOf rom v = nodeRead (addressOf v) (isKnown v) (readAt rom (addressOf v))
+
+-- the flow graph of a ROM, and the cycles of its places
+unfoldable pub flowGraph : (ℕ → ℕ) → Graph
+flowGraph rom = record { kind = λ v. nodeOf rom v .kind; next = λ v. nodeOf rom v .next; other = λ v. nodeOf rom v .other }
+
+unfoldable pub flowCost : (ℕ → ℕ) → ℕ → ℕ
+flowCost rom v = nodeOf rom v .cost
+
+-- "the start is known"
+abbrev pub startOf : ℕ → ℕ
+startOf address = place address true

@@ -1,0 +1,36 @@
+-- `longest::longest` meets its contract: it lends arrays of zeros, as many as there are places.
+-- Assumes nothing.
+use borrow.Author.Needs.{needs}
+use mathlib.Core.Path.{refl}
+use Rattle.graph_search.proofs.Zeros.{blank-zeros}
+use Rattle.graph_longest.proofs.longest.Statement.{statement}
+use Rattle.graph_longest.proofs.longest.Tie as tie
+
+slice-aggregate-find : tie.Need-slice-aggregate-find
+slice-aggregate-find c = search needs
+
+slice-aggregate-find-2 : tie.Need-slice-aggregate-find-2
+slice-aggregate-find-2 c = search needs
+
+slice-aggregate-find-3 : tie.Need-slice-aggregate-find-3
+slice-aggregate-find-3 c = search needs
+
+find-requires : tie.Need-find-requires
+find-requires c κs = (c .before .before .before .before .before .before .before .before .before .before .before .pre .0, c .before .before .before .before .before .before .before .before .before .before .before .pre .1, c .before .before .before .before .before .before .before .before .before .before .before .pre .2, c .before .before .before .before .before .before .before .before .before .before .before .pre .3, c .before .before .before .before .before .before .before .before .before .before .before .pre .4, c .before .before .before .before .before .before .before .before .before .before .before .pre .5, refl, blank-zeros 16384, refl, refl, blank-zeros 16384)
+
+same-length : tie.Need-same-length
+same-length c = search needs
+
+returns : tie.Need-returns
+returns c = search needs
+
+pub longest-spec : {M : Type 1} → statement M
+longest-spec =
+    tie.close
+    (tie.spec
+    slice-aggregate-find
+    slice-aggregate-find-2
+    slice-aggregate-find-3
+    find-requires
+    same-length
+    returns)

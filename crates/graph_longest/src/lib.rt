@@ -1,0 +1,94 @@
+// The longest path from a place, or why there is none.
+use graph_loops::first_loop;
+use graph_route::path_len;
+use graph_route::write_path;
+use graph_search::lowest;
+use graph_sums::sums;
+ghost use mathlib.Core.Path.{_≡_};
+ghost use Prim.Native.Nat.{_<_};
+ghost use lib.ListN.{length};
+ghost use Rattle.graph.specs.Laid.{graphOf, costOf, Laid, Costs};
+ghost use Rattle.graph_search.specs.Marks.{Blank, Listed};
+ghost use Rattle.graph_search.specs.Search.{Reached};
+ghost use Rattle.graph_longest.specs.Means.{Means};
+
+pub enum Found {
+    Excluded(usize),
+    Repeats(usize),
+    Short(usize),
+    Longest(usize),
+}
+
+// The same as longest, with arrays lent to work in.
+fn find(
+    kind: &[u8],
+    next: &[u16],
+    other: &[u16],
+    cost: &[u32],
+    s: usize,
+    marks: &[u8],
+    queue: &[u16],
+    count: usize,
+    path: &mut [u8],
+    d: &mut [u32],
+    stage: &mut [u8],
+    back: &mut [u16],
+) -> Found
+    requires { ⌜ Laid (now kind) (now next) (now other) 16384 × Costs (now kind) (now cost) 16384 × (s < 16384) × (length (now marks) ≡ 16384)
+        × Reached (graphOf (now kind) (now next) (now other)) s (now marks) × Listed (now marks) (now queue) count
+        × (length (now d) ≡ 16384) × Blank (now d) × (length (now stage) ≡ 16384) × (length (now back) ≡ 16384) × Blank (now back) ⌝ }
+    ensures { λ r. ⌜ Means (graphOf (now (kind .entry)) (now (next .entry)) (now (other .entry))) (costOf (now (cost .entry))) s (now (path .entry)) (now (path .exit)) r ⌝ }
+{
+    let bad = lowest(kind, queue, count);
+    if bad < 16384 {
+        return Found::Excluded(bad);
+    }
+    sums(kind, next, other, cost, s, queue, count, d, stage, back);
+    if d[s] == 0 {
+        let v = first_loop(kind, next, other, s, marks, queue, count);
+        return Found::Repeats(v);
+    }
+    let n = 2 * path_len(kind, next, other, d, s);
+    if path.len() < n {
+        return Found::Short(n);
+    }
+    write_path(kind, next, other, d, s, path);
+    let most = d[s] as usize;
+    Found::Longest(most)
+}
+
+// The longest path from s, of 16,384 places: its sum, with its labels in the buffer; or the lowest excluded place that is reached, or else the lowest
+// place that is reached from itself, or else the bytes that the path needs, where the buffer is too short. marks and queue tell what is reached from s.
+pub fn longest(
+    kind: &[u8],
+    next: &[u16],
+    other: &[u16],
+    cost: &[u32],
+    s: usize,
+    marks: &[u8],
+    queue: &[u16],
+    count: usize,
+    path: &mut [u8],
+) -> Found
+    requires { ⌜ Laid (now kind) (now next) (now other) 16384 × Costs (now kind) (now cost) 16384 × (s < 16384) × (length (now marks) ≡ 16384)
+        × Reached (graphOf (now kind) (now next) (now other)) s (now marks) × Listed (now marks) (now queue) count ⌝ }
+    ensures { λ r. ⌜ Means (graphOf (now (kind .entry)) (now (next .entry)) (now (other .entry))) (costOf (now (cost .entry))) s (now (path .entry)) (now (path .exit)) r ⌝ }
+{
+    let mut d = [0u32; 16384];
+    let mut stage = [0u8; 16384];
+    let mut back = [0u16; 16384];
+    find(
+        kind,
+        next,
+        other,
+        cost,
+        s,
+        marks,
+        queue,
+        count,
+        path,
+        &mut d,
+        &mut stage,
+        &mut back,
+    )
+}

@@ -1,0 +1,36 @@
+-- The lowest place that is reached from itself, and ranks that rule places out.
+-- Assumes nothing.
+use mathlib.Core.Path.{_≡_}
+use mathlib.Core.List.{List}
+use Prim.Native.Nat.{ℕ, _≤_, _<_}
+use lib.ListN.{getD}
+use Rattle.graph.specs.Graph.{Graph, Edge}
+use Rattle.graph_search.specs.Marks.{Marked}
+
+-- r is the least number below n with P, or n where there is none
+pub record Scan (P : ℕ → Type 0) (n r : ℕ) : Type 0 where
+  pub le : r ≤ n
+  pub before : (v : ℕ) → v < r → P v → ⊥
+  pub found : r < n → P r
+
+-- none below v has P
+pub record Clean (P : ℕ → Type 0) (v : ℕ) : Type 0 where
+  pub none : (u : ℕ) → u < v → P u → ⊥
+
+-- r is not 0 exactly where P holds
+pub record Tells (P : Type 0) (r : ℕ) : Type 0 where
+  pub so : 0 < r → P
+  pub not-so : r ≡ 0 → P → ⊥
+
+-- no place that follows v has a rank over r
+pub record After (g : Graph) (rank : List ℕ) (v r : ℕ) : Type 0 where
+  pub le : (w : ℕ) → Edge g v w → getD rank w 0 ≤ r
+
+-- from the first t places of the queue no edge leads to a higher rank
+pub record NeverRises (g : Graph) (rank q : List ℕ) (t : ℕ) : Type 0 where
+  pub at : (i : ℕ) → i < t → After g rank (getD q i 0) (getD rank (getD q i 0) 0)
+
+-- what follows a marked place is marked, and has no higher rank
+pub record Steady (g : Graph) (rank m : List ℕ) : Type 0 where
+  pub closed : (v w : ℕ) → Marked m v → Edge g v w → Marked m w
+  pub after : (v : ℕ) → Marked m v → After g rank v (getD rank v 0)

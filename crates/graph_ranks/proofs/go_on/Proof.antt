@@ -1,0 +1,76 @@
+-- `components::go_on` meets its contract: what follows a place is one of the places.
+-- Assumes nothing.
+use borrow.Author.Needs.{needs}
+use native.Mathlib.Omega.{arith}
+use Rattle.graph.proofs.Reach.{successor-lt}
+use Rattle.graph_ranks.proofs.go_on.Statement.{statement}
+use Rattle.graph_ranks.proofs.go_on.Tie as tie
+
+slice-read-tried : tie.Need-slice-read-tried
+slice-read-tried c = search needs
+
+add-stage : tie.Need-add-stage
+add-stage c = search needs
+
+slice-write-stage : tie.Need-slice-write-stage
+slice-write-stage c = search needs
+
+successor-requires : tie.Need-successor-requires
+successor-requires c κs = search needs
+
+mul-r : tie.Need-mul-r
+mul-r c = omega (arith, c .before .before .before .before .before .before .before .before .before .pre .0 .small, successor-lt (c .before .before .before .before .before .before .before .before .before .pre .0) (c .before .before .before .before .before .before .before .before .before .pre .4) (c .successor .ensures))
+
+slice-read-r : tie.Need-slice-read-r
+slice-read-r c = successor-lt (c .before .before .before .before .before .before .before .before .before .before .pre .0) (c .before .before .before .before .before .before .before .before .before .before .pre .4) (c .before .successor .ensures)
+
+begin-requires : tie.Need-begin-requires
+begin-requires c κs = (c .before .before .before .before .before .before .before .before .before .before .before .before .before .before .pre .0 .small, c .before .before .before .before .before .before .before .before .before .before .before .before .before .before .pre .1, c .before .before .before .before .before .before .before .before .before .before .before .before .before .before .pre .2, successor-lt (c .before .before .before .before .before .before .before .before .before .before .before .before .before .before .pre .0) (c .before .before .before .before .before .before .before .before .before .before .before .before .before .before .pre .4) (c .before .before .before .before .before .successor .ensures), c .before .before .before .before .before .before .before .before .before .before .before .before .before .before .pre .4, c .before .before .before .before .before .before .before .before .before .before .before .before .before .before .pre .6)
+
+same-length : tie.Need-same-length
+same-length c = search needs
+
+same-length-2 : tie.Need-same-length-2
+same-length-2 c = search needs
+
+same-length-3 : tie.Need-same-length-3
+same-length-3 c = search needs
+
+same-length-4 : tie.Need-same-length-4
+same-length-4 c = search needs
+
+returns : tie.Need-returns
+returns c = search needs
+
+raise-requires : tie.Need-raise-requires
+raise-requires c κs = search needs
+
+same-length-5 : tie.Need-same-length-5
+same-length-5 c = search needs
+
+same-length-6 : tie.Need-same-length-6
+same-length-6 c = search needs
+
+returns-2 : tie.Need-returns-2
+returns-2 c = search needs
+
+pub go-on-spec : {M : Type 1} → statement M
+go-on-spec =
+    tie.close
+    (tie.spec
+    slice-read-tried
+    add-stage
+    slice-write-stage
+    successor-requires
+    mul-r
+    slice-read-r
+    begin-requires
+    same-length
+    same-length-2
+    same-length-3
+    same-length-4
+    returns
+    raise-requires
+    same-length-5
+    same-length-6
+    returns-2)

@@ -1,0 +1,40 @@
+-- `route::put` meets its contract.
+-- Assumes nothing.
+use borrow.Author.Needs.{needs}
+use native.Mathlib.Omega.{arith}
+use lib.ListN.{length-set}
+use Rattle.graph_route.proofs.put.Statement.{statement}
+use Rattle.graph_route.proofs.put.Tie as tie
+
+cast-path : tie.Need-cast-path
+cast-path c = search needs
+
+slice-write-path : tie.Need-slice-write-path
+slice-write-path c = search needs
+
+cast-path-2 : tie.Need-cast-path-2
+cast-path-2 c = search needs
+
+add-path : tie.Need-add-path
+add-path c = search needs
+
+slice-write-path-2 : tie.Need-slice-write-path-2
+slice-write-path-2 c = simp length-set (omega arith)
+
+same-length : tie.Need-same-length
+same-length c = search needs
+
+returns : tie.Need-returns
+returns c = search needs
+
+pub put-spec : {M : Type 1} → statement M
+put-spec =
+    tie.close
+    (tie.spec
+    cast-path
+    slice-write-path
+    cast-path-2
+    add-path
+    slice-write-path-2
+    same-length
+    returns)

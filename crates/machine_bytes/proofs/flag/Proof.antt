@@ -1,0 +1,11 @@
+-- `layout::flag` meets its contract.
+-- Assumes nothing.
+use Rattle.machine_bytes.proofs.Numbers.{flag-of}
+use Rattle.machine_bytes.proofs.flag.Statement.{statement}
+use Rattle.machine_bytes.proofs.flag.Tie as tie
+
+returns : tie.Need-returns
+returns c = flag-of _ (c .pre)
+
+pub flag-spec : {M : Type 1} → statement M
+flag-spec = tie.close (tie.spec returns)

@@ -1,0 +1,62 @@
+-- `layout::ports_of` meets its contract.
+-- Assumes nothing.
+use native.Mathlib.Omega.{arith}
+use Rattle.machine_bytes.proofs.Parts.{listed-part}
+use Rattle.machine_bytes.specs.Layout.{latches}
+use borrow.Author.Needs.{needs}
+use Rattle.machine_bytes.proofs.ports_of.Statement.{statement}
+use Rattle.machine_bytes.proofs.ports_of.Tie as tie
+
+element-copy-out-t4 : tie.Need-element-copy-out-t4
+element-copy-out-t4 c = search needs
+
+element-copy-out-t7 : tie.Need-element-copy-out-t7
+element-copy-out-t7 c = search needs
+
+element-copy-out-t10 : tie.Need-element-copy-out-t10
+element-copy-out-t10 c = search needs
+
+element-copy-out-t13 : tie.Need-element-copy-out-t13
+element-copy-out-t13 c = search needs
+
+element-copy-out-t16 : tie.Need-element-copy-out-t16
+element-copy-out-t16 c = search needs
+
+element-copy-out-t19 : tie.Need-element-copy-out-t19
+element-copy-out-t19 c = search needs
+
+element-copy-out-t22 : tie.Need-element-copy-out-t22
+element-copy-out-t22 c = search needs
+
+element-copy-out-t25 : tie.Need-element-copy-out-t25
+element-copy-out-t25 c = search needs
+
+element-copy-out-t28 : tie.Need-element-copy-out-t28
+element-copy-out-t28 c = search needs
+
+element-copy-out-t31 : tie.Need-element-copy-out-t31
+element-copy-out-t31 c = search needs
+
+element-copy-out-t34 : tie.Need-element-copy-out-t34
+element-copy-out-t34 c = search needs
+
+returns : tie.Need-returns
+unfolding latches
+returns c = listed-part (c .before .before .before .before .before .before .before .before .before .before .before .args .head .now) 5 11 (omega (arith, c .before .before .before .before .before .before .before .before .before .before .before .pre))
+
+pub ports-of-spec : {M : Type 1} → statement M
+ports-of-spec =
+    tie.close
+    (tie.spec
+    element-copy-out-t4
+    element-copy-out-t7
+    element-copy-out-t10
+    element-copy-out-t13
+    element-copy-out-t16
+    element-copy-out-t19
+    element-copy-out-t22
+    element-copy-out-t25
+    element-copy-out-t28
+    element-copy-out-t31
+    element-copy-out-t34
+    returns)

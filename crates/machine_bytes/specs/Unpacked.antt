@@ -1,0 +1,38 @@
+-- What unpacking a buffer answers, and what it asks of the head's bytes.
+-- Assumes nothing.
+use Prim.Native.Nat.{ℕ, _<_}
+use mathlib.Core.Bool.{true, false}
+use mathlib.Core.List.{List, [], _∷_}
+use mathlib.Core.Path.{_≡_}
+use lib.ListN.{getD}
+use Rattle.bits.specs.Bits.{bitOf}
+use Rattle.machine.specs.declared.Registers.{Registers}
+use Rattle.machine.specs.declared.Timers.{Timers}
+use Rattle.machine_bytes.specs.Layout.{two, four, Holds, HoldsNone}
+use Rattle.machine_bytes.specs.declared.Unpacked.{Unpacked}
+
+-- the bytes that are flags, and the mode's: any other byte may have any value
+pub record FlagsFit (head : List ℕ) : Type 0 where
+  pub cf : getD head 24 0 < 2
+  pub zf : getD head 25 0 < 2
+  pub sf : getD head 26 0 < 2
+  pub ei : getD head 27 0 < 2
+  pub mode : getD head 36 0 < 3
+
+-- the registers and the timers whose bytes stand in the head
+pub record RegistersAt (head : List ℕ) (r : Registers) : Type 0 where
+  pub acc : r .acc ≡ getD head 0 0
+  pub hr : r .hr ≡ getD head 1 0
+  pub lr : r .lr ≡ getD head 2 0
+  pub cf : bitOf (r .cf) ≡ getD head 24 0
+  pub zf : bitOf (r .zf) ≡ getD head 25 0
+  pub sf : bitOf (r .sf) ≡ getD head 26 0
+
+pub record TimersAt (head : List ℕ) (t : Timers) : Type 0 where
+  pub ta : two (t .ta) ≡ getD head 20 0 ∷ getD head 21 0 ∷ []
+  pub tb : two (t .tb) ≡ getD head 22 0 ∷ getD head 23 0 ∷ []
+  pub base : four (t .base) ≡ getD head 29 0 ∷ getD head 30 0 ∷ getD head 31 0 ∷ getD head 32 0 ∷ []
+
+pub record Unpacks (bytes : List ℕ) (u : Unpacked) : Type 0 where
+  pub some : u .held ≡ true → Holds bytes (u .machine)
+  pub none : u .held ≡ false → HoldsNone bytes

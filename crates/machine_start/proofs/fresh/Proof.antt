@@ -1,0 +1,14 @@
+-- `start::fresh` meets its contract.
+-- Assumes nothing.
+use borrow.Author.Needs.{needs}
+use Rattle.machine_start.proofs.fresh.Statement.{statement}
+use Rattle.machine_start.proofs.fresh.Tie as tie
+
+fresh-core-requires : tie.Need-fresh-core-requires
+fresh-core-requires c κs = search needs
+
+returns : tie.Need-returns
+returns c = rw (c .fresh-core .ensures)
+
+pub fresh-spec : {M : Type 1} → statement M
+fresh-spec = tie.close (tie.spec fresh-core-requires returns)

@@ -1,0 +1,105 @@
+// The fresh record, and reset.
+use frame::Pins;
+use machine::Core;
+use machine::Interrupts;
+use machine::Machine;
+use machine::Pointers;
+use machine::Registers;
+use machine::Timers;
+use ports::Mode;
+use ports::Ports;
+use machine_valid::is_valid;
+ghost use mathlib.Core.Path.{_≡_};
+ghost use Rattle.machine_start.specs.Start.{freshCore, freshMachine, resetCore, ResetOf};
+
+// What reset answers: 0 and the record, or a refusal's number and the record as it was.
+pub struct AfterReset {
+    pub refusal: u8,
+    pub machine: Machine,
+}
+
+fn fresh_core(regs: Registers, ptrs: Pointers) -> Core
+    ensures { λ r. ⌜ r ≡ freshCore regs ptrs ⌝ }
+{
+    Core {
+        regs: regs,
+        pc: 0,
+        ptrs: ptrs,
+        ints: Interrupts {
+            ei: false,
+            il: 0,
+            mask: 0,
+        },
+        timers: Timers {
+            base: 0,
+            ta: 0,
+            tb: 0,
+        },
+        ports: Ports {
+            p4: 15,
+            p8: 15,
+            p9: 0,
+            p16: 0,
+            p23: 15,
+            p24: 15,
+            p25: 0,
+            p27: 0,
+            p28: 0,
+            p29: 0,
+            p30: 0,
+        },
+        pins: Pins {
+            p0: 15,
+            p8: 15,
+            p4: 1,
+        },
+        mode: Mode::Running,
+    }
+}
+
+pub fn fresh() -> Machine
+    ensures { λ r. ⌜ r ≡ freshMachine ⌝ }
+{
+    let regs = Registers {
+        acc: 0,
+        hr: 0,
+        lr: 0,
+        cf: false,
+        zf: false,
+        sf: true,
+    };
+    let core = fresh_core(regs, Pointers { sp: 0, dp: 0 });
+    let ram = [0u8; 372];
+    Machine {
+        core: core,
+        ram: ram,
+    }
+}
+
+fn reset_core(m: Core) -> Core
+    ensures { λ r. ⌜ r ≡ resetCore m ⌝ }
+{
+    let mut regs = m.regs;
+    regs.sf = true;
+    let ptrs = m.ptrs;
+    fresh_core(regs, ptrs)
+}
+
+// Reset, or refusal 2 and the record as it was.
+pub fn reset(m: Machine) -> AfterReset
+    ensures { λ r. ⌜ ResetOf m r ⌝ }
+{
+    if is_valid(m) {
+        let core = reset_core(m.core);
+        let mut machine = m;
+        machine.core = core;
+        return AfterReset {
+            refusal: 0,
+            machine: machine,
+        };
+    }
+    AfterReset {
+        refusal: 2,
+        machine: m,
+    }
+}

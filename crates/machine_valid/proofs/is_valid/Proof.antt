@@ -1,0 +1,23 @@
+-- `valid::is_valid` meets its contract.
+-- Assumes nothing.
+use Rattle.laws.proofs.Decided.{given}
+use Rattle.machine_valid.proofs.Validity.{machine}
+use borrow.Author.Needs.{needs}
+use Rattle.machine_valid.proofs.is_valid.Statement.{statement}
+use Rattle.machine_valid.proofs.is_valid.Tie as tie
+
+core-is-valid-requires : tie.Need-core-is-valid-requires
+core-is-valid-requires c κs = search needs
+
+are-nibbles-requires : tie.Need-are-nibbles-requires
+are-nibbles-requires c κs = search needs
+
+both-requires : tie.Need-both-requires
+both-requires c κs = search needs
+
+returns : tie.Need-returns
+returns c = rw (c .both .ensures) (machine (c .before .before .before .before .before .before .args .m) (given (c .before .before .before .core-is-valid .ensures)) (given (c .before .are-nibbles .ensures)) .decides)
+
+pub is-valid-spec : {M : Type 1} → statement M
+is-valid-spec =
+    tie.close (tie.spec core-is-valid-requires are-nibbles-requires both-requires returns)

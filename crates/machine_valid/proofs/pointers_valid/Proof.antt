@@ -1,0 +1,15 @@
+-- `valid::pointers_valid` meets its contract.
+-- Assumes nothing.
+use Rattle.machine_valid.proofs.Validity.{pointers}
+use borrow.Author.Needs.{needs}
+use Rattle.machine_valid.proofs.pointers_valid.Statement.{statement}
+use Rattle.machine_valid.proofs.pointers_valid.Tie as tie
+
+both-requires : tie.Need-both-requires
+both-requires c κs = search needs
+
+returns : tie.Need-returns
+returns c = rw (c .both .ensures) (pointers (c .before .before .before .args .p) .decides)
+
+pub pointers-valid-spec : {M : Type 1} → statement M
+pointers-valid-spec = tie.close (tie.spec both-requires returns)

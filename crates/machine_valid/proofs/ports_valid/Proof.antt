@@ -1,0 +1,68 @@
+-- `valid::ports_valid` meets its contract.
+-- Assumes nothing.
+use Rattle.machine_valid.proofs.Validity.{ports}
+use borrow.Author.Needs.{needs}
+use Rattle.machine_valid.proofs.ports_valid.Statement.{statement}
+use Rattle.machine_valid.proofs.ports_valid.Tie as tie
+
+both-requires : tie.Need-both-requires
+both-requires c κs = search needs
+
+both-requires-2 : tie.Need-both-requires-2
+both-requires-2 c κs = search needs
+
+both-requires-3 : tie.Need-both-requires-3
+both-requires-3 c κs = search needs
+
+both-requires-4 : tie.Need-both-requires-4
+both-requires-4 c κs = search needs
+
+both-requires-5 : tie.Need-both-requires-5
+both-requires-5 c κs = search needs
+
+both-requires-6 : tie.Need-both-requires-6
+both-requires-6 c κs = search needs
+
+both-requires-7 : tie.Need-both-requires-7
+both-requires-7 c κs = search needs
+
+both-requires-8 : tie.Need-both-requires-8
+both-requires-8 c κs = search needs
+
+both-requires-9 : tie.Need-both-requires-9
+both-requires-9 c κs = search needs
+
+both-requires-10 : tie.Need-both-requires-10
+both-requires-10 c κs = search needs
+
+both-requires-11 : tie.Need-both-requires-11
+both-requires-11 c κs = search needs
+
+both-requires-12 : tie.Need-both-requires-12
+both-requires-12 c κs = search needs
+
+returns : tie.Need-returns
+returns c =
+    let p28 = c .before .before .before .before .before .before in
+    let p23 = p28 .before .before .before .before .before .before in
+    let p4 = p23 .before .before .before .before .before .before .before in
+    rw (c .both12 .ensures, c .before .both11 .ensures, c .before .before .both10 .ensures, c .before .before .before .both9 .ensures, p28 .both8 .ensures, p28 .before .both7 .ensures, p28 .before .before .before .before .before .both6 .ensures, p23 .both5 .ensures, p23 .before .both4 .ensures, p23 .before .before .before .before .before .before .both3 .ensures, p4 .both2 .ensures, p4 .before .both .ensures)
+    (ports (p4 .before .before .before .before .before .before .args .p) .decides)
+
+pub ports-valid-spec : {M : Type 1} → statement M
+ports-valid-spec =
+    tie.close
+    (tie.spec
+    both-requires
+    both-requires-2
+    both-requires-3
+    both-requires-4
+    both-requires-5
+    both-requires-6
+    both-requires-7
+    both-requires-8
+    both-requires-9
+    both-requires-10
+    both-requires-11
+    both-requires-12
+    returns)

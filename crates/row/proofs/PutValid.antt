@@ -1,0 +1,90 @@
+-- A nibble put at a place of a valid record leaves it valid; a port is written only while the record is running.
+-- Assumes nothing.
+use Prim.Native.Nat.{ℕ, _/_, _%_, _<_}
+use mathlib.Core.Bool.{Bool, true, false}
+use mathlib.Core.Path.{_≡_, refl}
+use native.Mathlib.Omega.{arith}
+use lib.Dec.{T, eqb}
+use borrow.Author.Tests.{eqb-true, eqb-false}
+use Rattle.laws.specs.Choice.{pick, both}
+use Rattle.bits.specs.Bits.{hasBit}
+use Rattle.sheet.specs.Operation.{Register, Pointer, Place}
+use Rattle.ports.specs.Ports.{writePort, writeStop, withLatch, enters, modeAfter}
+use Rattle.ports.specs.declared.Ports.{Ports}
+use Rattle.ports.specs.declared.Mode.{Mode}
+use Rattle.ports.specs.declared.Mode.the-variants.{Running, Sleep, Hold}
+use Rattle.machine.specs.Valid.{ValidRegisters, ValidPointers, ValidTimers, ModeFits, Valid}
+use Rattle.machine.specs.declared.Registers.{Registers}
+use Rattle.machine.specs.declared.Pointers.{Pointers}
+use Rattle.machine.specs.declared.Timers.{Timers}
+use Rattle.machine.specs.declared.Machine.{Machine}
+use Rattle.machine.proofs.Places.{set-nibble}
+use Rattle.row.specs.Places.{Around, withRegisters, withPc, withPointers, withTimers, cellOf, portOf, portWritten, putOf}
+use Rattle.row.specs.Columns.{isPort}
+use Rattle.row.proofs.PortsValid.{chosen-lt, written-valid}
+use Rattle.row.proofs.PlacesValid.{part-put}
+
+-- the record with one part anew
+pub regs-valid : {m : Machine} {r : Registers} → Valid m → ValidRegisters r → Valid (withRegisters m r)
+regs-valid v h = record { core = record { regs = h; pc = v .core .pc; ptrs = v .core .ptrs; ints = v .core .ints; timers = v .core .timers; ports = v .core .ports; pins = v .core .pins; mode = v .core .mode }; ram = v .ram }
+
+pub pc-valid : {m : Machine} {pc : ℕ} → Valid m → pc < 8192 → Valid (withPc m pc)
+pc-valid v h = record { core = record { regs = v .core .regs; pc = h; ptrs = v .core .ptrs; ints = v .core .ints; timers = v .core .timers; ports = v .core .ports; pins = v .core .pins; mode = v .core .mode }; ram = v .ram }
+
+pub pointers-valid : {m : Machine} {p : Pointers} → Valid m → ValidPointers p → Valid (withPointers m p)
+pointers-valid v h = record { core = record { regs = v .core .regs; pc = v .core .pc; ptrs = h; ints = v .core .ints; timers = v .core .timers; ports = v .core .ports; pins = v .core .pins; mode = v .core .mode }; ram = v .ram }
+
+timers-valid : {m : Machine} {t : Timers} → Valid m → ValidTimers t → Valid (withTimers m t)
+timers-valid v h = record { core = record { regs = v .core .regs; pc = v .core .pc; ptrs = v .core .ptrs; ints = v .core .ints; timers = h; ports = v .core .ports; pins = v .core .pins; mode = v .core .mode }; ram = v .ram }
+
+-- the mode after a write to P16 is one that P16 fits
+p16-after : (p : Ports) (v : ℕ) → writePort p 16 v .ports .p16 ≡ v
+unfolding writePort writeStop withLatch
+p16-after p v = refl
+
+mode-fits : (s b h : Bool) (p : Ports) (n v : ℕ) → eqb n 16 ≡ s → hasBit v 4 ≡ b → eqb (v % 4) 3 ≡ h → ModeFits (pick (both s b) (pick h Hold Sleep) Running) (writePort p n v .ports .p16)
+mode-fits false b h p n v e f g = tt
+mode-fits true false h p n v e f g = tt
+mode-fits true true true p n v e f g = rw (eqb-true n 16 e, p16-after p v) (eqb-true (v / 4 % 2) 1 f, eqb-true (v % 4) 3 g)
+mode-fits true true false p n v e f g = rw (eqb-true n 16 e, p16-after p v) (eqb-true (v / 4 % 2) 1 f, eqb-false (v % 4) 3 g)
+
+running-fits : (o : Mode) (p : Ports) (n v : ℕ) → o ≡ Running → ModeFits (modeAfter o n v) (writePort p n v .ports .p16)
+running-fits o p n v e = rw e (mode-fits (eqb n 16) (hasBit v 4) (eqb (v % 4) 3) p n v refl refl refl)
+
+base-eights : (t : Bool) (base : ℕ) → base % 8 ≡ 0 → pick t 0 base % 8 ≡ 0
+base-eights true base h = refl
+base-eights false base h = h
+
+port-valid : (m : Machine) (n v : ℕ) → Valid m → m .core .mode ≡ Running → v < 16 → Valid (portWritten m n v)
+port-valid m n v h e hv = record {
+  core = record {
+    regs = h .core .regs;
+    pc = h .core .pc;
+    ptrs = h .core .ptrs;
+    ints = h .core .ints;
+    timers = record {
+      base = chosen-lt (enters n v) 0 (m .core .timers .base) (omega arith) (h .core .timers .base);
+      eights = base-eights (enters n v) (m .core .timers .base) (h .core .timers .eights);
+      ta = h .core .timers .ta;
+      tb = h .core .timers .tb;
+    };
+    ports = written-valid (m .core .ports) n v (h .core .ports) hv;
+    pins = h .core .pins;
+    mode = running-fits (m .core .mode) (m .core .ports) n v e;
+  };
+  ram = h .ram;
+}
+
+pub put-valid : (m : Machine) (w : Around) (p : Place) (v : ℕ) → Valid m → (T (isPort p) → m .core .mode ≡ Running) → v < 16 → Valid (putOf m w p v .machine)
+put-valid m w (Place.register Register.acc) v h e hv = regs-valid h (record { acc = hv; hr = h .core .regs .hr; lr = h .core .regs .lr })
+put-valid m w (Place.register Register.hr) v h e hv = regs-valid h (record { acc = h .core .regs .acc; hr = hv; lr = h .core .regs .lr })
+put-valid m w (Place.register Register.lr) v h e hv = regs-valid h (record { acc = h .core .regs .acc; hr = h .core .regs .hr; lr = hv })
+put-valid m w (Place.given g) v h e hv = h
+put-valid m w (Place.cell c) v h e hv = record { core = h .core; ram = set-nibble (m .ram) (cellOf (m .core) (w .insn) c) v (h .ram) hv }
+put-valid m w (Place.port p) v h e hv = port-valid m (portOf (m .core .regs) (w .insn) p) v h (e tt) hv
+put-valid m w (Place.pointer Pointer.sp) v h e hv = pointers-valid h (record { sp = hv; dp = h .core .ptrs .dp })
+put-valid m w (Place.pointer (Pointer.dp p)) v h e hv = pointers-valid h (record { sp = h .core .ptrs .sp; dp = part-put p (m .core .ptrs .dp) v (h .core .ptrs .dp) hv })
+put-valid m w (Place.pointer (Pointer.ta p)) v h e hv = timers-valid h (record { base = h .core .timers .base; eights = h .core .timers .eights; ta = part-put p (m .core .timers .ta) v (h .core .timers .ta) hv; tb = h .core .timers .tb })
+put-valid m w (Place.pointer (Pointer.tb p)) v h e hv = timers-valid h (record { base = h .core .timers .base; eights = h .core .timers .eights; ta = h .core .timers .ta; tb = part-put p (m .core .timers .tb) v (h .core .timers .tb) hv })
+put-valid m w (Place.rom g) v h e hv = h
+put-valid m w Place.mask v h e hv = record { core = record { regs = h .core .regs; pc = h .core .pc; ptrs = h .core .ptrs; ints = record { il = h .core .ints .il; il4 = h .core .ints .il4; mask = hv }; timers = h .core .timers; ports = h .core .ports; pins = h .core .pins; mode = h .core .mode }; ram = h .ram }

@@ -1,0 +1,186 @@
+-- What stands at a place that the operation column names, what reading it does besides, and what putting a nibble there does.
+-- Assumes nothing.
+use Prim.Native.Nat.{ℕ, _+_, _*_, _/_, _%_}
+use mathlib.Core.Bool.{Bool}
+use mathlib.Core.List.{List}
+use lib.Dec.{eqb, ltb}
+use lib.ListN.{getD, set}
+use Rattle.laws.specs.Choice.{pick}
+use Rattle.numbers.specs.ComesBack.{absent-ram-address}
+use Rattle.sheet.specs.Operation.{Register, Given, Cell, Port, Part, Pointer, Half, Place}
+use Rattle.sheet.specs.declared.Insn.{Insn}
+use Rattle.bits.specs.Bits.{bitOf}
+use Rattle.ports.specs.Ports.{latchOf, readPort, writePort, enters, modeAfter}
+use Rattle.ports.specs.declared.Ports.{Ports}
+use Rattle.ports.specs.declared.Mode.{Mode}
+use Rattle.machine.specs.Ram.{bankOf, atHL, atX, besideX, atY}
+use Rattle.machine.specs.declared.Registers.{Registers}
+use Rattle.machine.specs.declared.Pointers.{Pointers}
+use Rattle.machine.specs.declared.Interrupts.{Interrupts}
+use Rattle.machine.specs.declared.Timers.{Timers}
+use Rattle.machine.specs.declared.Core.{Core}
+use Rattle.machine.specs.declared.Machine.{Machine}
+
+-- the record with one part anew
+abbrev pub withRegisters : Machine → Registers → Machine
+withRegisters m r = record { core = record { regs = r; pc = m .core .pc; ptrs = m .core .ptrs; ints = m .core .ints; timers = m .core .timers; ports = m .core .ports; pins = m .core .pins; mode = m .core .mode }; ram = m .ram }
+
+abbrev pub withPc : Machine → ℕ → Machine
+withPc m pc = record { core = record { regs = m .core .regs; pc = pc; ptrs = m .core .ptrs; ints = m .core .ints; timers = m .core .timers; ports = m .core .ports; pins = m .core .pins; mode = m .core .mode }; ram = m .ram }
+
+abbrev pub withPointers : Machine → Pointers → Machine
+withPointers m p = record { core = record { regs = m .core .regs; pc = m .core .pc; ptrs = p; ints = m .core .ints; timers = m .core .timers; ports = m .core .ports; pins = m .core .pins; mode = m .core .mode }; ram = m .ram }
+
+abbrev pub withInterrupts : Machine → Interrupts → Machine
+withInterrupts m i = record { core = record { regs = m .core .regs; pc = m .core .pc; ptrs = m .core .ptrs; ints = i; timers = m .core .timers; ports = m .core .ports; pins = m .core .pins; mode = m .core .mode }; ram = m .ram }
+
+abbrev pub withTimers : Machine → Timers → Machine
+withTimers m t = record { core = record { regs = m .core .regs; pc = m .core .pc; ptrs = m .core .ptrs; ints = m .core .ints; timers = t; ports = m .core .ports; pins = m .core .pins; mode = m .core .mode }; ram = m .ram }
+
+abbrev pub withPorts : Machine → Ports → Machine
+withPorts m p = record { core = record { regs = m .core .regs; pc = m .core .pc; ptrs = m .core .ptrs; ints = m .core .ints; timers = m .core .timers; ports = p; pins = m .core .pins; mode = m .core .mode }; ram = m .ram }
+
+abbrev pub withMode : Machine → Mode → Machine
+withMode m o = record { core = record { regs = m .core .regs; pc = m .core .pc; ptrs = m .core .ptrs; ints = m .core .ints; timers = m .core .timers; ports = m .core .ports; pins = m .core .pins; mode = o }; ram = m .ram }
+
+abbrev pub withRam : Machine → List ℕ → Machine
+withRam m l = record { core = m .core; ram = l }
+
+-- what is around a row: the ROM by address, the option SOUND, and the instruction with its operands
+pub record Around : Type 0 where
+  pub rom : ℕ → ℕ
+  pub sound : Bool
+  pub insn : Insn
+
+-- a stop of document 01's table or 0, and the nibble; a stop or 0, and the record
+pub record Got : Type 0 where
+  pub stop : ℕ
+  pub value : ℕ
+
+pub record Put : Type 0 where
+  pub stop : ℕ
+  pub machine : Machine
+
+abbrev pub found : ℕ → Got
+found v = record { stop = 0; value = v }
+
+abbrev pub stopped : ℕ → Got
+stopped n = record { stop = n; value = 0 }
+
+abbrev pub there : Machine → Put
+there m = record { stop = 0; machine = m }
+
+abbrev pub registerOf : Registers → Register → ℕ
+registerOf r Register.acc = r .acc
+registerOf r Register.hr = r .hr
+registerOf r Register.lr = r .lr
+
+-- a bit is named by its weight
+abbrev pub weightOf : ℕ → ℕ
+weightOf n = pick (eqb n 0) 1 (pick (eqb n 1) 2 (pick (eqb n 2) 4 8))
+
+abbrev pub givenOf : Registers → Insn → Given → ℕ
+givenOf r i Given.nothing = 0
+givenOf r i Given.operand-k = i .a
+givenOf r i Given.unit = 1
+givenOf r i Given.bit-b = weightOf (i .a)
+givenOf r i Given.bit-l = weightOf (r .lr % 4)
+givenOf r i Given.cf = bitOf (r .cf)
+givenOf r i Given.zf = bitOf (r .zf)
+
+abbrev pub cellOf : Core → Insn → Cell → ℕ
+cellOf m i Cell.by-hl = atHL m
+cellOf m i Cell.by-x = atX m (i .a)
+cellOf m i Cell.beside-x = besideX m (i .a)
+cellOf m i Cell.by-y = atY (i .b)
+
+-- the number of a port: p, or LR 3..2 + 4
+abbrev pub portOf : Registers → Insn → Port → ℕ
+portOf r i Port.pins-p = i .b
+portOf r i Port.pins-l = r .lr / 4 + 4
+portOf r i Port.latch-p = i .b
+portOf r i Port.latch-l = r .lr / 4 + 4
+
+abbrev pub partOf : Part → ℕ → ℕ
+partOf Part.low n = n % 16
+partOf Part.middle n = n / 16 % 16
+partOf Part.high n = n / 256 % 16
+
+abbrev pub pointerOf : Core → Pointer → ℕ
+pointerOf m Pointer.sp = m .ptrs .sp
+pointerOf m (Pointer.dp p) = partOf p (m .ptrs .dp)
+pointerOf m (Pointer.ta p) = partOf p (m .timers .ta)
+pointerOf m (Pointer.tb p) = partOf p (m .timers .tb)
+
+-- "Timer, DP and SP rows need P9.3 = 0, else 31."
+abbrev pub inBank0 : {A : Type 0} → Core → A → A → A
+inBank0 m a b = pick (eqb (bankOf m) 0) a b
+
+abbrev pub halfOf : Half → ℕ → ℕ
+halfOf Half.low-half b = b % 16
+halfOf Half.high-half b = b / 16
+
+-- what reading a port gives: its pins, or its latch
+abbrev pub portGot : Machine → Around → Port → Got
+portGot m w Port.pins-p = record { stop = readPort (w .sound) (m .core .pins) (m .core .ports) (w .insn .b) .stop; value = readPort (w .sound) (m .core .pins) (m .core .ports) (w .insn .b) .value }
+portGot m w Port.pins-l = record { stop = readPort (w .sound) (m .core .pins) (m .core .ports) (m .core .regs .lr / 4 + 4) .stop; value = readPort (w .sound) (m .core .pins) (m .core .ports) (m .core .regs .lr / 4 + 4) .value }
+portGot m w Port.latch-p = found (latchOf (m .core .ports) (w .insn .b))
+portGot m w Port.latch-l = found (latchOf (m .core .ports) (m .core .regs .lr / 4 + 4))
+
+-- "LDAX reads ROM at 1000h + DP"
+abbrev pub getOf : Machine → Around → Place → Got
+getOf m w (Place.register r) = found (registerOf (m .core .regs) r)
+getOf m w (Place.given g) = found (givenOf (m .core .regs) (w .insn) g)
+getOf m w (Place.cell c) = pick (ltb (cellOf (m .core) (w .insn) c) 372) (found (getD (m .ram) (cellOf (m .core) (w .insn) c) 0)) (stopped absent-ram-address)
+getOf m w (Place.port p) = portGot m w p
+getOf m w (Place.pointer p) = inBank0 (m .core) (found (pointerOf (m .core) p)) (stopped absent-ram-address)
+getOf m w (Place.rom h) = found (halfOf h ((w .rom) (0x1000 + m .core .ptrs .dp)))
+getOf m w Place.mask = found (m .core .ints .mask)
+
+-- "Reading or testing P4 or P8 .. sets the latch to 15"
+abbrev pub portTouched : Machine → Around → Port → Machine
+portTouched m w Port.pins-p = withPorts m (readPort (w .sound) (m .core .pins) (m .core .ports) (w .insn .b) .ports)
+portTouched m w Port.pins-l = withPorts m (readPort (w .sound) (m .core .pins) (m .core .ports) (m .core .regs .lr / 4 + 4) .ports)
+portTouched m w Port.latch-p = m
+portTouched m w Port.latch-l = m
+
+abbrev pub touched : Machine → Around → Place → Machine
+touched m w (Place.register r) = m
+touched m w (Place.given g) = m
+touched m w (Place.cell c) = m
+touched m w (Place.port p) = portTouched m w p
+touched m w (Place.pointer p) = m
+touched m w (Place.rom h) = m
+touched m w Place.mask = m
+
+abbrev pub registerPut : Registers → Register → ℕ → Registers
+registerPut r Register.acc v = record { acc = v; hr = r .hr; lr = r .lr; cf = r .cf; zf = r .zf; sf = r .sf }
+registerPut r Register.hr v = record { acc = r .acc; hr = v; lr = r .lr; cf = r .cf; zf = r .zf; sf = r .sf }
+registerPut r Register.lr v = record { acc = r .acc; hr = r .hr; lr = v; cf = r .cf; zf = r .zf; sf = r .sf }
+
+abbrev pub partPut : Part → ℕ → ℕ → ℕ
+partPut Part.low n v = n / 16 * 16 + v
+partPut Part.middle n v = n / 256 * 256 + v * 16 + n % 16
+partPut Part.high n v = v * 256 + n % 256
+
+abbrev pub pointerPut : Machine → Pointer → ℕ → Machine
+pointerPut m Pointer.sp v = withPointers m (record { sp = v; dp = m .core .ptrs .dp })
+pointerPut m (Pointer.dp p) v = withPointers m (record { sp = m .core .ptrs .sp; dp = partPut p (m .core .ptrs .dp) v })
+pointerPut m (Pointer.ta p) v = withTimers m (record { base = m .core .timers .base; ta = partPut p (m .core .timers .ta) v; tb = m .core .timers .tb })
+pointerPut m (Pointer.tb p) v = withTimers m (record { base = m .core .timers .base; ta = m .core .timers .ta; tb = partPut p (m .core .timers .tb) v })
+
+-- "Writing P16 with bit 2 set enters hold .. or sleep; the time base becomes 0"
+abbrev pub baseAfter : ℕ → ℕ → ℕ → ℕ
+baseAfter base n v = pick (enters n v) 0 base
+
+abbrev pub portWritten : Machine → ℕ → ℕ → Machine
+portWritten m n v = record { core = record { regs = m .core .regs; pc = m .core .pc; ptrs = m .core .ptrs; ints = m .core .ints; timers = record { base = baseAfter (m .core .timers .base) n v; ta = m .core .timers .ta; tb = m .core .timers .tb }; ports = writePort (m .core .ports) n v .ports; pins = m .core .pins; mode = modeAfter (m .core .mode) n v }; ram = m .ram }
+
+abbrev pub putOf : Machine → Around → Place → ℕ → Put
+putOf m w (Place.register r) v = there (withRegisters m (registerPut (m .core .regs) r v))
+putOf m w (Place.given g) v = there m
+putOf m w (Place.cell c) v = record { stop = pick (ltb (cellOf (m .core) (w .insn) c) 372) 0 absent-ram-address; machine = withRam m (set (m .ram) (cellOf (m .core) (w .insn) c) v) }
+putOf m w (Place.port p) v = record { stop = writePort (m .core .ports) (portOf (m .core .regs) (w .insn) p) v .stop; machine = portWritten m (portOf (m .core .regs) (w .insn) p) v }
+putOf m w (Place.pointer p) v = record { stop = inBank0 (m .core) 0 absent-ram-address; machine = pointerPut m p v }
+putOf m w (Place.rom h) v = there m
+putOf m w Place.mask v = there (withInterrupts m (record { ei = m .core .ints .ei; il = m .core .ints .il; mask = v }))

@@ -1,0 +1,26 @@
+-- What a row that moves the scalars and perhaps RAM gives, held against the table's definition.
+-- Assumes nothing.
+use Prim.Native.Nat.{ℕ}
+use mathlib.Core.Bool.{Bool}
+use mathlib.Core.List.{List}
+use mathlib.Core.Path.{_≡_}
+use Rattle.sheet.specs.Reading.{insn}
+use Rattle.machine.specs.declared.Core.{Core}
+use Rattle.row.specs.Rows.{Done, executed}
+use Rattle.row_registers.specs.Quiet.{assembled}
+use Rattle.row_control.specs.declared.Turn.{Turn}
+
+abbrev pub doneAs : Turn → List ℕ → Done
+doneAs x k = record { stop = x .stop; cycles = x .cycles; machine = assembled (x .core) k }
+
+-- the row with its operand takes RAM from l to k and gives what x says, whatever ROM, SOUND and the other operand are
+pub record Turns (m : Core) (row a : ℕ) (l k : List ℕ) (x : Turn) : Type 0 where
+  pub same : (rom : ℕ → ℕ) (sound : Bool) (b : ℕ) → doneAs x k ≡ executed (record { rom = rom; sound = sound; insn = insn row a b }) (assembled m l)
+
+-- the row leaves RAM as it was, whatever it is
+pub record Keeps (m : Core) (row a : ℕ) (x : Turn) : Type 0 where
+  pub turns : (l : List ℕ) → Turns m row a l l x
+
+-- the row on RAM l has no operand, and leaves RAM as it was
+pub record Reads (m : Core) (row : ℕ) (l : List ℕ) (x : Turn) : Type 0 where
+  pub turns : (a : ℕ) → Turns m row a l l x

@@ -1,0 +1,58 @@
+// CIL, DICIL, EICIL and EXAE: the latches IL, EI, and the mask.
+use crate::Turn;
+use machine::Core;
+use sheet::rows;
+ghost use mathlib.Core.Path.{_≡_};
+ghost use mathlib.Core.Bool.{true};
+ghost use Prim.Native.Nat.{_<_};
+ghost use Rattle.laws.specs.Among.{among};
+ghost use Rattle.row_control.specs.Groups.{latches};
+ghost use Rattle.row_control.specs.Latches.{latched, exchanged};
+ghost use Rattle.row_control.specs.Turns.{Keeps};
+
+// "IL←IL & r", with EI as the row leaves it.
+fn latched(m: Core, ei: bool, r: u8) -> Turn
+    requires { ⌜ m .pc < 8192 ⌝ }
+    ensures { λ x. ⌜ x ≡ latched m ei r ⌝ }
+{
+    let il = m.ints.il & r;
+    let mut after = m;
+    after.regs.sf = true;
+    after.pc = (m.pc + 2) % 8192;
+    after.ints.ei = ei;
+    after.ints.il = il;
+    Turn {
+        stop: 0,
+        cycles: 2,
+        core: after,
+    }
+}
+
+// EXAE: ACC and the mask change places.
+fn exchanged(m: Core) -> Turn
+    requires { ⌜ m .pc < 8192 ⌝ }
+    ensures { λ x. ⌜ x ≡ exchanged m ⌝ }
+{
+    let mut after = m;
+    after.regs.acc = m.ints.mask;
+    after.regs.sf = true;
+    after.pc = (m.pc + 1) % 8192;
+    after.ints.mask = m.regs.acc;
+    Turn {
+        stop: 0,
+        cycles: 1,
+        core: after,
+    }
+}
+
+pub fn latch(m: Core, row: u8, r: u8) -> Turn
+    requires { ⌜ (m .pc < 8192) × (among latches row ≡ true) ⌝ }
+    ensures { λ x. ⌜ Keeps m row r x ⌝ }
+{
+    match row {
+        rows::CIL => latched(m, m.ints.ei, r),
+        rows::DICIL => latched(m, false, r),
+        rows::EICIL => latched(m, true, r),
+        _ => exchanged(m),
+    }
+}

@@ -1,0 +1,46 @@
+-- What executing a row gives, held against the table's definition.
+-- Assumes nothing.
+use Prim.Native.Nat.{ℕ}
+use mathlib.Core.Bool.{Bool}
+use mathlib.Core.List.{List}
+use mathlib.Core.Path.{_≡_}
+use Rattle.sheet.specs.Fields.{InFields}
+use Rattle.sheet.specs.declared.Insn.{Insn}
+use Rattle.machine.specs.Valid.{ValidCore, Nibbles}
+use Rattle.machine.specs.declared.Core.{Core}
+use Rattle.row.specs.Rows.{executed}
+use Rattle.row_registers.specs.Quiet.{assembled, afterAct}
+use Rattle.row_ends.specs.declared.Act.{Act}
+use Rattle.row_ram.specs.Cells.{Does}
+use Rattle.row_pointers.specs.Pointed.{afterPointer}
+use Rattle.row_pointers.specs.declared.Pointed.{Pointed}
+use Rattle.row_control.specs.Turns.{doneAs}
+use Rattle.row_control.specs.declared.Turn.{Turn}
+
+-- what executing a row asks: a valid record with RAM l, and an instruction of the sheet
+pub record Ready (m : Core) (l : List ℕ) (i : Insn) : Type 0 where
+  pub core : ValidCore m
+  pub ram : Nibbles l
+  pub insn : InFields i
+
+-- the row in its surroundings takes RAM from l to k and gives what x says
+pub record Performs (rom : ℕ → ℕ) (sound : Bool) (m : Core) (i : Insn) (l k : List ℕ) (x : Turn) : Type 0 where
+  pub same : doneAs x k ≡ executed (record { rom = rom; sound = sound; insn = i }) (assembled m l)
+
+-- whatever the ROM is
+pub record Shifts (sound : Bool) (m : Core) (i : Insn) (l k : List ℕ) (x : Turn) : Type 0 where
+  pub performs : (rom : ℕ → ℕ) → Performs rom sound m i l k x
+
+-- the row leaves RAM as it was, whatever RAM, ROM and SOUND are
+pub record Settles (m : Core) (i : Insn) (x : Act) : Type 0 where
+  pub does : (l : List ℕ) → Does m (i .row) (i .a) (i .b) l l x
+
+-- the scalars after a row that changes PC and the registers, or the pointers and the timers too
+abbrev pub turnOf : Core → Act → Turn
+turnOf m x = record { stop = x .stop; cycles = x .cycles; core = afterAct m x }
+
+abbrev pub turnBy : Core → Pointed → Turn
+turnBy m x = record { stop = x .act .stop; cycles = x .act .cycles; core = afterPointer m (x .act) (x .ptrs) (x .timers) }
+
+pub record Points (rom : ℕ → ℕ) (m : Core) (i : Insn) (x : Pointed) : Type 0 where
+  pub performs : (sound : Bool) (l : List ℕ) → Performs rom sound m i l l (turnBy m x)

@@ -1,0 +1,24 @@
+-- `pointers::loads::load_pointer` meets its contract.
+-- Assumes nothing.
+use borrow.Author.Needs.{needs}
+use borrow.Author.Tests.{ne-eqb}
+use Rattle.row_pointers.specs.Groups.{loadPointer}
+use Rattle.laws.proofs.Among.{at-each}
+use Rattle.row_pointers.proofs.Loading.{Stops, load-pointer-stops}
+use Rattle.row_pointers.proofs.loads.load_pointer.Statement.{statement}
+use Rattle.row_pointers.proofs.loads.load_pointer.Tie as tie
+
+from-pointer-requires : tie.Need-from-pointer-requires
+from-pointer-requires c κs = search needs
+
+returns : tie.Need-returns
+returns c = search needs
+
+stopped-requires : tie.Need-stopped-requires
+stopped-requires c κs = search needs
+
+returns-2 : tie.Need-returns-2
+returns-2 c = rw (c .stopped .ensures) (at-each (Stops _) loadPointer (load-pointer-stops _ (ne-eqb _ 0 (c .before .if1 .left))) _ (c .before .before .before .pre .listed))
+
+pub load-pointer-spec : {M : Type 1} → statement M
+load-pointer-spec = tie.close (tie.spec from-pointer-requires returns stopped-requires returns-2)

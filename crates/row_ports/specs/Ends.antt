@@ -1,0 +1,74 @@
+-- The ends of the rows of ports: a port written, its latch with a bit set or clear, a port read into SF or ACC, and the stop.
+-- Assumes nothing.
+use Prim.Native.Nat.{ℕ, _+_, _%_}
+use mathlib.Core.Bool.{Bool, true, false, not}
+use lib.Dec.{eqb}
+use Rattle.laws.specs.Choice.{pick}
+use Rattle.bits.specs.Bits.{hasBit, withBit, withoutBit}
+use Rattle.alu.specs.Making.{plain}
+use Rattle.ports.specs.Ports.{latchOf, readPort, writePort, modeAfter}
+use Rattle.ports.specs.declared.Ports.{Ports}
+use Rattle.ports.specs.declared.PortRead.{PortRead}
+use Rattle.machine.specs.declared.Core.{Core}
+use Rattle.row.specs.Places.{baseAfter}
+use Rattle.row_ends.specs.declared.Act.{Act}
+use Rattle.row_ends.specs.Ends.{tested, accLogical}
+use Rattle.row_control.specs.declared.Turn.{Turn}
+
+-- "A stop gives the record from before that step .. and zero cycles for it."
+abbrev pub stopped : Core → ℕ → Turn
+stopped m number = record { stop = number; cycles = 0; core = m }
+
+-- - - 1, past a row of so many bytes that writes v to port n
+abbrev pub wrote : Core → ℕ → ℕ → ℕ → Core
+wrote m n v bytes = record {
+  regs = record { acc = m .regs .acc; hr = m .regs .hr; lr = m .regs .lr; cf = m .regs .cf; zf = m .regs .zf; sf = true };
+  pc = (m .pc + bytes) % 8192;
+  ptrs = m .ptrs;
+  ints = m .ints;
+  timers = record { base = baseAfter (m .timers .base) n v; ta = m .timers .ta; tb = m .timers .tb };
+  ports = writePort (m .ports) n v .ports;
+  pins = m .pins;
+  mode = modeAfter (m .mode) n v;
+}
+
+-- every row of ports takes two cycles
+unfoldable pub written : Core → ℕ → ℕ → ℕ → Turn
+written m n v bytes =
+    pick (eqb (writePort (m .ports) n v .stop) 0)
+    (record { stop = 0; cycles = 2; core = wrote m n v bytes })
+    (stopped m (writePort (m .ports) n v .stop))
+
+-- "Set and clear use the latch."
+abbrev pub bitSet : Core → ℕ → ℕ → ℕ → Turn
+bitSet m n w bytes = written m n (withBit (latchOf (m .ports) n) w) bytes
+
+abbrev pub bitCleared : Core → ℕ → ℕ → ℕ → Turn
+bitCleared m n w bytes = written m n (withoutBit (latchOf (m .ports) n) w) bytes
+
+abbrev pub portRead : Bool → Core → ℕ → PortRead
+portRead sound m n = readPort sound (m .pins) (m .ports) n
+
+-- the scalars with PC and the registers that a row leaves, and these latches
+abbrev pub left : Core → Act → Ports → Turn
+left m x p = record {
+  stop = x .stop;
+  cycles = x .cycles;
+  core = record { regs = x .regs; pc = x .pc; ptrs = m .ptrs; ints = m .ints; timers = m .timers; ports = p; pins = m .pins; mode = m .mode };
+}
+
+-- a row that read what r says: its stop, or what the row makes of the value
+unfoldable pub afterRead : Core → PortRead → Act → Turn
+afterRead m r x = pick (eqb (r .stop) 0) (left m x (r .ports)) (stopped m (r .stop))
+
+-- the bit of weight w is 1, or it is 0
+abbrev pub answered : Bool → ℕ → ℕ → Bool
+answered one v w = pick one (hasBit v w) (not (hasBit v w))
+
+-- - - *
+abbrev pub portTested : Bool → Core → ℕ → ℕ → Bool → ℕ → Turn
+portTested sound m n w one bytes = afterRead m (portRead sound m n) (tested m (answered one (portRead sound m n .value) w) bytes 2)
+
+-- - Z Z'
+abbrev pub portLoaded : Bool → Core → ℕ → Turn
+portLoaded sound m n = afterRead m (portRead sound m n) (accLogical m (plain (portRead sound m n .value) false) 2 2)

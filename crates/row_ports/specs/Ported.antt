@@ -1,0 +1,81 @@
+-- What a row of the ports gives, held against the table's definition, and what it asks.
+-- Assumes nothing.
+use Prim.Native.Nat.{ℕ, _<_}
+use mathlib.Core.Bool.{Bool, true}
+use mathlib.Core.List.{List}
+use mathlib.Core.Path.{_≡_}
+use Rattle.laws.specs.Among.{among}
+use Rattle.sheet.specs.Reading.{insn}
+use Rattle.ports.specs.Ports.{latchOf}
+use Rattle.ports.specs.declared.Ports.{Ports}
+use Rattle.machine.specs.Valid.{ValidRegisters, ValidPorts, Nibbles}
+use Rattle.machine.specs.declared.Core.{Core}
+use Rattle.row.specs.Rows.{executed}
+use Rattle.row_registers.specs.Quiet.{assembled}
+use Rattle.row_control.specs.Turns.{doneAs}
+use Rattle.row_control.specs.declared.Turn.{Turn}
+use Rattle.row_ports.specs.Groups.{writing, reading}
+
+-- the row with its operands takes RAM from l to k and gives what x says, whatever the ROM is
+pub record Ported (sound : Bool) (m : Core) (row a b : ℕ) (l k : List ℕ) (x : Turn) : Type 0 where
+  pub same : (rom : ℕ → ℕ) → doneAs x k ≡ executed (record { rom = rom; sound = sound; insn = insn row a b }) (assembled m l)
+
+-- and leaves RAM as it was, whatever RAM and SOUND are
+pub record Writes (m : Core) (row a b : ℕ) (x : Turn) : Type 0 where
+  pub ported : (sound : Bool) (l : List ℕ) → Ported sound m row a b l l x
+
+pub record Reads (sound : Bool) (m : Core) (row a b : ℕ) (x : Turn) : Type 0 where
+  pub ported : (l : List ℕ) → Ported sound m row a b l l x
+
+-- INM and OUTM, which have no operand but p
+pub record ToCell (sound : Bool) (m : Core) (b : ℕ) (l k : List ℕ) (x : Turn) : Type 0 where
+  pub ported : (a : ℕ) → Ported sound m 75 a b l k x
+
+pub record FromCell (m : Core) (b : ℕ) (l : List ℕ) (x : Turn) : Type 0 where
+  pub ported : (sound : Bool) (a : ℕ) → Ported sound m 78 a b l l x
+
+-- what a row that writes a port asks
+pub record WriteFits (m : Core) (row b : ℕ) : Type 0 where
+  pub regs : ValidRegisters (m .regs)
+  pub pc : m .pc < 8192
+  pub ports : ValidPorts (m .ports)
+  pub port : b < 32
+  pub listed : among writing row ≡ true
+
+-- what a row that reads a port asks
+pub record ReadFits (m : Core) (row b : ℕ) : Type 0 where
+  pub regs : ValidRegisters (m .regs)
+  pub pc : m .pc < 8192
+  pub pins : m .pins .p4 < 2
+  pub port : b < 32
+  pub listed : among reading row ≡ true
+
+-- what INM and OUTM ask
+pub record ToCellFits (m : Core) (b : ℕ) : Type 0 where
+  pub pc : m .pc < 8192
+  pub pins : m .pins .p4 < 2
+  pub port : b < 32
+
+pub record FromCellFits (m : Core) (b : ℕ) (l : List ℕ) : Type 0 where
+  pub pc : m .pc < 8192
+  pub port : b < 32
+  pub ram : Nibbles l
+
+-- what a latch holds
+pub record Held (p : Ports) (n r : ℕ) : Type 0 where
+  pub value : r ≡ latchOf p n
+  pub nibble : r < 16
+
+-- port n, and the weight of a bit of it
+pub record Names (m : Core) (n w : ℕ) : Type 0 where
+  pub pc : m .pc < 8192
+  pub ports : ValidPorts (m .ports)
+  pub port : n < 32
+  pub some : 0 < w
+  pub small : w < 9
+
+-- port n, to be read
+pub record Readable (m : Core) (n : ℕ) : Type 0 where
+  pub pc : m .pc < 8192
+  pub pins : m .pins .p4 < 2
+  pub port : n < 32

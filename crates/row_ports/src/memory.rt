@@ -1,0 +1,46 @@
+// INM and OUTM: a port and the nibble of RAM by HL. Of two stops it is the first by "the order is the table's": 31 before 33 and 34.
+use crate::ends::left;
+use crate::ends::stopped;
+use crate::ends::written;
+use machine::Core;
+use machine::ram::at_hl;
+use machine::ram::peek;
+use machine::ram::poke;
+use ports::read_port;
+use row_ends::tested;
+use row_control::Turn;
+ghost use Rattle.row_ports.specs.Ported.{ToCell, FromCell, ToCellFits, FromCellFits};
+
+// INM: - - Z'
+pub fn read_to_cell(sound: bool, m: Core, ram: &mut [u8; 372], b: u8) -> Turn
+    requires { ⌜ ToCellFits m b ⌝ }
+    ensures { λ x. ⌜ ToCell sound m b (now (ram .entry)) (now (ram .exit)) x ⌝ }
+{
+    let at = at_hl(m);
+    let pins = m.pins;
+    let before = m.ports;
+    let r = read_port(sound, pins, before, b);
+    let stop = r.stop;
+    if at >= 372 {
+        return stopped(m, 31);
+    }
+    if stop != 0 {
+        return stopped(m, stop);
+    }
+    poke(ram, at, r.value);
+    let ports = r.ports;
+    left(m, tested(m, r.value != 0, 2, 2), ports)
+}
+
+// OUTM: - - 1
+pub fn write_from_cell(m: Core, ram: &[u8; 372], b: u8) -> Turn
+    requires { ⌜ FromCellFits m b (now ram) ⌝ }
+    ensures { λ x. ⌜ FromCell m b (now (ram .entry)) x ⌝ }
+{
+    let at = at_hl(m);
+    if at < 372 {
+        let v = peek(ram, at);
+        return written(m, b, v, 2);
+    }
+    stopped(m, 31)
+}

@@ -1,0 +1,46 @@
+// The rows that read the nibble by y.
+use alu::minus;
+use bits::has_bit;
+use machine::Core;
+use machine::ram::at_y;
+use machine::ram::peek;
+use row_registers::weight;
+use row_ends::Act;
+use row_ends::compared;
+use row_ends::stopped;
+use row_ends::tested;
+use sheet::Insn;
+use sheet::rows;
+ghost use mathlib.Core.Path.{_≡_};
+ghost use mathlib.Core.Bool.{true};
+ghost use Prim.Native.Nat.{_<_};
+ghost use Rattle.sheet.specs.Operation.Cell.{by-y};
+ghost use Rattle.row_registers.specs.Quiet.{Low};
+ghost use Rattle.laws.specs.Among.{among};
+ghost use Rattle.row_ram.specs.Groups.{readByY};
+ghost use Rattle.row_ram.specs.Cells.{Reads, Does, Fits};
+
+// v is the nibble at y. The row that is none of those named is CMP.
+fn reading(m: Core, row: u8, a: u8, v: u8) -> Act
+    requires { ⌜ (Low m a) × ((v < 16) × (among readByY row ≡ true)) ⌝ }
+    ensures { λ x. ⌜ Reads by-y m row a v x ⌝ }
+{
+    match row {
+        rows::TT => tested(m, has_bit(v, weight(a)), 2, 2),
+        rows::TF => tested(m, !has_bit(v, weight(a)), 2, 2),
+        _ => compared(m, minus(a, v, m.regs.cf), 2, 2),
+    }
+}
+
+// The row on the RAM that is lent.
+pub fn read_by_y(m: Core, ram: &[u8; 372], i: Insn) -> Act
+    requires { ⌜ Fits readByY 16 m i (now ram) ⌝ }
+    ensures { λ x. ⌜ Does m (i .row) (i .a) (i .b) (now (ram .entry)) (now (ram .entry)) x ⌝ }
+{
+    let at = at_y(i.b);
+    if at < 372 {
+        let v = peek(ram, at);
+        return reading(m, i.row, i.a as u8, v);
+    }
+    stopped(m, 31)
+}

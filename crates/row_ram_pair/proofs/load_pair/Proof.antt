@@ -1,0 +1,59 @@
+-- `pairs::load_pair` meets its contract.
+-- Assumes nothing.
+use mathlib.Core.Path.{refl}
+use borrow.Author.Needs.{needs}
+use Rattle.row_ram.proofs.Around.{stopped-there}
+use Rattle.row_ram_pair.specs.Groups.{loads}
+use Rattle.row_ram_pair.proofs.Rows.{absent-loaded, absent-loaded-beside}
+use Rattle.row_ram_pair.proofs.Around.{loaded-there}
+use Rattle.row_ram_pair.proofs.load_pair.Statement.{statement}
+use Rattle.row_ram_pair.proofs.load_pair.Tie as tie
+
+at-x-requires : tie.Need-at-x-requires
+at-x-requires c κs = search needs
+
+add-at-x : tie.Need-add-at-x
+add-at-x c = search needs
+
+at-x-requires-2 : tie.Need-at-x-requires-2
+at-x-requires-2 c κs = search needs
+
+stopped-requires : tie.Need-stopped-requires
+stopped-requires c κs = search needs
+
+returns : tie.Need-returns
+returns c = stopped-there _ loads _ _ _ _ _ _ _ (c .before .before .before .before .at-x .ensures) (c .before .if1 .taken) (c .stopped .ensures) (absent-loaded _ _ _ _ _ refl) (c .before .before .before .before .before .pre .row)
+
+stopped-requires-2 : tie.Need-stopped-requires-2
+stopped-requires-2 c κs = search needs
+
+returns-2 : tie.Need-returns-2
+returns-2 c = stopped-there _ loads _ _ _ _ _ _ _ (c .before .before .before .at-x2 .ensures) (c .before .if2 .taken) (c .stopped2 .ensures) (absent-loaded-beside _ _ _ _ _ refl) (c .before .before .before .before .before .before .pre .row)
+
+peek-requires : tie.Need-peek-requires
+peek-requires c κs = search needs
+
+peek-requires-2 : tie.Need-peek-requires-2
+peek-requires-2 c κs = search needs
+
+hl-loaded-requires : tie.Need-hl-loaded-requires
+hl-loaded-requires c κs = search needs
+
+returns-3 : tie.Need-returns-3
+returns-3 c = loaded-there _ _ _ _ _ _ _ _ _ _ (c .before .before .before .before .before .before .before .at-x .ensures) (c .before .before .before .before .if1 .left) (c .before .before .before .before .before .at-x2 .ensures) (c .before .before .before .if2 .left) (c .before .before .before .before .before .before .before .before .pre .row) (c .before .peek2 .ensures) (c .before .before .peek .ensures) (c .hl-loaded .ensures)
+
+pub load-pair-spec : {M : Type 1} → statement M
+load-pair-spec =
+    tie.close
+    (tie.spec
+    at-x-requires
+    add-at-x
+    at-x-requires-2
+    stopped-requires
+    returns
+    stopped-requires-2
+    returns-2
+    peek-requires
+    peek-requires-2
+    hl-loaded-requires
+    returns-3)

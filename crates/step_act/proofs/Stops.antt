@@ -1,0 +1,46 @@
+-- A turn that stops leaves the record as it was; what acts leaves RAM.
+-- Assumes nothing.
+use mathlib.Core.Path.{_≡_, refl, ap}
+use mathlib.Core.Bool.{Bool, true, false}
+use Prim.Native.Nat.{ℕ}
+use lib.Dec.{leb, ltb}
+use Rattle.laws.specs.Choice.{pick, both}
+use Rattle.numbers.specs.ComesBack.{stack-level}
+use Rattle.sheet.specs.Reading.{readAt}
+use Rattle.sheet.specs.Table.{lineAt}
+use Rattle.sheet.specs.declared.Read.{Read}
+use Rattle.machine.specs.Stack.{accepted}
+use Rattle.machine.specs.declared.Machine.{Machine}
+use Rattle.row.specs.Rows.{Done, spent, stops}
+use Rattle.row.proofs.Frame.{stop-undone}
+use Rattle.step_act.specs.Act.{sourceOf, acceptOf, runRead, runOne, turnOf, actOf}
+
+-- a stop keeps the record m
+abbrev Keeps : Machine → Done → Type 0
+Keeps m x = (x .stop ≡ 0 → ⊥) → x .machine ≡ m
+
+either-keeps : (m : Machine) (t : Bool) (x y : Done) → Keeps m x → Keeps m y → Keeps m (pick t x y)
+either-keeps m true x y h k = h
+either-keeps m false x y h k = k
+
+module _ (rom : ℕ → ℕ) (sound : Bool) (m : Machine) where
+  accept-keeps : (source : ℕ) → Keeps m (acceptOf m source)
+  unfolding acceptOf
+  accept-keeps source =
+      either-keeps m (both (leb 1 (m .core .ptrs .sp)) (leb (m .core .ptrs .sp) 13)) (spent 2 (accepted m source)) (stops stack-level m)
+      (λ z. absurd (z refl)) (λ z. refl)
+
+  read-keeps : (r : Read) → Keeps m (runRead rom sound m r)
+  read-keeps (Read.Row i) =
+      λ z. ap (λ (x : Done). x .machine) (stop-undone m (record { rom = rom; sound = sound; insn = i }) (lineAt (i .row)) (lineAt (i .row) .operation) z)
+  read-keeps Read.Unassigned = λ z. refl
+
+  pub turn-keeps : Keeps m (turnOf rom sound m)
+  unfolding turnOf runOne
+  turn-keeps =
+      either-keeps m (ltb (sourceOf (m .core)) 6) (acceptOf m (sourceOf (m .core))) (runOne rom sound m)
+      (accept-keeps (sourceOf (m .core))) (read-keeps (readAt rom (m .core .pc)))
+
+  pub act-keeps-ram : (actOf rom sound m .stop ≡ 0 → ⊥) → actOf rom sound m .machine .ram ≡ m .ram
+  unfolding actOf
+  act-keeps-ram z = ap (λ (n : Machine). n .ram) (turn-keeps z)

@@ -1,0 +1,21 @@
+-- `act::pass` meets its contract.
+-- Assumes nothing.
+use borrow.Author.Needs.{needs}
+use Rattle.step_act.proofs.ActValid.{time-in-range}
+use Rattle.step_act.proofs.pass.Statement.{statement}
+use Rattle.step_act.proofs.pass.Tie as tie
+
+has-bit-requires : tie.Need-has-bit-requires
+has-bit-requires c κs = search needs
+
+has-bit-requires-2 : tie.Need-has-bit-requires-2
+has-bit-requires-2 c κs = search needs
+
+pass-requires : tie.Need-pass-requires
+pass-requires c κs = (time-in-range _ (c .before .before .pre), c .before .before .pre .ports .p25)
+
+returns : tie.Need-returns
+returns c = rw (c .before .before .before .before .pass .ensures, c .before .before .before .before .before .before .has-bit .ensures, c .before .before .before .before .before .has-bit2 .ensures)
+
+pub pass-spec : {M : Type 1} → statement M
+pass-spec = tie.close (tie.spec has-bit-requires has-bit-requires-2 pass-requires returns)

@@ -1,0 +1,43 @@
+-- `act::run_one` meets its contract.
+-- Assumes nothing.
+use mathlib.Core.Path.{sym, _∙_}
+use denote.Ref.{now}
+use Rattle.sheet.specs.Reading.{romOf}
+use borrow.Author.Needs.{needs}
+use Rattle.reader.proofs.Rows.{read-in-fields}
+use Rattle.step_act.proofs.Acting.{none-read, row-read}
+use Rattle.step_act.proofs.run_one.Statement.{statement}
+use Rattle.step_act.proofs.run_one.Tie as tie
+
+read-at-requires : tie.Need-read-at-requires
+read-at-requires c κs = search needs
+
+enum-known-insn : tie.Need-enum-known-insn
+enum-known-insn c = search needs
+
+enum-told : tie.Need-enum-told
+enum-told c = search needs
+
+stopped-requires : tie.Need-stopped-requires
+stopped-requires c κs = search needs
+
+returns : tie.Need-returns
+returns c = rw (c .stopped .ensures) (none-read _ _ _ _ (sym (c .before .before .before .read-at .ensures) ∙ c .before .enum-told .given .1))
+
+perform-requires : tie.Need-perform-requires
+perform-requires c κs = (record { core = c .before .before .before .before .before .before .pre .0; ram = c .before .before .before .before .before .before .pre .1; insn = read-in-fields (romOf (now (c .before .before .before .before .before .before .args .image))) _ _ (sym (c .before .before .before .before .read-at .ensures) ∙ c .before .before .insn .given .1) (λ at. c .before .before .before .before .before .shared-slice-known .given at .fits) }, c .before .before .before .before .before .before .pre .2)
+
+returns-2 : tie.Need-returns-2
+returns-2 c = row-read _ _ _ _ _ _ _ (sym (c .before .before .before .before .before .read-at .ensures) ∙ c .before .before .before .insn .given .1) (c .perform .ensures)
+
+pub run-one-spec : {M : Type 1} → statement M
+run-one-spec =
+    tie.close
+    (tie.spec
+    read-at-requires
+    enum-known-insn
+    enum-told
+    stopped-requires
+    returns
+    perform-requires
+    returns-2)

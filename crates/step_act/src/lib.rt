@@ -1,0 +1,139 @@
+// What a running record does once it has seen the frame: it accepts an interrupt or executes one row, then time passes.
+use clock::Rates;
+use clock::Time;
+use due::due_source;
+use machine::Core;
+use machine::Machine;
+use row_dispatch::perform;
+use ports::Mode;
+use reader::read_at;
+use sheet::Read;
+use row_control::Turn;
+ghost use mathlib.Core.Path.{_≡_};
+ghost use Prim.Native.Nat.{_<_};
+ghost use lib.ListN.{length};
+ghost use Rattle.sheet.specs.Reading.{romOf};
+ghost use Rattle.machine.specs.Valid.{ValidCore, Nibbles};
+ghost use Rattle.step_act.specs.Act.{sourceOf, acceptOf, runOne, turnOf, coreAfter, timed, actOf};
+ghost use Rattle.step_act.specs.Gives.{Gives, Runs};
+
+// A stop, with the scalars as they were.
+fn stopped(m: Core, number: u8) -> Turn
+    ensures { λ x. ⌜ x ≡ record { stop = number; cycles = 0; core = m } ⌝ }
+{
+    Turn {
+        stop: number,
+        cycles: 0,
+        core: m,
+    }
+}
+
+// "A call or acceptance lowers SP first, so SP must be 1 to 13."
+fn accept(m: Core, ram: &mut [u8; 372], source: u8) -> Turn
+    requires { ⌜ (ValidCore m) × (source < 6) ⌝ }
+    ensures { λ x. ⌜ Gives (acceptOf (record { core = m; ram = now (ram .entry) }) source) (now (ram .exit)) x ⌝ }
+{
+    if m.ptrs.sp < 1 {
+        return stopped(m, 32);
+    }
+    if m.ptrs.sp > 13 {
+        return stopped(m, 32);
+    }
+    let held = *ram;
+    let machine = Machine { core: m, ram: held };
+    let after = machine.accept(source);
+    let kept = after.ram;
+    let core = after.core;
+    *ram = kept;
+    Turn {
+        stop: 0,
+        cycles: 2,
+        core: core,
+    }
+}
+
+// The row at PC, or stop 30.
+fn run_one(image: &[u8], sound: bool, m: Core, ram: &mut [u8; 372]) -> Turn
+    requires { ⌜ (ValidCore m) × (Nibbles (now ram)) × (length (now image) ≡ 8192) ⌝ }
+    ensures { λ x. ⌜ Gives (runOne (romOf (now (image .entry))) sound (record { core = m; ram = now (ram .entry) })) (now (ram .exit)) x ⌝ }
+{
+    let Read::Row(insn) = read_at(image, m.pc) else {
+        return stopped(m, 30);
+    };
+    perform(image, sound, m, ram, insn)
+}
+
+// The latch of the source that is due, 6 where none is or EI is clear.
+fn source(m: Core) -> u8
+    requires { ⌜ ValidCore m ⌝ }
+    ensures { λ r. ⌜ r ≡ sourceOf m ⌝ }
+{
+    if m.ints.ei {
+        return due_source(m.ints.il, m.ints.mask);
+    }
+    6
+}
+
+fn turn(image: &[u8], sound: bool, m: Core, ram: &mut [u8; 372]) -> Turn
+    requires { ⌜ (ValidCore m) × (Nibbles (now ram)) × (length (now image) ≡ 8192) ⌝ }
+    ensures { λ x. ⌜ Gives (turnOf (romOf (now (image .entry))) sound (record { core = m; ram = now (ram .entry) })) (now (ram .exit)) x ⌝ }
+{
+    let due = source(m);
+    if due < 6 {
+        return accept(m, ram, due);
+    }
+    run_one(image, sound, m, ram)
+}
+
+// Time for so many cycles, with the settings that the scalars have.
+fn pass(m: Core, n: u8) -> Core
+    requires { ⌜ ValidCore m ⌝ }
+    ensures { λ r. ⌜ r ≡ timed n m ⌝ }
+{
+    let t = Time {
+        base: m.timers.base,
+        ta: m.timers.ta,
+        tb: m.timers.tb,
+        il: m.ints.il,
+    };
+    let r = Rates {
+        p25: m.ports.p25,
+        p28: m.ports.p28,
+        p29: m.ports.p29,
+        p83: bits::has_bit(m.pins.p8, 8),
+        p81: bits::has_bit(m.pins.p8, 2),
+    };
+    let s = clock::pass(t, r, n);
+    let mut after = m;
+    after.timers.base = s.base;
+    after.timers.ta = s.ta;
+    after.timers.tb = s.tb;
+    after.ints.il = s.il;
+    after
+}
+
+fn after(m: Core, n: u8) -> Core
+    requires { ⌜ ValidCore m ⌝ }
+    ensures { λ r. ⌜ r ≡ coreAfter n m ⌝ }
+{
+    let mode = m.mode;
+    match mode {
+        Mode::Running => pass(m, n),
+        Mode::Sleep => m,
+        Mode::Hold => m,
+    }
+}
+
+// A running record acts.
+pub fn act(image: &[u8], sound: bool, m: Core, ram: &mut [u8; 372]) -> Turn
+    requires { ⌜ (Runs m) × (Nibbles (now ram)) × (length (now image) ≡ 8192) ⌝ }
+    ensures { λ x. ⌜ Gives (actOf (romOf (now (image .entry))) sound (record { core = m; ram = now (ram .entry) })) (now (ram .exit)) x ⌝ }
+{
+    let x = turn(image, sound, m, ram);
+    let core = after(x.core, x.cycles);
+    Turn {
+        stop: x.stop,
+        cycles: x.cycles,
+        core: core,
+    }
+}

@@ -1,0 +1,63 @@
+-- Document 01, "One step": what a step sees of its frame. Running, the edges set latches and count events; in sleep or hold it only looks for the edge that wakes. "The last frame is always updated."
+-- Assumes nothing.
+use Prim.Native.Nat.{ℕ, _%_}
+use mathlib.Core.Bool.{Bool, true, false}
+use mathlib.Core.List.{[], _∷_}
+use lib.ListN.{getD}
+use Rattle.laws.specs.Choice.{pick}
+use Rattle.edges.specs.Edges.{fell, rose, wakes}
+use Rattle.frame.specs.declared.Pins.{Pins}
+use Rattle.clock.specs.Clock.{latched, eventCount}
+use Rattle.clock.specs.declared.Time.{Time}
+use Rattle.ports.specs.declared.Mode.{Mode}
+use Rattle.machine.specs.declared.Core.{Core}
+use Rattle.step_look.specs.declared.Looked.{Looked}
+
+-- the time base, the timers and the latches of a record, and a record with others
+abbrev pub timeOf : Core → Time
+timeOf m = record { base = m .timers .base; ta = m .timers .ta; tb = m .timers .tb; il = m .ints .il }
+
+abbrev pub withTime : Core → Time → Core
+withTime m t = record { regs = m .regs; pc = m .pc; ptrs = m .ptrs; ints = record { ei = m .ints .ei; il = t .il; mask = m .ints .mask }; timers = record { base = t .base; ta = t .ta; tb = t .tb }; ports = m .ports; pins = m .pins; mode = m .mode }
+
+-- "The last frame is always updated."
+abbrev pub showing : Core → Mode → Pins → Core
+showing m mode pins = record { regs = m .regs; pc = m .pc; ptrs = m .ptrs; ints = m .ints; timers = m .timers; ports = m .ports; pins = pins; mode = mode }
+
+-- "A falling edge on P8.2 sets IL5, on P8.0 sets IL0."
+abbrev pub edgesLatched : Pins → Pins → ℕ → ℕ
+edgesLatched last new il = latched (fell (last .p8) (new .p8) 1) 1 (latched (fell (last .p8) (new .p8) 4) 32 il)
+
+abbrev pub edgesTimed : Core → Pins → Time
+edgesTimed m new = record { base = m .timers .base; ta = m .timers .ta; tb = m .timers .tb; il = edgesLatched (m .pins) new (m .ints .il) }
+
+-- "A rising edge on P8.3 (P8.1) adds one to TA (TB) in event mode."
+unfoldable pub edgesCounted : Core → Pins → Time
+edgesCounted m new =
+    eventCount (m .ports .p28) (m .ports .p29) (rose (m .pins .p8) (new .p8) 8) (rose (m .pins .p8) (new .p8) 2) (edgesTimed m new)
+
+abbrev pub seen : Core → Pins → Core
+seen m new = showing (withTime m (edgesCounted m new)) (m .mode) new
+
+-- "for sleep 32,768, 2,048 or 8,192 (bits 1..0 = 0, 1, 2)", "0 cycles for hold"
+abbrev pub wakingCycles : Mode → ℕ → ℕ
+wakingCycles Mode.Running p16 = 0
+wakingCycles Mode.Sleep p16 = getD (32768 ∷ 2048 ∷ 8192 ∷ []) (p16 % 4) 0
+wakingCycles Mode.Hold p16 = 0
+
+-- "In sleep or hold a step only looks for a falling edge on an enabled wake pin. None: 0 cycles. One: running again"
+unfoldable pub waited : ℕ → Core → Pins → Looked
+waited enabled m new =
+    pick (wakes enabled (m .pins) new)
+    (record { core = showing m Mode.Running new; acts = false; cycles = wakingCycles (m .mode) (m .ports .p16) })
+    (record { core = showing m (m .mode) new; acts = false; cycles = 0 })
+
+abbrev pub isRunning : Mode → Bool
+isRunning Mode.Running = true
+isRunning Mode.Sleep = false
+isRunning Mode.Hold = false
+
+-- a running record sees the frame and then acts
+unfoldable pub looked : ℕ → Core → Pins → Looked
+looked enabled m new =
+    pick (isRunning (m .mode)) (record { core = seen m new; acts = true; cycles = 0 }) (waited enabled m new)

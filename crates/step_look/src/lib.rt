@@ -1,0 +1,160 @@
+// What a step sees of its frame, before it acts.
+use clock::Time;
+use clock::events;
+use edges::fell;
+use edges::rose;
+use edges::wakes;
+use frame::Pins;
+use machine::Core;
+use ports::Mode;
+ghost use mathlib.Core.Path.{_≡_};
+ghost use Prim.Native.Nat.{_+_, _<_};
+ghost use Rattle.clock.specs.Clock.{latched};
+ghost use Rattle.ports.specs.declared.Mode.{Mode};
+ghost use Rattle.machine.specs.Valid.{ValidInterrupts, ValidTimers};
+ghost use Rattle.step_look.specs.Look.{edgesCounted, isRunning, edgesLatched, edgesTimed, showing, seen, wakingCycles, waited};
+
+// The scalars then, whether the step goes on to act, and the cycles of one that does not.
+pub struct Looked {
+    pub core: Core,
+    pub acts: bool,
+    pub cycles: u16,
+}
+
+// "for sleep 32,768, 2,048 or 8,192 (bits 1..0 = 0, 1, 2)": by bits 1..0 of P16, of which sleep never has 3.
+const WAKING: [u16; 4] = [32768, 2048, 8192, 0];
+
+// A latch, by its weight, that is set where something happens.
+fn latched(happens: bool, w: u8, il: u8) -> u8
+    requires { ⌜ (0 < w) × (il + w < 256) ⌝ }
+    ensures { λ r. ⌜ r ≡ latched happens w il ⌝ }
+{
+    if happens {
+        return bits::with_bit(il, w);
+    }
+    il
+}
+
+// "A falling edge on P8.2 sets IL5, on P8.0 sets IL0."
+fn edges_latched(last: Pins, new: Pins, il: u8) -> u8
+    requires { ⌜ il < 64 ⌝ }
+    ensures { λ r. ⌜ r ≡ edgesLatched last new il ⌝ }
+{
+    let by_int0 = latched(fell(last.p8, new.p8, 4), 32, il);
+    latched(fell(last.p8, new.p8, 1), 1, by_int0)
+}
+
+// The time base, the timers, and the latches with those that edges set.
+fn edges_timed(m: Core, new: Pins) -> Time
+    requires { ⌜ m .ints .il < 64 ⌝ }
+    ensures { λ r. ⌜ r ≡ edgesTimed m new ⌝ }
+{
+    Time {
+        base: m.timers.base,
+        ta: m.timers.ta,
+        tb: m.timers.tb,
+        il: edges_latched(m.pins, new, m.ints.il),
+    }
+}
+
+// "A rising edge on P8.3 (P8.1) adds one to TA (TB) in event mode."
+fn counted(m: Core, new: Pins) -> Time
+    requires { ⌜ (ValidInterrupts (m .ints)) × (ValidTimers (m .timers)) ⌝ }
+    ensures { λ r. ⌜ r ≡ edgesCounted m new ⌝ }
+{
+    let rose_a = rose(m.pins.p8, new.p8, 8);
+    let rose_b = rose(m.pins.p8, new.p8, 2);
+    events(
+        edges_timed(m, new),
+        m.ports.p28,
+        m.ports.p29,
+        rose_a,
+        rose_b,
+    )
+}
+
+// What a running record sees. Most frames leave P8 as it was: no edge then.
+pub fn seen(m: Core, new: Pins) -> Core
+    requires { ⌜ (ValidInterrupts (m .ints)) × (ValidTimers (m .timers)) ⌝ }
+    ensures { λ r. ⌜ r ≡ seen m new ⌝ }
+{
+    if new.p8 == m.pins.p8 {
+        let mut still = m;
+        still.pins = new;
+        return still;
+    }
+    let t = counted(m, new);
+    let mut after = m;
+    after.pins = new;
+    after.timers.base = t.base;
+    after.timers.ta = t.ta;
+    after.timers.tb = t.tb;
+    after.ints.il = t.il;
+    after
+}
+
+// The cycles of waking: none for hold.
+fn waking_cycles(mode: Mode, p16: u8) -> u16
+    ensures { λ r. ⌜ r ≡ wakingCycles mode p16 ⌝ }
+{
+    match mode {
+        Mode::Running => 0,
+        Mode::Sleep => {
+            let at = (p16 % 4) as usize;
+            WAKING[at]
+        }
+        Mode::Hold => 0,
+    }
+}
+
+// "running again", and all else but the last frame as it was: no latch is set.
+fn awake(m: Core, new: Pins) -> Core
+    ensures { λ r. ⌜ r ≡ showing m Mode.Running new ⌝ }
+{
+    let regs = m.regs;
+    let ptrs = m.ptrs;
+    let ints = m.ints;
+    let timers = m.timers;
+    let ports = m.ports;
+    Core {
+        regs: regs,
+        pc: m.pc,
+        ptrs: ptrs,
+        ints: ints,
+        timers: timers,
+        ports: ports,
+        pins: new,
+        mode: Mode::Running,
+    }
+}
+
+// "In sleep or hold a step only looks for a falling edge on an enabled wake pin."
+pub fn waited(enabled: u8, m: Core, new: Pins) -> Looked
+    ensures { λ r. ⌜ r ≡ waited enabled m new ⌝ }
+{
+    let mode = m.mode;
+    if wakes(enabled, m.pins, new) {
+        return Looked {
+            core: awake(m, new),
+            acts: false,
+            cycles: waking_cycles(mode, m.ports.p16),
+        };
+    }
+    let mut after = m;
+    after.pins = new;
+    Looked {
+        core: after,
+        acts: false,
+        cycles: 0,
+    }
+}
+
+pub fn is_running(mode: Mode) -> bool
+    ensures { λ r. ⌜ r ≡ isRunning mode ⌝ }
+{
+    match mode {
+        Mode::Running => true,
+        Mode::Sleep => false,
+        Mode::Hold => false,
+    }
+}

@@ -1,0 +1,47 @@
+-- `report::cycles_at` meets its contract.
+-- Assumes nothing.
+use mathlib.Core.Path.{refl, sym, _∙_}
+use native.Mathlib.Omega.{arith}
+use denote.Ref.{now}
+use Rattle.sheet.specs.Reading.{romOf}
+use Rattle.text_bounder.proofs.Cycles.{cycles-shown}
+use borrow.Author.Needs.{needs}
+use Rattle.text_bounder.proofs.cycles_at.Statement.{statement}
+use Rattle.text_bounder.proofs.cycles_at.Tie as tie
+
+read-at-requires : tie.Need-read-at-requires
+read-at-requires c κs = search needs
+
+enum-told : tie.Need-enum-told
+enum-told c = search needs
+
+enum-told-2 : tie.Need-enum-told-2
+enum-told-2 c = search needs
+
+returns : tie.Need-returns
+returns c = rw (sym (c .before .before .read-at .ensures) ∙ c .enum-told2 .given .1) (refl, omega arith)
+
+shared-slice-read-timing : tie.Need-shared-slice-read-timing
+shared-slice-read-timing c = search needs
+
+timing-requires : tie.Need-timing-requires
+timing-requires c κs = search needs
+
+cast-result : tie.Need-cast-result
+cast-result c = search needs
+
+returns-2 : tie.Need-returns-2
+returns-2 c = cycles-shown (romOf (now (c .before .before .before .before .before .before .before .args .image))) (c .before .before .before .before .before .before .before .args .at) (λ at. c .before .before .before .before .before .before .shared-slice-known .given at .fits) (sym (c .before .before .before .before .before .read-at .ensures) ∙ c .before .before .before .enum-told .given .1) (c .before .timing .ensures)
+
+pub cycles-at-spec : {M : Type 1} → statement M
+cycles-at-spec =
+    tie.close
+    (tie.spec
+    read-at-requires
+    enum-told
+    enum-told-2
+    returns
+    shared-slice-read-timing
+    timing-requires
+    cast-result
+    returns-2)

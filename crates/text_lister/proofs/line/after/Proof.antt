@@ -1,0 +1,56 @@
+-- `text::line::after` meets its contract.
+-- Assumes nothing.
+use mathlib.Core.Path.{sym, _∙_}
+use denote.Ref.{now}
+use Rattle.sheet.specs.Reading.{romOf}
+use Rattle.text_lister.proofs.Costs.{bytes-are}
+use borrow.Author.Needs.{needs}
+use Rattle.text_lister.proofs.line.after.Statement.{statement}
+use Rattle.text_lister.proofs.line.after.Tie as tie
+
+read-at-requires : tie.Need-read-at-requires
+read-at-requires c κs = search needs
+
+enum-told : tie.Need-enum-told
+enum-told c = search needs
+
+enum-told-2 : tie.Need-enum-told-2
+enum-told-2 c = search needs
+
+add-result : tie.Need-add-result
+add-result c = search needs
+
+returns : tie.Need-returns
+returns c = rw (sym (c .before .before .read-at .ensures) ∙ c .enum-told2 .given .1)
+
+shared-slice-read-timing : tie.Need-shared-slice-read-timing
+shared-slice-read-timing c = search needs
+
+timing-requires : tie.Need-timing-requires
+timing-requires c κs = search needs
+
+cast-result : tie.Need-cast-result
+cast-result c = search needs
+
+add-result-2 : tie.Need-add-result-2
+add-result-2 c = search needs
+
+returns-2 : tie.Need-returns-2
+returns-2 c =
+    let e = sym (c .before .before .before .before .before .read-at .ensures) ∙ c .before .before .before .enum-told .given .1 in
+    rw (e, ← bytes-are (romOf (now (c .before .before .before .before .before .before .before .args .image))) (c .before .before .before .before .before .before .before .args .at) e (c .before .timing .ensures))
+
+pub after-spec : {M : Type 1} → statement M
+after-spec =
+    tie.close
+    (tie.spec
+    read-at-requires
+    enum-told
+    enum-told-2
+    add-result
+    returns
+    shared-slice-read-timing
+    timing-requires
+    cast-result
+    add-result-2
+    returns-2)

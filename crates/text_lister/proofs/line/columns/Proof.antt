@@ -1,0 +1,72 @@
+-- `text::line::columns` meets its contract.
+-- Assumes nothing.
+use mathlib.Core.Path.{sym, _∙_}
+use native.Mathlib.Omega.{arith}
+use denote.Ref.{now}
+use Rattle.laws.proofs.Writing.{wrote-then}
+use Rattle.sheet.specs.Reading.{romOf}
+use Rattle.text_lister.proofs.Costs.{bytes-are, cycles-are}
+use borrow.Author.Needs.{needs}
+use Rattle.text_lister.proofs.line.columns.Statement.{statement}
+use Rattle.text_lister.proofs.line.columns.Tie as tie
+
+number-requires : tie.Need-number-requires
+number-requires c κs = search needs
+
+blanks-requires : tie.Need-blanks-requires
+blanks-requires c κs = search needs
+
+read-at-requires : tie.Need-read-at-requires
+read-at-requires c κs = search needs
+
+enum-known-insn : tie.Need-enum-known-insn
+enum-known-insn c = search needs
+
+enum-told : tie.Need-enum-told
+enum-told c = search needs
+
+refused-requires : tie.Need-refused-requires
+refused-requires c κs = search needs
+
+same-length : tie.Need-same-length
+same-length c = search needs
+
+returns : tie.Need-returns
+returns c = rw (sym (c .before .before .before .before .before .before .read-at .ensures) ∙ c .before .before .before .before .enum-told .given .1) (wrote-then (c .before .before .before .before .before .before .before .before .before .before .before .before .before .number .ensures .0) (wrote-then (c .before .before .before .before .before .before .before .before .before .blanks .ensures .0) (c .before .before .refused .ensures .0)), omega arith)
+
+shared-slice-read-timing : tie.Need-shared-slice-read-timing
+shared-slice-read-timing c = search needs
+
+timing-requires : tie.Need-timing-requires
+timing-requires c κs = search needs
+
+shown-requires : tie.Need-shown-requires
+shown-requires c κs = search needs
+
+same-length-2 : tie.Need-same-length-2
+same-length-2 c = search needs
+
+returns-2 : tie.Need-returns-2
+returns-2 c =
+    let e = sym (c .before .before .before .before .before .before .before .before .before .read-at .ensures) ∙ c .before .before .before .before .before .before .before .insn .given .1 in
+    let rom = romOf (now (c .before .before .before .before .before .before .before .before .before .before .before .before .before .before .before .before .before .before .before .before .args .image)) in
+    rw (e, ← bytes-are rom (c .before .before .before .before .before .before .before .before .before .before .before .before .before .before .before .before .before .before .before .before .args .at) e (c .before .before .before .before .timing .ensures), ← cycles-are rom (c .before .before .before .before .before .before .before .before .before .before .before .before .before .before .before .before .before .before .before .before .args .at) e (c .before .before .before .before .timing .ensures))
+    (wrote-then (c .before .before .before .before .before .before .before .before .before .before .before .before .before .before .before .before .number .ensures .0) (wrote-then (c .before .before .before .before .before .before .before .before .before .before .before .before .blanks .ensures .0) (c .before .before .shown .ensures .0)), omega arith)
+
+pub columns-spec : {M : Type 1} → statement M
+columns-spec =
+    tie.close
+    (tie.spec
+    number-requires
+    blanks-requires
+    read-at-requires
+    enum-known-insn
+    enum-told
+    refused-requires
+    same-length
+    returns
+    shared-slice-read-timing
+    timing-requires
+    shown-requires
+    same-length-2
+    returns-2)

@@ -1,0 +1,36 @@
+-- `text::line::refused` meets its contract.
+-- Assumes nothing.
+use native.Mathlib.Omega.{arith}
+use Rattle.laws.proofs.Writing.{wrote-last, wrote-then}
+use borrow.Author.Needs.{needs}
+use Rattle.text_lister.proofs.line.refused.Statement.{statement}
+use Rattle.text_lister.proofs.line.refused.Tie as tie
+
+bytes-column-requires : tie.Need-bytes-column-requires
+bytes-column-requires c κs = search needs
+
+blanks-requires : tie.Need-blanks-requires
+blanks-requires c κs = search needs
+
+slice-aggregate-put-text : tie.Need-slice-aggregate-put-text
+slice-aggregate-put-text c = search needs
+
+put-text-requires : tie.Need-put-text-requires
+put-text-requires c κs = search needs
+
+same-length : tie.Need-same-length
+same-length c = search needs
+
+returns : tie.Need-returns
+returns c = (wrote-then (c .before .before .before .before .before .before .before .before .before .before .before .bytes-column .ensures .0) (wrote-then (c .before .before .before .before .before .before .before .blanks .ensures .0) (wrote-last (c .before .before .put-text .ensures))), omega arith)
+
+pub refused-spec : {M : Type 1} → statement M
+refused-spec =
+    tie.close
+    (tie.spec
+    bytes-column-requires
+    blanks-requires
+    slice-aggregate-put-text
+    put-text-requires
+    same-length
+    returns)

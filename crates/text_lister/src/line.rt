@@ -1,0 +1,145 @@
+// A line of the listing, and the listing.
+use text_digits::blanks;
+use text_digits::number;
+use text_digits::put;
+use text_digits::put_text;
+use text_notation::row;
+use reader::read_at;
+use sheet::Insn;
+use sheet::Read;
+ghost use mathlib.Core.Path.{_≡_};
+ghost use Prim.Native.Nat.{_+_, _*_, _<_, _≤_};
+ghost use lib.ListN.{length, take};
+ghost use Rattle.laws.specs.Writing.{Wrote};
+ghost use Rattle.sheet.specs.Reading.{readAt, romOf, fetched};
+ghost use Rattle.text_digits.specs.Digits.{hex, padded};
+ghost use Rattle.text_notation.specs.Notation.{rowText};
+ghost use Rattle.text_lister.specs.Listing.{spaced, rowColumns, refusedColumns, columnsOf, lineOf, past, listingOf};
+
+fn byte(out: &mut [u8], from: usize, b: u8) -> usize
+    requires { ⌜ from + 2 ≤ length (now out) ⌝ }
+    ensures { λ r. ⌜ Wrote (now (out .entry)) (now (out .exit)) from r (hex 2 b) ⌝ }
+    ensures { λ r. ⌜ r ≡ from + 2 ⌝ }
+{
+    number(out, from, 16, 2, b as u32)
+}
+
+fn bytes(out: &mut [u8], from: usize, image: &[u8], at: u16, n: u8) -> usize
+    requires { ⌜ (length (now image) ≡ 8192) × (at < 8192) × (from + 8 ≤ length (now out)) ⌝ }
+    ensures { λ r. ⌜ Wrote (now (out .entry)) (now (out .exit)) from r (spaced (take n (fetched (romOf (now (image .entry))) at))) ⌝ }
+    ensures { λ r. ⌜ r ≤ from + 8 ⌝ }
+{
+    let i = at as usize;
+    if n == 0 {
+        return from;
+    }
+    let one = byte(out, from, image[i]);
+    if n == 1 {
+        return one;
+    }
+    let gap = put(out, one, b' ');
+    let two = byte(out, gap, image[(i + 1) % 8192]);
+    if n == 2 {
+        return two;
+    }
+    let gap = put(out, two, b' ');
+    byte(out, gap, image[(i + 2) % 8192])
+}
+
+fn bytes_column(out: &mut [u8], from: usize, image: &[u8], at: u16, n: u8) -> usize
+    requires { ⌜ (length (now image) ≡ 8192) × (at < 8192) × (from + 8 ≤ length (now out)) ⌝ }
+    ensures { λ r. ⌜ Wrote (now (out .entry)) (now (out .exit)) from r (padded 8 (spaced (take n (fetched (romOf (now (image .entry))) at)))) ⌝ }
+    ensures { λ r. ⌜ r ≡ from + 8 ⌝ }
+{
+    let end = bytes(out, from, image, at, n);
+    blanks(out, end, from + 8 - end)
+}
+
+fn row_column(out: &mut [u8], from: usize, at: u16, insn: Insn) -> usize
+    requires { ⌜ from + 24 ≤ length (now out) ⌝ }
+    ensures { λ r. ⌜ Wrote (now (out .entry)) (now (out .exit)) from r (padded 16 (rowText at insn)) ⌝ }
+    ensures { λ r. ⌜ r ≡ from + 16 ⌝ }
+{
+    let end = row(out, from, at, insn);
+    blanks(out, end, from + 16 - end)
+}
+
+fn shown(out: &mut [u8], from: usize, image: &[u8], at: u16, insn: Insn, n: u8, t: u8) -> usize
+    requires { ⌜ (length (now image) ≡ 8192) × (at < 8192) × (from + 34 ≤ length (now out)) ⌝ }
+    ensures { λ r. ⌜ Wrote (now (out .entry)) (now (out .exit)) from r (rowColumns (romOf (now (image .entry))) at insn n t) ⌝ }
+    ensures { λ r. ⌜ r ≤ from + 30 ⌝ }
+{
+    let end = bytes_column(out, from, image, at, n);
+    let gap = blanks(out, end, 2);
+    let end = row_column(out, gap, at, insn);
+    let gap = put(out, end, b' ');
+    let end = number(out, gap, 10, 1, n as u32);
+    let gap = put(out, end, b' ');
+    number(out, gap, 10, 1, t as u32)
+}
+
+fn refused(out: &mut [u8], from: usize, image: &[u8], at: u16) -> usize
+    requires { ⌜ (length (now image) ≡ 8192) × (at < 8192) × (from + 34 ≤ length (now out)) ⌝ }
+    ensures { λ r. ⌜ Wrote (now (out .entry)) (now (out .exit)) from r (refusedColumns (romOf (now (image .entry)) at)) ⌝ }
+    ensures { λ r. ⌜ r ≤ from + 30 ⌝ }
+{
+    let end = bytes_column(out, from, image, at, 1);
+    let gap = blanks(out, end, 2);
+    put_text(out, gap, b"refused 30")
+}
+
+// A line without its end, for a program that has more to say on it: at most 36 characters, with room for 40.
+pub fn columns(out: &mut [u8], from: usize, image: &[u8], at: u16) -> usize
+    requires { ⌜ (length (now image) ≡ 8192) × (at < 8192) × (from + 40 ≤ length (now out)) ⌝ }
+    ensures { λ r. ⌜ Wrote (now (out .entry)) (now (out .exit)) from r (columnsOf (romOf (now (image .entry))) at) ⌝ }
+    ensures { λ r. ⌜ r ≤ from + 36 ⌝ }
+{
+    let end = number(out, from, 16, 4, at as u32);
+    let gap = blanks(out, end, 2);
+    let Read::Row(insn) = read_at(image, at) else {
+        return refused(out, gap, image, at);
+    };
+    let cost = sheet::timing(image[at as usize]);
+    shown(out, gap, image, at, insn, cost.bytes, cost.cycles)
+}
+
+// At most 37 characters.
+pub fn line(out: &mut [u8], from: usize, image: &[u8], at: u16) -> usize
+    requires { ⌜ (length (now image) ≡ 8192) × (at < 8192) × (from + 40 ≤ length (now out)) ⌝ }
+    ensures { λ r. ⌜ Wrote (now (out .entry)) (now (out .exit)) from r (lineOf (romOf (now (image .entry))) at) ⌝ }
+    ensures { λ r. ⌜ r ≤ from + 37 ⌝ }
+{
+    let end = columns(out, from, image, at);
+    put(out, end, b'\n')
+}
+
+// Where the sweep goes on after the line at an address.
+pub fn after(image: &[u8], at: u16) -> u16
+    requires { ⌜ (length (now image) ≡ 8192) × (at < 8192) ⌝ }
+    ensures { λ r. ⌜ r ≡ past at (readAt (romOf (now (image .entry))) at) ⌝ }
+{
+    let Read::Row(_) = read_at(image, at) else {
+        return at + 1;
+    };
+    let cost = sheet::timing(image[at as usize]);
+    at + cost.bytes as u16
+}
+
+// The lines from an address on, as many as asked or to the end of the image.
+pub fn listing(out: &mut [u8], image: &[u8], from: u16, count: u32) -> usize
+    requires { ⌜ (length (now image) ≡ 8192) × (37 * count + 3 ≤ length (now out)) ⌝ }
+    ensures { λ r. ⌜ Wrote (now (out .entry)) (now (out .exit)) 0 r (listingOf (romOf (now (image .entry))) from count) ⌝ }
+{
+    let mut end = 0;
+    let mut at = from;
+    let mut left = count;
+    while left > 0 {
+        if 8191 < at {
+            return end;
+        }
+        end = line(out, end, image, at);
+        at = after(image, at);
+        left -= 1;
+    }
+    end
+}

@@ -1,0 +1,47 @@
+-- The words that a program is given: an address, and a number of lines. Sentences in quotation marks are of docs/PROGRAMS.md.
+-- Assumes nothing.
+use Prim.Native.Nat.{ℕ, _+_, _-_, _*_, min}
+use Prim.Native.Char.{code}
+use mathlib.Core.Bool.{Bool, true}
+use mathlib.Core.List.{List, [], _∷_}
+use lib.Dec.{ltb, leb}
+use lib.ListN.{length}
+use Rattle.laws.specs.Choice.{pick, both}
+use Rattle.text_words.specs.declared.Number.{Number}
+use Rattle.text_words.specs.declared.Number.the-variants.{Value, Nothing}
+use Rattle.text_words.specs.declared.Address.{Address}
+use Rattle.text_words.specs.declared.Address.the-variants.{At, Refused}
+
+abbrev pub between : ℕ → ℕ → ℕ → Bool
+between first last c = both (leb first c) (leb c last)
+
+-- the value of a digit of either case; 16 for any other character
+unfoldable pub digitValue : ℕ → ℕ
+digitValue c =
+    pick (between (code "0") (code "9") c) (c - code "0")
+    (pick (between (code "A") (code "F") c) (c - code "A" + 10)
+    (pick (between (code "a") (code "f") c) (c - code "a" + 10) 16))
+
+abbrev pub allDigits : ℕ → List ℕ → Bool
+allDigits base [] = true
+allDigits base (c ∷ cs) = both (ltb (digitValue c) base) (allDigits base cs)
+
+abbrev pub isNumber : ℕ → List ℕ → Bool
+isNumber base word = both (ltb 0 (length word)) (allDigits base word)
+
+-- the value of digits that follow a value
+abbrev pub valueAfter : ℕ → ℕ → List ℕ → ℕ
+valueAfter base v [] = v
+valueAfter base v (c ∷ cs) = valueAfter base (v * base + digitValue c) cs
+
+abbrev pub valueOf : ℕ → List ℕ → ℕ
+valueOf base word = valueAfter base 0 word
+
+-- a number to a base; no image has more than 8192 addresses or lines, so 8192 stands for all numbers above it
+unfoldable pub numberOf : ℕ → List ℕ → Number
+numberOf base word = pick (isNumber base word) (Value (min 8192 (valueOf base word))) Nothing
+
+-- "ADDRESS is one to four hexadecimal digits of either case, nothing else; anything else, or over 1FFF, is refused 20"
+unfoldable pub addressOf : List ℕ → Address
+addressOf word =
+    pick (both (leb (length word) 4) (isNumber 16 word)) (pick (ltb (valueOf 16 word) 8192) (At (valueOf 16 word)) Refused) Refused
