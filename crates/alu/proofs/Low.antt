@@ -1,5 +1,4 @@
 -- What a row makes of nibbles is a nibble.
--- Assumes nothing.
 use mathlib.Core.Bool.{Bool}
 use Prim.Native.Nat.{ℕ, _<_}
 use native.Mathlib.Omega.{arith}

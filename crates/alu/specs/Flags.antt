@@ -1,5 +1,4 @@
 -- The flag columns: "In the S column, 1 sets SF, C copies the carry of the operation, C' and Z' its opposite; a dash leaves a flag alone; any other mark is what the row's operation says." "Z speaks of the sum, difference, logic or rotation the row makes, else of the value moved".
--- Assumes nothing.
 use mathlib.Core.Bool.{Bool, true, false, not}
 use lib.Dec.{eqb}
 use Rattle.sheet.specs.Table.{Mark, kept, carry, not-carry, is-zero, not-zero, clear, set, by-operation}

@@ -1,5 +1,4 @@
 -- Laws of single bits: what setting and clearing one keeps, the highest of six, and bits joined. The bit at i has the weight 2 ^ i.
--- Assumes nothing.
 use mathlib.Core.Path.{_≡_, refl, ap, subst, _∙_}
 use mathlib.Core.Bool.{Bool, true, false}
 use Prim.Native.Nat.{ℕ, suc, _+_, _-_, _*_, _/_, _%_, _^_, _<_, _≤_}

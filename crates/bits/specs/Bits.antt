@@ -1,5 +1,4 @@
 -- Bits of a small number. A bit is named by its weight: 1, 2, 4, 8, 16, 32.
--- Assumes nothing.
 use Prim.Native.Nat.{ℕ, _+_, _-_, _/_, _%_}
 use mathlib.Core.Bool.{Bool}
 use lib.Dec.{eqb}

@@ -1,5 +1,4 @@
 -- From what the search of the graph says to what the call answers.
--- Assumes nothing.
 use mathlib.Core.Path.{_≡_, refl, ap₂}
 use mathlib.Core.List.{List, [], _∷_}
 use Prim.Native.Nat.{ℕ, _/_, _%_}
@@ -12,7 +11,7 @@ use Rattle.graph_longest.specs.Means.{Means}
 use Rattle.graph_longest.specs.declared.Found.{Found}
 use Rattle.bound_flow.specs.Flow.{flowGraph, flowCost, startOf}
 use Rattle.bound_explore.specs.Explored.{Explored}
-use Rattle.bound.specs.Answer.{answerOf, paperOf, addressBytes, FlowAnswer, gives-21, gives-22, gives-23, gives-N}
+use Rattle.bound.specs.Answer.{boundedOf, paperOf, addressBytes, FlowAnswer, gives-21, gives-22, gives-23, gives-N}
 
 -- what was laid is the flow graph, as far as it is reached
 pub explored-agrees : {rom : ℕ → ℕ} {s count : ℕ} {k nx o c m q : List ℕ} → Explored rom s k nx o c m q count → Agree (graphOf k nx o) (flowGraph rom) (costOf c) (flowCost rom) s
@@ -33,7 +32,7 @@ encoded (v ∷ l) =
     let high : v / 512 % 256 ≡ v / 2 / 256 % 256 = omega arith in
     ap₂ (λ (h : ℕ) (t : List ℕ). v / 2 % 256 ∷ h ∷ t) high (encoded l)
 
-pub answers : (rom : ℕ → ℕ) (start : ℕ) (p p′ : List ℕ) (found : Found) → Means (flowGraph rom) (flowCost rom) (startOf start) p p′ found → FlowAnswer rom start p p′ (paperOf (answerOf found))
+pub answers : (rom : ℕ → ℕ) (start : ℕ) (p p′ : List ℕ) (found : Found) → Means (flowGraph rom) (flowCost rom) (startOf start) p p′ found → FlowAnswer rom start p p′ (paperOf (boundedOf found))
 unfolding Means
 answers rom start p p′ (Found.Excluded v) m = gives-21 (least-address (m .lowest)) (m .kept)
 answers rom start p p′ (Found.Repeats v) m = gives-22 (m .no-bad) (least-address (m .lowest)) (m .kept)

@@ -1,5 +1,4 @@
 -- How large what the call answers can be: an address of the image, the bytes of a path of at most 16,384 places, and what that many rows take.
--- Assumes nothing.
 use mathlib.Core.List.{List}
 use Prim.Native.Nat.{ℕ, _<_, _≤_}
 use native.Mathlib.Omega.{arith}

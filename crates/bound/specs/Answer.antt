@@ -1,5 +1,4 @@
 -- Document 01, "What comes back": what the call bound answers by the table's numbers, and what becomes of the path buffer.
--- Assumes nothing.
 use mathlib.Core.Path.{_≡_}
 use mathlib.Core.List.{List, [], _∷_, _++_}
 use Prim.Native.Nat.{ℕ, _+_, _*_, _/_, _%_, _≤_, _<_}
@@ -22,11 +21,11 @@ paperOf (Bounded.Short bytes) = refusedWith path-buffer-too-short bytes
 paperOf (Bounded.Longest cycles) = answered (cycles ∷ [])
 
 -- a place of the graph is answered by its address
-abbrev pub answerOf : Found → Bounded
-answerOf (Found.Excluded v) = Bounded.Excluded (addressOf v)
-answerOf (Found.Repeats v) = Bounded.Repeats (addressOf v)
-answerOf (Found.Short bytes) = Bounded.Short bytes
-answerOf (Found.Longest cycles) = Bounded.Longest cycles
+abbrev pub boundedOf : Found → Bounded
+boundedOf (Found.Excluded v) = Bounded.Excluded (addressOf v)
+boundedOf (Found.Repeats v) = Bounded.Repeats (addressOf v)
+boundedOf (Found.Short bytes) = Bounded.Short bytes
+boundedOf (Found.Longest cycles) = Bounded.Longest cycles
 
 -- the lowest address of a place with P
 abbrev pub LowestAddress : (ℕ → Type 0) → ℕ → Type 0

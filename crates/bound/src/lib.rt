@@ -10,7 +10,7 @@ ghost use Rattle.graph_search.specs.Marks.{Blank};
 ghost use Rattle.bound_flow.specs.Flow.{flowGraph, flowCost};
 ghost use Rattle.bound_explore.specs.Explored.{Empty};
 ghost use Rattle.graph_longest.specs.Means.{Means};
-ghost use Rattle.bound.specs.Answer.{answerOf, paperOf, BoundAnswer};
+ghost use Rattle.bound.specs.Answer.{boundedOf, paperOf, BoundAnswer};
 
 // What the call answers; specs/Answer.antt gives document 01's number and value for each.
 pub enum Bounded {
@@ -43,7 +43,7 @@ fn bound_in(
 
 // A place is named by its address.
 fn answer(found: Found) -> Bounded
-    ensures { λ r. ⌜ r ≡ answerOf found ⌝ }
+    ensures { λ r. ⌜ r ≡ boundedOf found ⌝ }
 {
     match found {
         Found::Excluded(v) => Bounded::Excluded(v / 2),

@@ -1,5 +1,4 @@
 -- What holds of the arrays while an image is explored, and what the exploring comes to.
--- Assumes nothing.
 use mathlib.Core.Path.{_≡_, sym, subst, _∙_}
 use mathlib.Core.Logic.{_⊎_, inl, inr, ⊎-elim}
 use mathlib.Core.List.{List}

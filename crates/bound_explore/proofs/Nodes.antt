@@ -1,5 +1,4 @@
 -- What a visit does with the node of its place: it is laid, and what follows it is marked.
--- Assumes nothing.
 use mathlib.Core.Path.{_≡_, _∙_, ap}
 use mathlib.Core.List.{List}
 use Prim.Native.Nat.{ℕ}

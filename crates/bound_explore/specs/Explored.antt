@@ -1,5 +1,4 @@
 -- The reached places of an image laid in arrays: the node of each, and nothing at the others.
--- Assumes nothing.
 use mathlib.Core.Path.{_≡_}
 use mathlib.Core.List.{List}
 use Prim.Native.Nat.{ℕ}

@@ -1,5 +1,4 @@
 -- A node's followers are places of the image, and what is not excluded costs something.
--- Assumes nothing.
 use mathlib.Core.Path.{_≡_, refl}
 use mathlib.Core.Logic.{_⊎_, ⊎-elim}
 use mathlib.Core.Bool.{Bool, true, false}

@@ -1,5 +1,4 @@
 -- The code's table of ways is the one that the sheet's columns make.
--- Assumes nothing.
 use mathlib.Core.Path.{_≡_, refl, _∙_}
 use mathlib.Core.Bool.{Bool, true, false}
 use mathlib.Core.List.{List, [], _∷_}

@@ -1,5 +1,4 @@
 -- Document 01, "The handler bound": what it is that N bounds the handler at an address.
--- Assumes nothing.
 use mathlib.Core.Path.{_≡_}
 use mathlib.Core.List.{List}
 use Prim.Native.Nat.{ℕ}

@@ -1,5 +1,4 @@
 -- Document 01, "The handler bound": the places of an image and what follows each, read off the columns of the sheet.
--- Assumes nothing.
 use Prim.Native.Nat.{ℕ, _+_, _*_, _/_, _%_}
 use mathlib.Core.Bool.{Bool, true, false}
 use lib.Dec.{eqb}

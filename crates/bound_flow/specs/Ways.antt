@@ -1,5 +1,4 @@
 -- The ways by number, as the code's table of rows has them.
--- Assumes nothing.
 use mathlib.Core.Path.{_≡_}
 use mathlib.Core.Bool.{true, false}
 use mathlib.Core.List.{[], _∷_}

@@ -1,5 +1,4 @@
 -- The pins of a buffer of frames are all in range.
--- Assumes nothing.
 use mathlib.Core.Path.{_≡_}
 use mathlib.Core.Bool.{true}
 use mathlib.Core.List.{List, [], _∷_}

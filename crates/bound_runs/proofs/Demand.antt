@@ -1,5 +1,4 @@
 -- Demand 3: N is the cycles of a path, no path has more, and "every emulated run from there .. reaches the return or a named stop having spent at most N".
--- Assumes nothing.
 use mathlib.Core.Path.{_≡_, sym, _∙_}
 use mathlib.Core.Bool.{true}
 use mathlib.Core.List.{List}

@@ -1,5 +1,4 @@
 -- Demand 3 of the two calls: where bound answers N, run answers to the frames up to the step that ends the handler within N cycles, with RTI executed or a named stop.
--- Assumes nothing.
 use mathlib.Core.Path.{_≡_, refl, sym, ap, subst, _∙_}
 use mathlib.Core.Logic.{inl, inr}
 use mathlib.Core.Bool.{true, false}

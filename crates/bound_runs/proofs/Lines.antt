@@ -1,5 +1,4 @@
 -- Each branch of the sheet has S 1: computed over the lines once.
--- Assumes nothing.
 use mathlib.Core.Path.{_≡_, refl}
 use mathlib.Core.Bool.{Bool, true}
 use Prim.Native.Nat.{ℕ, _<_}

@@ -1,5 +1,4 @@
 -- A row that is not excluded follows the flow rules: it comes to a named stop, or it is RTI and ends, or it goes on and the record stands at a place that follows.
--- Assumes nothing.
 use mathlib.Core.Path.{_≡_, refl, sym, _∙_}
 use mathlib.Core.Logic.{_⊎_, inl, inr}
 use mathlib.Core.Bool.{Bool, true, false}
@@ -18,7 +17,7 @@ use Rattle.alu.specs.Flags.{flagAfter}
 use Rattle.ports.specs.declared.Mode.the-variants.{Running}
 use Rattle.machine.specs.declared.Machine.{Machine}
 use Rattle.row.specs.Places.{Around}
-use Rattle.row.specs.Rows.{Done, past, spent, stops, branchOf, performed}
+use Rattle.row.specs.Rows.{Done, pcPast, spent, stops, branchOf, performed}
 use Rattle.row.specs.Columns.{isOrdinary, setsEi, writesPort}
 use Rattle.row.proofs.Frame.{ordinary}
 use Rattle.row.proofs.StepsValid.{fitsStep, fitsAfter}
@@ -54,19 +53,19 @@ return-spends false n m cycles z = absurd (omega arith)
 module _ (w : Around) (l : Line) (m : Machine) (lr : m .core .regs .lr < 16) (running : m .core .mode ≡ Running) (ei : m .core .ints .ei ≡ false) where
   -- at the next instruction, with SF known set where S is 1
   onward-follows : (o : Operation) → isOrdinary o ≡ true → setsEi o ≡ false → (performed m w l o .stop ≡ 0 → performed m w l o .machine .core .mode ≡ m .core .mode)
-      → RowFollows o (performed m w l o) (going (place (past m l) (isOne (l .s))) (place (past m l) (isOne (l .s))) (l .cycles))
+      → RowFollows o (performed m w l o) (going (place (pcPast m l) (isOne (l .s))) (place (pcPast m l) (isOne (l .s))) (l .cycles))
   onward-follows o e q keeps = go (row-stop w m l o)
     where
-      go : NoneOrNamed (performed m w l o .stop) → RowFollows o (performed m w l o) (going (place (past m l) (isOne (l .s))) (place (past m l) (isOne (l .s))) (l .cycles))
+      go : NoneOrNamed (performed m w l o .stop) → RowFollows o (performed m w l o) (going (place (pcPast m l) (isOne (l .s))) (place (pcPast m l) (isOne (l .s))) (l .cycles))
       go (inr h) = stops-named h
       go (inl z) =
           let x = ordinary m w l o e z in
-          goes (place (past m l) (isOne (l .s))) refl (inl refl) z (x .cycles)
+          goes (place (pcPast m l) (isOne (l .s))) refl (inl refl) z (x .cycles)
           (record {
-            at = x .pc ∙ sym (address-place (past m l) (isOne (l .s)));
+            at = x .pc ∙ sym (address-place (pcPast m l) (isOne (l .s)));
             running = keeps z ∙ running;
             ei = x .ei q ei;
-            sf = λ k. x .sf (one-is-set (l .s) (true→T (known-place (past m l) (isOne (l .s)) k)));
+            sf = λ k. x .sf (one-is-set (l .s) (true→T (known-place (pcPast m l) (isOne (l .s)) k)));
           })
 
   -- "any row writing P16" is excluded: another leaves the mode
@@ -92,8 +91,8 @@ module _ (w : Around) (l : Line) (m : Machine) (lr : m .core .regs .lr < 16) (ru
         (record { at = rw e (sym (address-place (targetOf t (m .core .pc) (w .insn .a)) true)); running = running; ei = ei; sf = λ z. rw s refl })
     branch-follows t s false true e q = absurd (true→T (sym e ∙ sf q))
     branch-follows t s false false e q =
-        goes (place (past m l) true) refl (inl (rw q refl)) refl refl
-        (record { at = rw e (sym (address-place (past m l) true)); running = running; ei = ei; sf = λ z. rw s refl })
+        goes (place (pcPast m l) true) refl (inl (rw q refl)) refl refl
+        (record { at = rw e (sym (address-place (pcPast m l) true)); running = running; ei = ei; sf = λ z. rw s refl })
 
     return-follows : NoneOrNamed (performed m w l return-FLAG .stop) → RowFollows return-FLAG (performed m w l return-FLAG) (node Way.end)
     return-follows (inr h) = stops-named h

@@ -1,5 +1,4 @@
 -- Every run from a record that stands at a reached place ends within what the paths from that place can cost.
--- Assumes nothing.
 use mathlib.Core.Path.{_≡_, refl, ap}
 use mathlib.Core.List.{List, [], _∷_}
 use Prim.Native.Nat.{ℕ, _-_, _≤_, _<_}

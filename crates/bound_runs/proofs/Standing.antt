@@ -1,5 +1,4 @@
 -- A record stands at a place of the flow rules: at its address, running, with EI clear, and with SF set where the place knows it.
--- Assumes nothing.
 use mathlib.Core.Path.{_≡_, refl}
 use mathlib.Core.Bool.{Bool, true, false}
 use Prim.Native.Nat.{ℕ, _+_, _*_, _%_}

@@ -1,5 +1,4 @@
 -- A step from a record that stands at a place that is not excluded follows the flow rules.
--- Assumes nothing.
 use mathlib.Core.Path.{_≡_, refl, sym, ap, _∙_}
 use mathlib.Core.Logic.{_⊎_}
 use Prim.Native.Nat.{ℕ, _≤_, _<_}
@@ -18,7 +17,7 @@ use Rattle.machine.specs.declared.Machine.{Machine}
 use Rattle.row.specs.Places.{Around}
 use Rattle.row.specs.Rows.{Done, executed}
 use Rattle.step_look.specs.Look.{seen, looked}
-use Rattle.step_act.specs.Act.{sourceOf, runRead, runOne, turnOf, afterTime, actOf}
+use Rattle.step_act.specs.Act.{sourceOf, runRead, runOne, acceptOrRun, afterTime, actOf}
 use Rattle.reader.proofs.Rows.{read-in-fields}
 use Rattle.row.proofs.RowsValid.{line-fits}
 use Rattle.step.specs.Step.{undone, stepOf}
@@ -44,7 +43,7 @@ module _ (rom : ℕ → ℕ) (o : Options) (m : Machine) (pins : Pins) (v : ℕ)
 
   -- it runs and accepts nothing
   step-is : stepOf rom o m pins ≡ undone m (afterTime (runRead rom (o .sound) looking (readAt rom (m .core .pc))))
-  unfolding stepOf looked actOf turnOf sourceOf runOne
+  unfolding stepOf looked actOf acceptOrRun sourceOf runOne
   step-is = rw (stands .running, stands .ei)
 
   module _ (i : Insn) (read : readAt rom (m .core .pc) ≡ Read.Row i) where

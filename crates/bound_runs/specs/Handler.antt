@@ -1,5 +1,4 @@
 -- Demand 3 (docs/PROMISES.md): "Every emulated run from there (running, SF set, EI clear, frames enough) reaches the return or a named stop having spent at most N, for any pins."
--- Assumes nothing.
 use mathlib.Core.Path.{_≡_}
 use mathlib.Core.Logic.{_⊎_}
 use mathlib.Core.Bool.{true, false}

@@ -1,5 +1,4 @@
 -- "A refusal changes no buffer. A stop gives the record from before that step .. and zero cycles for it": what a step and a reset leave where their number is not 0.
--- Assumes nothing.
 use Prim.Native.Nat.{ℕ}
 use mathlib.Core.List.{List}
 use mathlib.Core.Path.{_≡_, refl, sym, ap, _∙_}
@@ -13,7 +12,7 @@ use Rattle.machine.specs.declared.Machine.{Machine}
 use Rattle.machine_start.specs.declared.AfterReset.{AfterReset}
 use Rattle.machine_valid.proofs.Validity.{valid?}
 use Rattle.sheet.specs.Reading.{romOf}
-use Rattle.machine_bytes.specs.Layout.{bytesOf}
+use Rattle.machine_bytes.specs.Layout.{recordBytes}
 use Rattle.step.specs.Answers.{StepOf, stepRefused, stepped}
 use Rattle.step.specs.declared.Options.{Options}
 use Rattle.step.specs.declared.Stepped.{Stepped}
@@ -39,7 +38,7 @@ pub step-kept : {image : List ℕ} {o : Options} {bytes frame : List ℕ} {n c :
 step-kept (no-record h a) nz = (a .none, a .kept)
 step-kept (record-of m h a) nz =
     let e = step-undone (a .steps) (λ z. nz (a .answer ∙ z)) in
-    (a .spent ∙ ap (λ (q : Stepped). q .cycles) e, a .left ∙ (ap (λ (q : Stepped). bytesOf (q .machine)) e ∙ sym (h .same)))
+    (a .spent ∙ ap (λ (q : Stepped). q .cycles) e, a .left ∙ (ap (λ (q : Stepped). recordBytes (q .machine)) e ∙ sym (h .same)))
 
 reset-undone : {m : Machine} {r : AfterReset} → ResetOf m r → (r .refusal ≡ 0 → ⊥) → Dec (Valid m) → r .machine ≡ m
 reset-undone a nz (yes v) = absurd (nz (ap (λ (q : AfterReset). q .refusal) (a .inside v)))
@@ -48,4 +47,4 @@ reset-undone a nz (no v) = ap (λ (q : AfterReset). q .machine) (a .outside v)
 pub reset-kept : {bytes : List ℕ} {n : ℕ} {z : List ℕ} → ResetCall bytes n z → (n ≡ 0 → ⊥) → z ≡ bytes
 reset-kept (no-record h a) nz = a .kept
 reset-kept (record-of m h a) nz =
-    a .left ∙ (ap bytesOf (reset-undone (a .resets) (λ z. nz (a .refusal ∙ z)) (valid? m)) ∙ sym (h .same))
+    a .left ∙ (ap recordBytes (reset-undone (a .resets) (λ z. nz (a .refusal ∙ z)) (valid? m)) ∙ sym (h .same))

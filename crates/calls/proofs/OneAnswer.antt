@@ -1,5 +1,4 @@
 -- Each of the nine calls has one answer: two answers to the same that conform are equal, numbers and buffers.
--- Assumes nothing.
 use Prim.Native.Nat.{ℕ}
 use mathlib.Core.List.{List}
 use mathlib.Core.Path.{_≡_, sym, ap, subst, _∙_}
@@ -13,7 +12,7 @@ use Rattle.machine.specs.declared.Machine.{Machine}
 use Rattle.machine_start.specs.declared.AfterReset.{AfterReset}
 use Rattle.machine_start.proofs.Starting.{reset-determined}
 use Rattle.machine_valid.proofs.Validity.{valid?}
-use Rattle.machine_bytes.specs.Layout.{bytesOf}
+use Rattle.machine_bytes.specs.Layout.{recordBytes}
 use Rattle.machine_bytes.proofs.Tells.{one-record}
 use Rattle.step.specs.declared.Options.{Options}
 use Rattle.step.specs.declared.Stepped.{Stepped}
@@ -49,7 +48,7 @@ module _ {bytes : List ℕ} {n n′ : ℕ} {z z′ : List ℕ} where
   pub one-reset : ResetCall bytes n z → ResetCall bytes n′ z′ → (n ≡ n′) × (z ≡ z′)
   one-reset =
       judged (λ a b. (agree (a .refusal) (b .refusal), agree (a .kept) (b .kept)))
-      (λ m a b. let e : a .r ≡ b .r = reset-determined m (a .r) (b .r) (a .resets) (b .resets) in (via (λ (r : AfterReset). r .refusal) e (a .refusal) (b .refusal), via (λ (r : AfterReset). bytesOf (r .machine)) e (a .left) (b .left)))
+      (λ m a b. let e : a .r ≡ b .r = reset-determined m (a .r) (b .r) (a .resets) (b .resets) in (via (λ (r : AfterReset). r .refusal) e (a .refusal) (b .refusal), via (λ (r : AfterReset). recordBytes (r .machine)) e (a .left) (b .left)))
 
   pub one-display : {dots : List ℕ} → DisplayCall bytes dots n z → DisplayCall bytes dots n′ z′ → (n ≡ n′) × (z ≡ z′)
   one-display {dots} =
@@ -67,13 +66,13 @@ module _ {image : List ℕ} {o : Options} {bytes frames : List ℕ} {n n′ c c�
   pub one-step : StepCall image o bytes frames n c z → StepCall image o bytes frames n′ c′ z′ → (n ≡ n′) × (c ≡ c′) × (z ≡ z′)
   one-step =
       judged (λ a b. (agree (a .refusal) (b .refusal), agree (a .none) (b .none), agree (a .kept) (b .kept)))
-      (λ m a b. let e : a .r ≡ b .r = one-stepped image o m frames (a .r) (b .r) (a .steps) (b .steps) in (via (λ (r : Stepped). r .number) e (a .answer) (b .answer), via (λ (r : Stepped). r .cycles) e (a .spent) (b .spent), via (λ (r : Stepped). bytesOf (r .machine)) e (a .left) (b .left)))
+      (λ m a b. let e : a .r ≡ b .r = one-stepped image o m frames (a .r) (b .r) (a .steps) (b .steps) in (via (λ (r : Stepped). r .number) e (a .answer) (b .answer), via (λ (r : Stepped). r .cycles) e (a .spent) (b .spent), via (λ (r : Stepped). recordBytes (r .machine)) e (a .left) (b .left)))
 
   pub one-run : {s s′ : ℕ} → RunCall image o bytes frames n s c z → RunCall image o bytes frames n′ s′ c′ z′ → (n ≡ n′) × (s ≡ s′) × (c ≡ c′) × (z ≡ z′)
   one-run =
       judged
       (λ a b. (agree (a .refusal) (b .refusal), agree (a .no-steps) (b .no-steps), agree (a .no-cycles) (b .no-cycles), agree (a .kept) (b .kept)))
-      (λ m a b. let e : a .r ≡ b .r = one-ran image o m frames (a .r) (b .r) (a .runs) (b .runs) in (via (λ (r : Ran). r .number) e (a .answer) (b .answer), via (λ (r : Ran). r .steps) e (a .made) (b .made), via (λ (r : Ran). r .cycles) e (a .spent) (b .spent), via (λ (r : Ran). bytesOf (r .machine)) e (a .left) (b .left)))
+      (λ m a b. let e : a .r ≡ b .r = one-ran image o m frames (a .r) (b .r) (a .runs) (b .runs) in (via (λ (r : Ran). r .number) e (a .answer) (b .answer), via (λ (r : Ran). r .steps) e (a .made) (b .made), via (λ (r : Ran). r .cycles) e (a .spent) (b .spent), via (λ (r : Ran). recordBytes (r .machine)) e (a .left) (b .left)))
 
 pub one-read : {image : List ℕ} {address n n′ row row′ a a′ b b′ : ℕ} → ReadCall image address n row a b → ReadCall image address n′ row′ a′ b′ → (n ≡ n′) × (row ≡ row′) × (a ≡ a′) × (b ≡ b′)
 one-read x y = (agree (x .answer) (y .answer), agree (x .which) (y .which), agree (x .first) (y .first), agree (x .second) (y .second))

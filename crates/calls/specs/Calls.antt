@@ -1,5 +1,4 @@
 -- What the nine calls on numbers and byte buffers answer: include/em73862.h has their names. A primed name is what a call leaves where it was given the other.
--- Assumes nothing.
 use Prim.Native.Nat.{ℕ}
 use mathlib.Core.Bool.{not}
 use mathlib.Core.List.{List}
@@ -17,7 +16,7 @@ use Rattle.machine.specs.Valid.{Valid}
 use Rattle.machine_start.specs.Start.{freshMachine, ResetOf}
 use Rattle.machine.specs.declared.Machine.{Machine}
 use Rattle.machine_start.specs.declared.AfterReset.{AfterReset}
-use Rattle.machine_bytes.specs.Layout.{bytesOf, Holds, HoldsNone}
+use Rattle.machine_bytes.specs.Layout.{recordBytes, Holds, HoldsNone}
 use Rattle.step.specs.Answers.{StepOf}
 use Rattle.step.specs.declared.Options.{Options}
 use Rattle.step.specs.declared.Stepped.{Stepped}
@@ -44,7 +43,7 @@ optionsOf wake sound = record { wake = wake; sound = not (eqb sound 0) }
 -- em73862_fresh: a buffer of another length is refused, whatever is in it
 pub data FreshCall (bytes : List ℕ) (number : ℕ) (bytes′ : List ℕ) : Type 0 where
   wrong-length : (length bytes ≡ 409 → ⊥) → number ≡ record-outside-the-ranges → bytes′ ≡ bytes → FreshCall bytes number bytes′
-  fresh : length bytes ≡ 409 → number ≡ 0 → bytes′ ≡ bytesOf freshMachine → FreshCall bytes number bytes′
+  fresh : length bytes ≡ 409 → number ≡ 0 → bytes′ ≡ recordBytes freshMachine → FreshCall bytes number bytes′
 
 -- em73862_reset
 pub record NotReset (bytes : List ℕ) (number : ℕ) (bytes′ : List ℕ) : Type 0 where
@@ -55,7 +54,7 @@ pub record ResetAnswer (m : Machine) (number : ℕ) (bytes′ : List ℕ) : Type
   pub r : AfterReset
   pub resets : ResetOf m r
   pub refusal : number ≡ r .refusal
-  pub left : bytes′ ≡ bytesOf (r .machine)
+  pub left : bytes′ ≡ recordBytes (r .machine)
 
 abbrev pub ResetCall : List ℕ → ℕ → List ℕ → Type 0
 ResetCall bytes number bytes′ = Judged bytes (NotReset bytes number bytes′) (λ m. ResetAnswer m number bytes′)
@@ -79,7 +78,7 @@ pub record StepAnswer (image : List ℕ) (o : Options) (frame : List ℕ) (m : M
   pub steps : StepOf image o m frame r
   pub answer : number ≡ r .number
   pub spent : cycles ≡ r .cycles
-  pub left : bytes′ ≡ bytesOf (r .machine)
+  pub left : bytes′ ≡ recordBytes (r .machine)
 
 abbrev pub StepCall : List ℕ → Options → List ℕ → List ℕ → ℕ → ℕ → List ℕ → Type 0
 StepCall image o bytes frame number cycles bytes′ =
@@ -98,7 +97,7 @@ pub record RunAnswer (image : List ℕ) (o : Options) (frames : List ℕ) (m : M
   pub answer : number ≡ r .number
   pub made : steps ≡ r .steps
   pub spent : cycles ≡ r .cycles
-  pub left : bytes′ ≡ bytesOf (r .machine)
+  pub left : bytes′ ≡ recordBytes (r .machine)
 
 abbrev pub RunCall : List ℕ → Options → List ℕ → List ℕ → ℕ → ℕ → ℕ → List ℕ → Type 0
 RunCall image o bytes frames number steps cycles bytes′ =

@@ -1,5 +1,4 @@
 -- The numbers of an answer that is an enum, as the calls hand them on.
--- Assumes nothing.
 use mathlib.Core.Path.{_≡_}
 use lib.ListN.{length}
 use Rattle.numbers.specs.ComesBack.{Paper}

@@ -1,5 +1,4 @@
 -- Laws of periods: their exponents as the code has them, and a test of multiples by shifts.
--- Assumes nothing.
 use mathlib.Core.Path.{_≡_}
 use mathlib.Core.List.{List, [], _∷_, map}
 use Prim.Native.Nat.{ℕ, suc, _+_, _*_, _/_, _%_, _^_, _<_, _≤_}

@@ -1,5 +1,4 @@
 -- Every period is a multiple of 256: between two such multiples nothing but the time base changes. And passing n cycles, cycle by cycle.
--- Assumes nothing.
 use mathlib.Core.Path.{_≡_, ap, subst, _∙_}
 use mathlib.Core.Bool.{Bool, false}
 use Prim.Native.Nat.{ℕ, zero, suc, _+_, _-_, _*_, _/_, _%_, _^_, _<_, _≤_}

@@ -1,5 +1,4 @@
 -- What a cycle, some cycles and event counts keep: the ranges of the time base, the timers and the latches.
--- Assumes nothing.
 use mathlib.Core.Path.{_≡_, _∙_}
 use mathlib.Core.Bool.{Bool, true, false}
 use Prim.Native.Nat.{ℕ, zero, suc, _+_, _/_, _%_, _^_, _<_}

@@ -1,5 +1,4 @@
 -- Document 01, "One step": what a cycle does to the time base, the timers TA and TB and the latches IL5 to IL0, bits 5 to 0 of il; and the event counts of phase 1.
--- Assumes nothing.
 use Prim.Native.Nat.{ℕ, zero, suc, _+_, _/_, _%_, _^_, _<_}
 use mathlib.Core.Bool.{Bool, true, false}
 use mathlib.Core.List.{List, [], _∷_}

@@ -1,5 +1,4 @@
 -- What the call answers in each of its three cases, and that any two answers to the same are equal.
--- Assumes nothing.
 use Prim.Native.Nat.{ℕ, _<_, _≤_}
 use mathlib.Core.Bool.{Bool, true, false, not}
 use mathlib.Core.List.{List, _++_}

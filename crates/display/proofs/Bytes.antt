@@ -1,5 +1,4 @@
 -- The forty bytes as the code makes them, of whether the display is on and RAM: how many, which stands where, and what a buffer holds after them.
--- Assumes nothing.
 use Prim.Native.Nat.{ℕ, zero, suc, _+_, _*_, _/_, _%_, _<_, _≤_}
 use mathlib.Core.Bool.{Bool}
 use mathlib.Core.List.{List, _++_}

@@ -1,5 +1,4 @@
 -- Where a dot stands: dot s of row c is bit s mod 8 of byte 5c + s/8 of the forty, and its address in RAM is its place.
--- Assumes nothing.
 use Prim.Native.Nat.{ℕ, _+_, _*_, _/_, _%_, _^_, _<_}
 use mathlib.Core.Bool.{Bool, true, false}
 use mathlib.Core.List.{List}

@@ -1,5 +1,4 @@
 -- Laws of the due source: it is the highest of the allowed latch bits, and its latch is set.
--- Assumes nothing.
 use Prim.Native.Nat.{ℕ, _*_, _%_, _^_, _<_, _≤_}
 use mathlib.Core.Path.{_≡_}
 use mathlib.Core.Bool.{Bool, true}

@@ -1,5 +1,4 @@
 -- Document 01, "One step": which interrupt is due, of the latches IL5 to IL0 and the mask. A source is named by its latch's number.
--- Assumes nothing.
 use Prim.Native.Nat.{ℕ}
 use mathlib.Core.Bool.{Bool}
 use Rattle.laws.specs.Choice.{pick, both}

@@ -1,5 +1,4 @@
 -- Document 01, "One step": "compare the frame with the last one". A pin is named by its port's digit and its weight there.
--- Assumes nothing.
 use Prim.Native.Nat.{ℕ, _/_, _%_}
 use mathlib.Core.Bool.{Bool, false, not}
 use mathlib.Core.List.{List, [], _∷_}

@@ -1,5 +1,4 @@
 -- What is known of a frame that has the characters of the one before it.
--- Assumes nothing.
 use mathlib.Core.Path.{_≡_, ap, _∙_}
 use mathlib.Core.Bool.{Bool, true, false}
 use mathlib.Core.List.{List}

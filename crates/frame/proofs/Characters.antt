@@ -1,5 +1,4 @@
 -- Laws of one frame: the value of a character, the three characters at a place, and what a frame's pins are.
--- Assumes nothing.
 use mathlib.Core.Path.{_≡_, refl, ap, _∙_}
 use mathlib.Core.Bool.{Bool, true, false}
 use mathlib.Core.List.{List, [], _∷_}

@@ -1,5 +1,4 @@
 -- The first frames of a buffer of frames: they are frames, and the pins are the first ones.
--- Assumes nothing.
 use mathlib.Core.Path.{_≡_, _∙_}
 use mathlib.Core.Bool.{true}
 use mathlib.Core.List.{List, [], _∷_}

@@ -1,5 +1,4 @@
 -- Laws of a sequence of frames: one more frame at a place, and the frame of each number.
--- Assumes nothing.
 use mathlib.Core.Path.{_≡_, refl, ap, _∙_}
 use mathlib.Core.Bool.{Bool, true, false}
 use mathlib.Core.List.{List, [], _∷_, map}

@@ -1,5 +1,4 @@
 -- Document 01, "The record": what three characters, and a buffer of them, say of the pins.
--- Assumes nothing.
 use Prim.Native.Nat.{ℕ, zero, suc, _+_, _-_, _/_, _<_}
 use Prim.Native.Char.{Char, code}
 use mathlib.Core.Bool.{Bool, true, false}

@@ -1,5 +1,4 @@
 -- Two graphs that agree at what is reached from s have the same places, paths, longest paths and faults from s.
--- Assumes nothing.
 use mathlib.Core.Path.{_≡_, refl, sym, ap₂, _∙_}
 use mathlib.Core.Logic.{inl, inr, ⊎-elim}
 use mathlib.Core.List.{List}

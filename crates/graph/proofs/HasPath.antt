@@ -1,5 +1,4 @@
 -- Where neither an excluded place nor a repetition is reached from s, a path leads on from each place that is.
--- Assumes nothing.
 use mathlib.Core.Path.{_≡_, refl, ap}
 use mathlib.Core.Logic.{_⊎_, inl, inr, ⊎-elim}
 use mathlib.Core.List.{List, [], _∷_}

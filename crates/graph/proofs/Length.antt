@@ -1,5 +1,4 @@
 -- Where nothing is repeated, a path has no more places than there are.
--- Assumes nothing.
 use mathlib.Core.List.{List}
 use Prim.Native.Nat.{ℕ, zero, suc, _*_, _<_, _≤_}
 use native.Mathlib.Decide.{decLt}

@@ -1,5 +1,4 @@
 -- The pigeonhole: a function from 0 .. n to the numbers below n takes a value twice.
--- Assumes nothing.
 use mathlib.Core.Path.{_≡_, sym, _∙_}
 use mathlib.Core.Logic.{_⊎_, inl, inr, ⊎-elim}
 use Prim.Native.Nat.{ℕ, zero, suc, _<_}

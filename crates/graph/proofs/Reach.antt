@@ -1,5 +1,4 @@
 -- Laws on what is reached.
--- Assumes nothing.
 use mathlib.Core.Logic.{_⊎_, ⊎-elim}
 use mathlib.Core.Path.{_≡_}
 use mathlib.Core.List.{List}

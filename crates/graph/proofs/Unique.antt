@@ -1,5 +1,4 @@
 -- The longest path is a path, none has more, and there is one only; the least number is one only.
--- Assumes nothing.
 use mathlib.Core.Path.{_≡_, refl, ap}
 use mathlib.Core.Logic.{_⊎_, inl, inr}
 use mathlib.Core.List.{List, _∷_}

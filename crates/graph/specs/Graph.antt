@@ -1,5 +1,4 @@
 -- A flow graph and what is asked of it. Nothing here knows a chip, nor how the answers are found.
--- Assumes nothing.
 use mathlib.Core.Path.{_≡_}
 use mathlib.Core.Logic.{_⊎_}
 use mathlib.Core.List.{List, [], _∷_}

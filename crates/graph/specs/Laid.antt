@@ -1,5 +1,4 @@
 -- A graph laid in arrays, a place an index; and what a place costs.
--- Assumes nothing.
 use mathlib.Core.Path.{_≡_}
 use mathlib.Core.List.{List}
 use Prim.Native.Nat.{ℕ, _≤_, _<_}

@@ -1,5 +1,4 @@
 -- Any two conforming answers are equal, and so are the buffers; and an answer holds of every graph that agrees at what is reached.
--- Assumes nothing.
 use mathlib.Core.Path.{_≡_, sym, ap, _∙_}
 use mathlib.Core.List.{List, _++_}
 use Prim.Native.Nat.{ℕ, _*_}

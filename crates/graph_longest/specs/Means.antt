@@ -1,5 +1,4 @@
 -- What each answer of `longest` says of a graph, its costs, a start s and a buffer that was p and became p′.
--- Assumes nothing.
 use mathlib.Core.Path.{_≡_}
 use mathlib.Core.List.{List, _++_}
 use Prim.Native.Nat.{ℕ, _*_, _≤_, _<_}

@@ -1,5 +1,4 @@
 -- Two searches tell whether a place comes back to itself: one from each place that follows it.
--- Assumes nothing.
 use mathlib.Core.Path.{_≡_, refl}
 use mathlib.Core.Logic.{inl, inr, ⊎-elim}
 use mathlib.Core.List.{List}

@@ -1,5 +1,4 @@
 -- Where no rank rises along an edge, a place with a higher rank than those that follow it does not come back to itself.
--- Assumes nothing.
 use mathlib.Core.Path.{_≡_}
 use mathlib.Core.List.{List}
 use Prim.Native.Nat.{ℕ, _+_, _≤_, _<_}

@@ -1,5 +1,4 @@
 -- The lowest place that is reached from itself, and ranks that rule places out.
--- Assumes nothing.
 use mathlib.Core.Path.{_≡_}
 use mathlib.Core.List.{List}
 use Prim.Native.Nat.{ℕ, _≤_, _<_}

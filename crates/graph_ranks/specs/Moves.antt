@@ -1,5 +1,4 @@
 -- What a move of the walk keeps: its numbers stay in range.
--- Assumes nothing.
 use Prim.Native.Nat.{_+_, _≤_, _<_}
 use Rattle.graph_ranks.specs.declared.Spot.{Spot}
 

@@ -1,5 +1,4 @@
 -- There is one way from a place with a sum, it ends, and it is the longest path.
--- Assumes nothing.
 use mathlib.Core.Path.{_≡_, refl, sym, ap, _∙_}
 use mathlib.Core.Logic.{_⊎_, inl, inr}
 use mathlib.Core.List.{List, [], _∷_}

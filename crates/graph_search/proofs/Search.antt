@@ -1,5 +1,4 @@
 -- A search keeps its invariant from the start on, and where its head has come to the end of the queue it has found all.
--- Assumes nothing.
 use mathlib.Core.Path.{_≡_, _∙_}
 use mathlib.Core.Logic.{inl, inr, ⊎-elim}
 use mathlib.Core.List.{List}

@@ -1,5 +1,4 @@
 -- Places that are marked in m and stand in the first places of a queue q, and how both grow.
--- Assumes nothing.
 use mathlib.Core.Path.{_≡_}
 use mathlib.Core.Logic.{_⊎_}
 use mathlib.Core.List.{List, [], _∷_}

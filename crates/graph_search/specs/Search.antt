@@ -1,5 +1,4 @@
 -- A search of a graph from s: what holds while it goes on, and what it comes to.
--- Assumes nothing.
 use mathlib.Core.List.{List}
 use Prim.Native.Nat.{ℕ, _≤_, _<_}
 use lib.ListN.{getD}

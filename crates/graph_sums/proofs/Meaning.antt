@@ -1,5 +1,4 @@
 -- What the sums say: no path has more than the sum of its first place, and a place with a sum does not come back to itself.
--- Assumes nothing.
 use mathlib.Core.Path.{_≡_}
 use mathlib.Core.Logic.{_⊎_, inl, inr}
 use mathlib.Core.List.{List}

@@ -1,5 +1,4 @@
 -- Where s has no sum though all that it reaches is idle and nothing is excluded, a place that it reaches comes back to itself.
--- Assumes nothing.
 use mathlib.Core.Path.{_≡_, refl}
 use mathlib.Core.Logic.{inl, inr}
 use mathlib.Core.List.{List}

@@ -1,5 +1,4 @@
 -- Sums d, one a place: 0, or what the place costs with the greater of its successors' sums.
--- Assumes nothing.
 use mathlib.Core.Path.{_≡_}
 use mathlib.Core.List.{List}
 use Prim.Native.Nat.{ℕ, _+_, _*_, _≤_, _<_, max}

@@ -1,5 +1,4 @@
 -- Laws of a list of numbers: what holds at each of them holds at a number among them, and one that is none of the others is the first.
--- Assumes nothing.
 use mathlib.Core.Path.{_≡_, refl}
 use mathlib.Core.Bool.{true, false}
 use mathlib.Core.List.{List, [], _∷_}

@@ -1,5 +1,4 @@
 -- What holds of both sides of a choice holds of the one picked; and which of two tests passed.
--- Assumes nothing.
 use mathlib.Core.Path.{_≡_, refl, subst}
 use mathlib.Core.Bool.{Bool, true, false, not}
 use lib.Dec.{T}

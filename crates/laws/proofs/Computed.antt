@@ -1,5 +1,4 @@
 -- A test that the checker computes for all numbers below a bound, carried to each of them.
--- Assumes nothing.
 use mathlib.Core.Path.{_≡_, refl, sym, ap, subst, _∙_}
 use mathlib.Core.Bool.{Bool, true, false, not}
 use mathlib.Core.List.{List, [], _∷_}

@@ -1,5 +1,4 @@
 -- Statements that a test decides: which test that is for each of the usual ones, and for several together.
--- Assumes nothing.
 use mathlib.Core.Path.{_≡_}
 use mathlib.Core.Bool.{Bool, true, false, not}
 use Prim.Native.Nat.{ℕ, zero, suc, _<_}

@@ -1,5 +1,4 @@
 -- A choice by a test, and two tests together.
--- Assumes nothing.
 use mathlib.Core.Bool.{Bool, true, false}
 
 abbrev pub pick : {A : Type 0} → Bool → A → A → A

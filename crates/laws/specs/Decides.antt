@@ -1,5 +1,4 @@
 -- A test decides a statement: it passes exactly where the statement holds.
--- Assumes nothing.
 use mathlib.Core.Bool.{Bool}
 use lib.Dec.{T}
 

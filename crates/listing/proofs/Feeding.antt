@@ -1,5 +1,4 @@
 -- A part of the script told a line at a time: what is written and what is left make the listing, whatever the script goes on with.
--- Assumes nothing.
 use mathlib.Core.Path.{_≡_, refl, sym, _∙_}
 use mathlib.Core.Bool.{true, false}
 use mathlib.Core.List.{List, [], _∷_, _++_, append-assoc}

@@ -1,5 +1,4 @@
 -- The script read in parts: what is printed over all of them is the listing. Each law is a way on or an end of the runner's loop.
--- Assumes nothing.
 use mathlib.Core.Path.{_≡_, refl, sym, ap, _∙_}
 use mathlib.Core.Bool.{Bool, true, false}
 use mathlib.Core.List.{List, [], _∷_, _++_, append-assoc, append-nil}

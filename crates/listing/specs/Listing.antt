@@ -1,5 +1,4 @@
 -- Document 01, the runner's listing: what it prints for an image and a script.
--- Assumes nothing.
 use Prim.Native.Nat.{ℕ}
 use mathlib.Core.Bool.{Bool, true, false, not}
 use mathlib.Core.List.{List, [], _∷_, _++_}
@@ -37,12 +36,12 @@ stepAnswer x = record { text = stepLine (x .machine .core) (x .cycles) (x .stop)
 abbrev pub badAnswer : Machine → Answer
 badAnswer m = record { text = refusedLine no-frame; machine = m; ends = true }
 
-abbrev pub answered : (ℕ → ℕ) → Machine → Frame → Answer
-answered rom m (Seen pins) = stepAnswer (stepOf rom options m pins)
-answered rom m NoFrame = badAnswer m
+abbrev pub frameAnswer : (ℕ → ℕ) → Machine → Frame → Answer
+frameAnswer rom m (Seen pins) = stepAnswer (stepOf rom options m pins)
+frameAnswer rom m NoFrame = badAnswer m
 
 unfoldable pub answerOf : (ℕ → ℕ) → Machine → List ℕ → Answer
-answerOf rom m line = answered rom m (frameOf line)
+answerOf rom m line = frameAnswer rom m (frameOf line)
 
 -- "one step a line, any number of lines", "Lines after a stop are not read."
 abbrev pub toldOver : (ℕ → ℕ) → Machine → List (List ℕ) → List ℕ

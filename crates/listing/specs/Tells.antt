@@ -1,5 +1,4 @@
 -- What the runner's functions promise: a line of the script answered, and the whole lines of a part of the script.
--- Assumes nothing.
 use Prim.Native.Nat.{ℕ, _+_, _≤_}
 use mathlib.Core.Path.{_≡_}
 use mathlib.Core.Bool.{false}

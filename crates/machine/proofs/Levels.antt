@@ -1,5 +1,4 @@
 -- Laws of a stack level: it holds nibbles, and what was stored in it is read back.
--- Assumes nothing.
 use Prim.Native.Nat.{ℕ, _+_, _/_, _%_, _<_, _≤_}
 use mathlib.Core.Path.{_≡_, _∙_}
 use mathlib.Core.List.{List}

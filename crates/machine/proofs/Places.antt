@@ -1,5 +1,4 @@
 -- Laws of RAM: a place is at most 372, and a nibble that is set leaves nibbles.
--- Assumes nothing.
 use Prim.Native.Nat.{ℕ, _+_, _-_, _<_, _≤_}
 use mathlib.Core.Path.{_≡_}
 use mathlib.Core.List.{List}

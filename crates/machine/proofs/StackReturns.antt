@@ -1,5 +1,4 @@
 -- What a call or an acceptance pushed comes back.
--- Assumes nothing.
 use Prim.Native.Nat.{ℕ, _-_, _/_, _%_, _<_}
 use mathlib.Core.Path.{_≡_}
 use native.Mathlib.Omega.{arith}

@@ -1,5 +1,4 @@
 -- Each use of the stack makes a valid record of a valid one.
--- Assumes nothing.
 use Prim.Native.Nat.{ℕ, _+_, _-_, _/_, _%_, _^_, _<_}
 use mathlib.Core.Path.{_≡_}
 use native.Mathlib.Omega.{arith}
@@ -9,7 +8,7 @@ use Rattle.bits.specs.Bits.{withoutBit}
 use Rattle.bits.proofs.Laws.{without-le}
 use Rattle.laws.proofs.Computed.{below, implies, at, modus, true→T}
 use Rattle.machine.specs.Valid.{ValidRegisters, ValidInterrupts, ValidCore, Valid}
-use Rattle.machine.specs.Stack.{CanPush, CanPop, level, topOf, topAt, keptTop, moved, pushed, popped, called, accepted, entryOf, flagsReturned}
+use Rattle.machine.specs.Stack.{CanPush, CanPop, level, topOf, topAt, keptTop, moved, pushed, popped, called, accepted, interruptEntry, flagsReturned}
 use Rattle.machine.specs.declared.Registers.{Registers}
 use Rattle.machine.specs.declared.Interrupts.{Interrupts}
 use Rattle.machine.specs.declared.Core.{Core}
@@ -51,8 +50,8 @@ called-valid m ret target v c hr ht =
       ram = n .ram;
     }
 
-entry-lt : (latch : ℕ) → latch < 6 → entryOf latch < 8192
-entry-lt latch h = ltb→lt (entryOf latch) 8192 (at (λ l. ltb (entryOf l) 8192) 6 tt latch h)
+entry-lt : (latch : ℕ) → latch < 6 → interruptEntry latch < 8192
+entry-lt latch h = ltb→lt (interruptEntry latch) 8192 (at (λ l. ltb (interruptEntry l) 8192) 6 tt latch h)
 
 still-clear : (il latch : ℕ) → il < 64 → il / 16 % 2 ≡ 0 → latch < 6 → withoutBit il (2 ^ latch) / 16 % 2 ≡ 0
 still-clear il latch h e l =

@@ -1,5 +1,4 @@
 -- Document 01, "The record" and "Instructions": which addresses RAM has, and which of them an instruction means. A place is a position in the record's list of 372 nibbles; 372 stands for an absent address, stop 31.
--- Assumes nothing.
 use Prim.Native.Nat.{ℕ, _+_, _-_, _*_, _/_, _%_, _<_}
 use mathlib.Core.Path.{_≡_}
 use mathlib.Core.List.{List}

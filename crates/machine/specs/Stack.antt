@@ -1,5 +1,4 @@
 -- Document 01, "Instructions" and "One step": the stack's levels, and what a call, an acceptance, RET and RTI make of the record.
--- Assumes nothing.
 use Prim.Native.Nat.{ℕ, _+_, _-_, _*_, _/_, _%_, _^_, _≤_}
 use mathlib.Core.Bool.{Bool, true, false}
 use mathlib.Core.List.{List, [], _∷_}
@@ -70,8 +69,8 @@ called m ret target =
     record { core = moved (n .core) (n .core .regs) target (n .core .ptrs .sp) (n .core .ints); ram = n .ram }
 
 -- "IL5, IL3, IL2, IL1, IL0; entries 002h, 006h, 008h, 00Ah, 00Ch": by the latch's number from 0 up. IL4 is always clear
-abbrev pub entryOf : ℕ → ℕ
-entryOf latch = getD (0x00C ∷ 0x00A ∷ 0x008 ∷ 0x006 ∷ 0x004 ∷ 0x002 ∷ []) latch 0
+abbrev pub interruptEntry : ℕ → ℕ
+interruptEntry latch = getD (0x00C ∷ 0x00A ∷ 0x008 ∷ 0x006 ∷ 0x004 ∷ 0x002 ∷ []) latch 0
 
 abbrev pub withFlags : Registers → Bool → Bool → Bool → Registers
 withFlags r cf zf sf = record { acc = r .acc; hr = r .hr; lr = r .lr; cf = cf; zf = zf; sf = sf }
@@ -84,7 +83,7 @@ accepted m latch =
     let n = pushed m (m .core .pc) (topOf (m .core .pc) r) in
     record {
       core =
-          moved (n .core) (withFlags r (r .cf) (r .zf) true) (entryOf latch) (n .core .ptrs .sp)
+          moved (n .core) (withFlags r (r .cf) (r .zf) true) (interruptEntry latch) (n .core .ptrs .sp)
           (record { ei = false; il = withoutBit (i .il) (2 ^ latch); mask = i .mask });
       ram = n .ram;
     }

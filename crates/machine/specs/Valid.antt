@@ -1,5 +1,4 @@
 -- Document 01, "The record": the ranges of its parts and what ties them. A record outside them is refused with 2.
--- Assumes nothing.
 use Prim.Native.Nat.{ℕ, _/_, _%_, _<_}
 use mathlib.Core.Path.{_≡_}
 use mathlib.Core.List.{List}

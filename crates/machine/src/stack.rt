@@ -11,14 +11,14 @@ use bits::without_bit;
 ghost use mathlib.Core.Path.{_≡_};
 ghost use Prim.Native.Nat.{_<_};
 ghost use Rattle.machine.specs.Valid.{Nibbles};
-ghost use Rattle.machine.specs.Stack.{CanPush, CanPop, pushed, popped, called, accepted, flagsReturned, entryOf};
+ghost use Rattle.machine.specs.Stack.{CanPush, CanPop, pushed, popped, called, accepted, flagsReturned, interruptEntry};
 
 // Where an interrupt goes, by its latch's number from IL0 up.
 const ENTRIES: [u16; 6] = [0x00C, 0x00A, 0x008, 0x006, 0x004, 0x002];
 
 fn entry_of(latch: u8) -> u16
     requires { ⌜ latch < 6 ⌝ }
-    ensures { λ r. ⌜ r ≡ entryOf latch ⌝ }
+    ensures { λ r. ⌜ r ≡ interruptEntry latch ⌝ }
 {
     let at = latch as usize;
     ENTRIES[at]

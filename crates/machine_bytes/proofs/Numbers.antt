@@ -1,5 +1,4 @@
 -- Numbers in two bytes and in four, flags and modes: that what the code makes of the bytes has those bytes.
--- Assumes nothing.
 use Prim.Native.Nat.{ℕ, zero, suc, _+_, _*_, _/_, _%_, _<_}
 use mathlib.Core.Path.{_≡_, refl}
 use mathlib.Core.List.{List, [], _∷_, _++_}

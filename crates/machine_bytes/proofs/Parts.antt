@@ -1,5 +1,4 @@
 -- Lists taken apart and put together: a part of a list by its elements, and copies into a buffer.
--- Assumes nothing.
 use Prim.Native.Nat.{ℕ, zero, suc, _+_, _-_, _≤_, _<_}
 use mathlib.Core.Path.{_≡_, refl, sym, ap, _∙_}
 use mathlib.Core.Bool.{Bool}
@@ -18,7 +17,7 @@ use Rattle.machine.specs.declared.Machine.{Machine}
 use Rattle.machine.specs.declared.Registers.{Registers}
 use Rattle.machine.specs.declared.Timers.{Timers}
 use Rattle.machine_bytes.specs.Unpacked.{RegistersAt, TimersAt}
-use Rattle.machine_bytes.specs.Layout.{two, four, modeNumber, latches, nibblesOf, othersOf, headOf, Holds}
+use Rattle.machine_bytes.specs.Layout.{two, four, modeNumber, latchBytes, nibblesOf, othersOf, headOf, Holds}
 
 -- n elements from i on
 pub listed-part : (h : List ℕ) (i n : ℕ) → i + n ≤ length h → listed (λ k. getD h k 0) i n ≡ take n (drop i h)
@@ -41,7 +40,7 @@ head-parts h l =
     ∙ ap (λ (r : List ℕ). listed (λ k. getD h k 0) 0 5 ++ r) (rest ∙ ap (λ (r : List ℕ). take 11 (drop 5 h) ++ r) (sym last ∙ sym (listed-part h 16 21 (omega arith)))))
 
 -- the scalars whose bytes those are
-pub head-laid : (h : List ℕ) (r : Registers) (t : Timers) (p : Ports) (pc dp : ℕ) (ei : Bool) (mode : Mode) → length h ≡ 37 → RegistersAt h r → TimersAt h t → latches p ≡ take 11 (drop 5 h) → two pc ≡ getD h 16 0 ∷ getD h 17 0 ∷ [] → two dp ≡ getD h 18 0 ∷ getD h 19 0 ∷ [] → bitOf ei ≡ getD h 27 0 → modeNumber mode ≡ getD h 36 0 → h ≡ headOf (record { regs = r; pc = pc; ptrs = record { sp = getD h 3 0; dp = dp }; ints = record { ei = ei; il = getD h 28 0; mask = getD h 4 0 }; timers = t; ports = p; pins = record { p0 = getD h 33 0; p8 = getD h 34 0; p4 = getD h 35 0 }; mode = mode })
+pub head-laid : (h : List ℕ) (r : Registers) (t : Timers) (p : Ports) (pc dp : ℕ) (ei : Bool) (mode : Mode) → length h ≡ 37 → RegistersAt h r → TimersAt h t → latchBytes p ≡ take 11 (drop 5 h) → two pc ≡ getD h 16 0 ∷ getD h 17 0 ∷ [] → two dp ≡ getD h 18 0 ∷ getD h 19 0 ∷ [] → bitOf ei ≡ getD h 27 0 → modeNumber mode ≡ getD h 36 0 → h ≡ headOf (record { regs = r; pc = pc; ptrs = record { sp = getD h 3 0; dp = dp }; ints = record { ei = ei; il = getD h 28 0; mask = getD h 4 0 }; timers = t; ports = p; pins = record { p0 = getD h 33 0; p8 = getD h 34 0; p4 = getD h 35 0 }; mode = mode })
 unfolding nibblesOf othersOf
 head-laid h r t p pc dp ei mode l er et ep epc edp eei em =
     rw (er .acc, er .hr, er .lr, er .cf, er .zf, er .sf, et .ta, et .tb, et .base, ep, epc, edp, eei, em) (head-parts h l)
@@ -56,7 +55,7 @@ put-wrote out part y from h e =
     record { buffer = buffer; end = refl; within = h; size = ap length buffer ∙ length-sets out from part }
 
 nibbles-length : (m : Machine) → length (nibblesOf (m .core)) ≡ 16
-unfolding nibblesOf latches
+unfolding nibblesOf latchBytes
 nibbles-length m = refl
 
 others-length : (m : Machine) → length (othersOf (m .core)) ≡ 21

@@ -1,5 +1,4 @@
 -- The layout loses nothing: a buffer tells which record it holds.
--- Assumes nothing.
 use Prim.Native.Nat.{ℕ, _+_, _*_, _/_, _%_, _<_}
 use mathlib.Core.Bool.{Bool, true, false}
 use mathlib.Core.List.{List}
@@ -11,7 +10,7 @@ use Rattle.laws.specs.Choice.{pick}
 use Rattle.bits.specs.Bits.{bitOf}
 use Rattle.ports.specs.declared.Mode.{Mode}
 use Rattle.machine.specs.declared.Machine.{Machine}
-use Rattle.machine_bytes.specs.Layout.{two, four, modeNumber, latches, nibblesOf, othersOf, bytesOf, Holds}
+use Rattle.machine_bytes.specs.Layout.{two, four, modeNumber, latchBytes, nibblesOf, othersOf, recordBytes, Holds}
 use Rattle.machine_bytes.specs.Unpacked.{FlagsFit}
 
 -- a number from its bytes, a flag and a mode from theirs
@@ -68,12 +67,12 @@ mode-back Mode.Running = refl
 mode-back Mode.Sleep = refl
 mode-back Mode.Hold = refl
 
-back : (m : Machine) → machineFrom (bytesOf m) ≡ m
-unfolding nibblesOf othersOf latches two four
+back : (m : Machine) → machineFrom (recordBytes m) ≡ m
+unfolding nibblesOf othersOf latchBytes two four
 back m =
     rw (two-back (m .core .pc), two-back (m .core .ptrs .dp), two-back (m .core .timers .ta), two-back (m .core .timers .tb), four-back (m .core .timers .base), flag-back (m .core .regs .cf), flag-back (m .core .regs .zf), flag-back (m .core .regs .sf), flag-back (m .core .ints .ei), mode-back (m .core .mode))
 
-pub same-bytes : (m n : Machine) → bytesOf m ≡ bytesOf n → m ≡ n
+pub same-bytes : (m n : Machine) → recordBytes m ≡ recordBytes n → m ≡ n
 same-bytes m n e = sym (back m) ∙ (ap machineFrom e ∙ back n)
 
 pub one-record : {bytes : List ℕ} (m n : Machine) → Holds bytes m → Holds bytes n → m ≡ n
@@ -90,7 +89,7 @@ mode-lt Mode.Sleep = omega arith
 mode-lt Mode.Hold = omega arith
 
 -- what a record's bytes meet, whatever the record
-pub flags-of : (m : Machine) → FlagsFit (take 37 (bytesOf m))
-unfolding nibblesOf othersOf latches two four
+pub flags-of : (m : Machine) → FlagsFit (take 37 (recordBytes m))
+unfolding nibblesOf othersOf latchBytes two four
 flags-of m =
     record { cf = bit-lt (m .core .regs .cf); zf = bit-lt (m .core .regs .zf); sf = bit-lt (m .core .regs .sf); ei = bit-lt (m .core .ints .ei); mode = mode-lt (m .core .mode) }

@@ -1,5 +1,4 @@
 -- What unpacking answers in each of its cases.
--- Assumes nothing.
 use Prim.Native.Nat.{ℕ}
 use mathlib.Core.Bool.{true, false}
 use mathlib.Core.List.{List}

@@ -1,5 +1,4 @@
 -- The record as 409 bytes: what stands where in a buffer that crosses a call on numbers and byte buffers. Document 01, "The record", names the parts.
--- Assumes nothing.
 use Prim.Native.Nat.{ℕ, _/_, _%_}
 use mathlib.Core.List.{List, [], _∷_, _++_}
 use mathlib.Core.Path.{_≡_}
@@ -24,11 +23,11 @@ modeNumber Mode.Sleep = 1
 modeNumber Mode.Hold = 2
 
 -- "ACC, HR, LR, SP, mask, port latches: 0 to 15": bytes 0 to 15, the latches in the order of their ports
-unfoldable pub latches : Ports → List ℕ
-latches p = p .p4 ∷ p .p8 ∷ p .p9 ∷ p .p16 ∷ p .p23 ∷ p .p24 ∷ p .p25 ∷ p .p27 ∷ p .p28 ∷ p .p29 ∷ p .p30 ∷ []
+unfoldable pub latchBytes : Ports → List ℕ
+latchBytes p = p .p4 ∷ p .p8 ∷ p .p9 ∷ p .p16 ∷ p .p23 ∷ p .p24 ∷ p .p25 ∷ p .p27 ∷ p .p28 ∷ p .p29 ∷ p .p30 ∷ []
 
 unfoldable pub nibblesOf : Core → List ℕ
-nibblesOf m = m .regs .acc ∷ m .regs .hr ∷ m .regs .lr ∷ m .ptrs .sp ∷ m .ints .mask ∷ latches (m .ports)
+nibblesOf m = m .regs .acc ∷ m .regs .hr ∷ m .regs .lr ∷ m .ptrs .sp ∷ m .ints .mask ∷ latchBytes (m .ports)
 
 -- bytes 16 to 36: PC, DP, TA, TB; CF, ZF, SF, EI; the latches IL5 to IL0; the time base; the last frame; the mode
 unfoldable pub othersOf : Core → List ℕ
@@ -48,13 +47,13 @@ abbrev pub headOf : Core → List ℕ
 headOf m = nibblesOf m ++ othersOf m
 
 -- "RAM: 372 nibbles", one a byte
-abbrev pub bytesOf : Machine → List ℕ
-bytesOf m = headOf (m .core) ++ m .ram
+abbrev pub recordBytes : Machine → List ℕ
+recordBytes m = headOf (m .core) ++ m .ram
 
 -- the buffer holds the record: it is its 409 bytes and no more
 pub record Holds (bytes : List ℕ) (m : Machine) : Type 0 where
   pub size : length bytes ≡ 409
-  pub same : bytes ≡ bytesOf m
+  pub same : bytes ≡ recordBytes m
 
 abbrev pub HoldsNone : List ℕ → Type 0
 HoldsNone bytes = (m : Machine) → Holds bytes m → ⊥

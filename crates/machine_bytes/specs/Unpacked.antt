@@ -1,5 +1,4 @@
 -- What unpacking a buffer answers, and what it asks of the head's bytes.
--- Assumes nothing.
 use Prim.Native.Nat.{ℕ, _<_}
 use mathlib.Core.Bool.{true, false}
 use mathlib.Core.List.{List, [], _∷_}

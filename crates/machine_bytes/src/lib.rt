@@ -20,7 +20,7 @@ ghost use lib.ListN.{length, take, drop};
 ghost use Rattle.laws.specs.Decides.{Decides};
 ghost use Rattle.laws.specs.Writing.{Wrote};
 ghost use Rattle.bits.specs.Bits.{bitOf};
-ghost use Rattle.machine_bytes.specs.Layout.{two, four, modeNumber, latches, nibblesOf, othersOf, headOf, Holds};
+ghost use Rattle.machine_bytes.specs.Layout.{two, four, modeNumber, latchBytes, nibblesOf, othersOf, headOf, Holds};
 ghost use Rattle.machine_bytes.specs.Unpacked.{FlagsFit, RegistersAt, TimersAt, Unpacks};
 
 // Whether a buffer holds a record, and that record; where it holds none, the fresh one.
@@ -168,7 +168,7 @@ fn flags_fit(head: &[u8; 37]) -> bool
 
 fn ports_of(head: &[u8; 37]) -> Ports
     requires { ⌜ length (now head) ≡ 37 ⌝ }
-    ensures { λ r. ⌜ latches r ≡ take 11 (drop 5 (now (head .entry))) ⌝ }
+    ensures { λ r. ⌜ latchBytes r ≡ take 11 (drop 5 (now (head .entry))) ⌝ }
 {
     Ports {
         p4: head[5],

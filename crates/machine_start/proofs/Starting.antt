@@ -1,5 +1,4 @@
 -- The fresh record and each reset record are valid, and reset's answer is determined.
--- Assumes nothing.
 use Prim.Native.Nat.{_<_}
 use mathlib.Core.Path.{_≡_, sym, _∙_}
 use lib.Dec.{lit<}

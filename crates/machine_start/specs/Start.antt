@@ -1,5 +1,4 @@
 -- Document 01, "The record": the fresh record and reset.
--- Assumes nothing.
 use mathlib.Core.Path.{_≡_}
 use mathlib.Core.Bool.{true, false}
 use lib.ListN.{replicate}
@@ -53,13 +52,13 @@ abbrev pub resetMachine : Machine → Machine
 resetMachine m = record { core = resetCore (m .core); ram = m .ram }
 
 -- the answers by document 01's table: its number and the record. 2, "record outside the ranges above", gives back what came; 0 is no refusal
-abbrev pub refused : Machine → AfterReset
-refused m = record { refusal = record-outside-the-ranges; machine = m }
+abbrev pub resetRefused : Machine → AfterReset
+resetRefused m = record { refusal = record-outside-the-ranges; machine = m }
 
-abbrev pub done : Machine → AfterReset
-done m = record { refusal = 0; machine = resetMachine m }
+abbrev pub resetDone : Machine → AfterReset
+resetDone m = record { refusal = 0; machine = resetMachine m }
 
 -- which of them reset gives
 pub record ResetOf (m : Machine) (r : AfterReset) : Type 0 where
-  pub outside : (Valid m → ⊥) → r ≡ refused m
-  pub inside : Valid m → r ≡ done m
+  pub outside : (Valid m → ⊥) → r ≡ resetRefused m
+  pub inside : Valid m → r ≡ resetDone m

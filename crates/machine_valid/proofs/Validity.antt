@@ -1,5 +1,4 @@
 -- Validity is decided, part by part.
--- Assumes nothing.
 use Prim.Native.Nat.{ℕ, _/_, _%_, _<_}
 use mathlib.Core.List.{List}
 use lib.ListN.{getD}

@@ -1,5 +1,4 @@
 -- Document 01, "What comes back": the number of an answer, and the values that come with it. Each call gives, for each case of its own answer, what that is here.
--- Assumes nothing.
 use Prim.Native.Nat.{ℕ}
 use mathlib.Core.List.{List, [], _∷_}
 

@@ -1,5 +1,4 @@
 -- Document 01, "Instructions": the ports, read, written, set and cleared; and what writing P16 does.
--- Assumes nothing.
 use Prim.Native.Nat.{ℕ, _+_, _/_, _%_}
 use mathlib.Core.Bool.{Bool}
 use mathlib.Core.List.{[], _∷_}
@@ -60,12 +59,12 @@ abbrev pub p4Pins : Bool → ℕ → ℕ
 p4Pins sound p4 = pick sound 15 (14 + p4)
 
 -- "P0 reads the frame, P9 its latch. Reading or testing P4 or P8 gives the frame's pins"
-abbrev pub pinsOf : Bool → Pins → Ports → ℕ → ℕ
-pinsOf sound pins p n = pick (eqb n 0) (pins .p0) (pick (eqb n 4) (p4Pins sound (pins .p4)) (pick (eqb n 8) (pins .p8) (p .p9)))
+abbrev pub portPins : Bool → Pins → Ports → ℕ → ℕ
+portPins sound pins p n = pick (eqb n 0) (pins .p0) (pick (eqb n 4) (p4Pins sound (pins .p4)) (pick (eqb n 8) (pins .p8) (p .p9)))
 
 -- ".. and sets the latch to 15"
-abbrev pub touched : Ports → ℕ → Ports
-touched p n = pick (either (eqb n 4) (eqb n 8)) (withLatch p n 15) p
+abbrev pub latchesRead : Ports → ℕ → Ports
+latchesRead p n = pick (either (eqb n 4) (eqb n 8)) (withLatch p n 15) p
 
 abbrev pub readAs : ℕ → Ports → PortRead
 readAs v p = record { stop = 0; value = v; ports = p }
@@ -74,7 +73,7 @@ abbrev pub noRead : Ports → PortRead
 noRead p = record { stop = absent-port; value = 0; ports = p }
 
 unfoldable pub readPort : Bool → Pins → Ports → ℕ → PortRead
-readPort sound pins p n = pick (isReadable n) (readAs (pinsOf sound pins p n) (touched p n)) (noRead p)
+readPort sound pins p n = pick (isReadable n) (readAs (portPins sound pins p n) (latchesRead p n)) (noRead p)
 
 -- 34, "10xx written to P25 or P27"
 abbrev pub reservedStop : ℕ → ℕ

@@ -1,5 +1,4 @@
 -- The public reader's answer: its values are the row's columns, and any two answers that meet its promise are equal.
--- Assumes nothing.
 use mathlib.Core.Path.{_≡_, refl, sym, ap, _∙_}
 use mathlib.Core.List.{List}
 use Prim.Native.Nat.{ℕ}

@@ -1,5 +1,4 @@
 -- What is read at an address is an instruction of the sheet, and its first byte gives the row's bytes and cycles.
--- Assumes nothing.
 use mathlib.Core.Path.{_≡_}
 use mathlib.Core.List.{List, [], _∷_}
 use Prim.Native.Nat.{ℕ, _/_, _%_, _<_}

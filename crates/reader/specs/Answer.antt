@@ -1,5 +1,4 @@
 -- The public reader's promise: "The reader answers 30 with no record"; refusals in document 01's order, 1, 20, 30.
--- Assumes nothing.
 use Prim.Native.Nat.{ℕ}
 use mathlib.Core.List.{List, [], _∷_}
 use lib.Dec.{eqb, ltb}

@@ -1,5 +1,4 @@
 -- What stands at a place of a valid record is a nibble, and a nibble put there leaves the record valid.
--- Assumes nothing.
 use Prim.Native.Nat.{ℕ, _+_, _/_, _%_, _<_}
 use mathlib.Core.Bool.{Bool, true, false}
 use native.Mathlib.Omega.{arith}
@@ -11,12 +10,12 @@ use Rattle.frame.specs.declared.Pins.{Pins}
 use Rattle.frame.specs.Frame.{PinsInRange}
 use Rattle.sheet.specs.Operation.{Register, Given, Port, Part, Pointer, Half, Place}
 use Rattle.sheet.specs.declared.Insn.{Insn}
-use Rattle.ports.specs.Ports.{latchOf, p4Pins, pinsOf, readPort, isReadable}
+use Rattle.ports.specs.Ports.{latchOf, p4Pins, portPins, readPort, isReadable}
 use Rattle.ports.specs.declared.Ports.{Ports}
 use Rattle.ports.specs.declared.PortRead.{PortRead}
 use Rattle.machine.specs.Valid.{ValidPorts, Valid}
 use Rattle.machine.specs.declared.Machine.{Machine}
-use Rattle.row.specs.Places.{Around, found, stopped, weightOf, givenOf, partOf, partPut, halfOf, cellOf, getOf}
+use Rattle.row.specs.Places.{Around, found, gotStop, weightOf, givenOf, partOf, partPut, halfOf, cellOf, getOf}
 use Rattle.row.proofs.PortsValid.{chosen-lt}
 
 -- the operand k of a row that names it is a nibble
@@ -77,10 +76,10 @@ read-value false v p q h = omega arith
 read-low : (sound : Bool) (pins : Pins) (p : Ports) (n : ℕ) → PinsInRange pins → ValidPorts p → readPort sound pins p n .value < 16
 unfolding readPort
 read-low sound pins p n f h =
-    read-value (isReadable n) (pinsOf sound pins p n) _ p
+    read-value (isReadable n) (portPins sound pins p n) _ p
     (chosen-lt (eqb n 0) (pins .p0) _ (f .p0) (chosen-lt (eqb n 4) (p4Pins sound (pins .p4)) _ (p4-low sound (pins .p4) (f .p4)) (chosen-lt (eqb n 8) (pins .p8) (p .p9) (f .p8) (h .p9))))
 
-got-low : (t : Bool) (v n : ℕ) → (T t → v < 16) → pick t (found v) (stopped n) .value < 16
+got-low : (t : Bool) (v n : ℕ) → (T t → v < 16) → pick t (found v) (gotStop n) .value < 16
 got-low true v n h = h tt
 got-low false v n h = omega arith
 

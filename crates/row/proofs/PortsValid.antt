@@ -1,5 +1,4 @@
 -- Reading and writing a port keep the latches within their ranges, and P25 and P27 off 10xx.
--- Assumes nothing.
 use Prim.Native.Nat.{ℕ, _/_, _%_, _<_}
 use mathlib.Core.Bool.{Bool, true, false}
 use mathlib.Core.Path.{_≡_, refl, sym, subst, _∙_}

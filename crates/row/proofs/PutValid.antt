@@ -1,5 +1,4 @@
 -- A nibble put at a place of a valid record leaves it valid; a port is written only while the record is running.
--- Assumes nothing.
 use Prim.Native.Nat.{ℕ, _/_, _%_, _<_}
 use mathlib.Core.Bool.{Bool, true, false}
 use mathlib.Core.Path.{_≡_, refl}

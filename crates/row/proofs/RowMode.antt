@@ -1,5 +1,4 @@
 -- A row whose p is not 16 leaves the mode: "Writing P16 with bit 2 set enters hold .. or sleep", and PORT[LR₃₋₂+4] is one of 4 to 7.
--- Assumes nothing.
 use mathlib.Core.Path.{_≡_, refl, _∙_}
 use mathlib.Core.Bool.{Bool, true, false, not}
 use Prim.Native.Nat.{ℕ, _<_}
@@ -14,8 +13,8 @@ use Rattle.sheet.specs.Table.{Line}
 use Rattle.sheet.specs.declared.Insn.{Insn}
 use Rattle.machine.specs.declared.Registers.{Registers}
 use Rattle.machine.specs.declared.Machine.{Machine}
-use Rattle.row.specs.Places.{Around, portOf, touched, putOf}
-use Rattle.row.specs.Steps.{putStep, exchangeStep, stepOf}
+use Rattle.row.specs.Places.{Around, portOf, afterReading, putOf}
+use Rattle.row.specs.Steps.{putStep, exchangeStep, operationStep}
 use Rattle.row.specs.Rows.{Done, worked, workOf}
 use Rattle.row.specs.Columns.{isPort}
 use Rattle.row.proofs.Frame.{touched-mode}
@@ -27,7 +26,7 @@ port-not-16 r i Port.pins-l n h e = omega arith
 port-not-16 r i Port.latch-p n h e = n e
 port-not-16 r i Port.latch-l n h e = omega arith
 
-touched-lr : (m : Machine) (w : Around) (p : Place) → touched m w p .core .regs .lr ≡ m .core .regs .lr
+touched-lr : (m : Machine) (w : Around) (p : Place) → afterReading m w p .core .regs .lr ≡ m .core .regs .lr
 touched-lr m w (Place.register r) = refl
 touched-lr m w (Place.given g) = refl
 touched-lr m w (Place.cell c) = refl
@@ -55,15 +54,15 @@ module _ (w : Around) (not-16 : w .insn .b ≡ 16 → ⊥) where
   put-mode m Place.mask v h = refl
 
   -- an exchange names no port, nor does a second step
-  step-mode : (n : ℕ) (m : Machine) (s : Step) → T (fitsStep n s) → (T (usesPort s) → m .core .regs .lr < 16) → stepOf m w s .machine .core .mode ≡ m .core .mode
+  step-mode : (n : ℕ) (m : Machine) (s : Step) → T (fitsStep n s) → (T (usesPort s) → m .core .regs .lr < 16) → operationStep m w s .machine .core .mode ≡ m .core .mode
   unfolding putStep exchangeStep
-  step-mode n m (Step.put d o x y) f h = put-mode (touched m w x) d _ (λ t. rw touched-lr (h (either-left (isPort d) (isPort x) t))) ∙ touched-mode m w x
+  step-mode n m (Step.put d o x y) f h = put-mode (afterReading m w x) d _ (λ t. rw touched-lr (h (either-left (isPort d) (isPort x) t))) ∙ touched-mode m w x
   step-mode n m (Step.exchange d x) f h =
       let apart = both-right (both (lowPlace n d) (lowPlace n x)) (not (either (isPort d) (isPort x))) f in
       put-mode _ x _ (λ t. absurd (not-right (isPort d) (isPort x) apart t)) ∙ put-mode m d _ (λ t. absurd (not-left (isPort d) (isPort x) apart t))
   step-mode n m Step.DP+1 f h = refl
 
-  second-mode : (n : ℕ) (m : Machine) (s : Step) → T (both (fitsStep n s) (not (usesPort s))) → stepOf m w s .machine .core .mode ≡ m .core .mode
+  second-mode : (n : ℕ) (m : Machine) (s : Step) → T (both (fitsStep n s) (not (usesPort s))) → operationStep m w s .machine .core .mode ≡ m .core .mode
   second-mode n m s f = step-mode n m s (both-left (fitsStep n s) (not (usesPort s)) f) (λ t. absurd (refuted (usesPort s) (both-right (fitsStep n s) (not (usesPort s)) f) t))
     where
       refuted : (a : Bool) → T (not a) → T a → ⊥

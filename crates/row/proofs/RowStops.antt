@@ -1,5 +1,4 @@
 -- What stops a row is "a named stop", 31 to 34: one proof over the shapes of the operation column.
--- Assumes nothing.
 use mathlib.Core.Path.{_≡_, refl}
 use mathlib.Core.Logic.{_⊎_, inl, inr}
 use mathlib.Core.Bool.{Bool}
@@ -18,8 +17,8 @@ use Rattle.ports.specs.declared.PortRead.{PortRead}
 use Rattle.ports.specs.declared.PortWrite.{PortWrite}
 use Rattle.machine.specs.Ram.{bankOf}
 use Rattle.machine.specs.declared.Machine.{Machine}
-use Rattle.row.specs.Places.{Around, Got, cellOf, portOf, getOf, touched, putOf}
-use Rattle.row.specs.Steps.{firstOf, made-of, putStep, exchangeStep, stepOf}
+use Rattle.row.specs.Places.{Around, Got, cellOf, portOf, getOf, afterReading, putOf}
+use Rattle.row.specs.Steps.{firstOf, made-of, putStep, exchangeStep, operationStep}
 use Rattle.row.specs.Rows.{Done, worked, workOf, branchOf, callOf, latchesOf, performed}
 
 -- "a named stop"
@@ -87,16 +86,16 @@ module _ (w : Around) where
   put-stop m (Place.rom h) v = none
   put-stop m Place.mask v = none
 
-  step-stop : (m : Machine) (s : Step) → NoneOrNamed (stepOf m w s .stop)
+  step-stop : (m : Machine) (s : Step) → NoneOrNamed (operationStep m w s .stop)
   unfolding putStep exchangeStep
   step-stop m (Step.put d o x y) =
-      first-stop (firstOf (getOf m w x .stop) (getOf m w y .stop)) (putOf (touched m w x) w d (made-of m w o x y .value) .stop)
-      (first-stop (getOf m w x .stop) (getOf m w y .stop) (get-stop m x) (get-stop m y)) (put-stop (touched m w x) d (made-of m w o x y .value))
+      first-stop (firstOf (getOf m w x .stop) (getOf m w y .stop)) (putOf (afterReading m w x) w d (made-of m w o x y .value) .stop)
+      (first-stop (getOf m w x .stop) (getOf m w y .stop) (get-stop m x) (get-stop m y)) (put-stop (afterReading m w x) d (made-of m w o x y .value))
   step-stop m (Step.exchange d x) = first-stop (getOf m w d .stop) (getOf m w x .stop) (get-stop m d) (get-stop m x)
   step-stop m Step.DP+1 = none
 
-  second-stop : (m : Machine) (s t : Step) → NoneOrNamed (firstOf (stepOf m w s .stop) (stepOf (stepOf m w s .machine) w t .stop))
-  second-stop m s t = first-stop (stepOf m w s .stop) (stepOf (stepOf m w s .machine) w t .stop) (step-stop m s) (step-stop (stepOf m w s .machine) t)
+  second-stop : (m : Machine) (s t : Step) → NoneOrNamed (firstOf (operationStep m w s .stop) (operationStep (operationStep m w s .machine) w t .stop))
+  second-stop m s t = first-stop (operationStep m w s .stop) (operationStep (operationStep m w s .machine) w t .stop) (step-stop m s) (step-stop (operationStep m w s .machine) t)
 
   worked-stop : (m : Machine) (s : Step) (a : After) → NoneOrNamed (worked m w s a .stop)
   worked-stop m s After.alone = step-stop m s

@@ -1,5 +1,4 @@
 -- Executing any row of the sheet on a valid, running record gives a valid record.
--- Assumes nothing.
 use Prim.Native.Nat.{ℕ, _+_, _*_, _/_, _%_, _<_}
 use mathlib.Core.Bool.{Bool, true, false}
 use mathlib.Core.Path.{_≡_}
@@ -13,8 +12,8 @@ use Rattle.laws.proofs.Computed.{below, implies, at, modus, true→T, both-left
 use Rattle.sheet.specs.Operation.{Step, After, Target, Entry, Enable, Operation}
 use Rattle.sheet.specs.Table.{Line, lineAt}
 use Rattle.sheet.specs.Fields.{fieldA}
-use Rattle.sheet.specs.Flow.{targetOf, entryOf}
-use Rattle.alu.specs.Making.{plain}
+use Rattle.sheet.specs.Flow.{targetOf, callEntry}
+use Rattle.alu.specs.Making.{valueAndCarry}
 use Rattle.alu.specs.declared.Made.{Made}
 use Rattle.ports.specs.declared.Mode.the-variants.{Running}
 use Rattle.machine.specs.Valid.{Valid}
@@ -22,7 +21,7 @@ use Rattle.machine.specs.Stack.{CanPop, popped, flagsReturned}
 use Rattle.machine.specs.declared.Machine.{Machine}
 use Rattle.machine.proofs.StackValid.{called-valid, popped-valid, flags-returned-valid}
 use Rattle.row.specs.Places.{Around}
-use Rattle.row.specs.Rows.{spent, stops, past, withFlags, worked, workOf, branchOf, callOf, returned, latchesOf, performed, executed}
+use Rattle.row.specs.Rows.{spent, stops, pcPast, withMarks, worked, workOf, branchOf, callOf, returned, latchesOf, performed, executed}
 use Rattle.row.proofs.PortsValid.{chosen-lt}
 use Rattle.row.proofs.PutValid.{regs-valid, pc-valid}
 use Rattle.row.proofs.StepsValid.{fitsStep, fitsAfter, worked-valid}
@@ -56,7 +55,7 @@ target-lt n Target.page pc a h k t = omega (arith, leb→le n 64 t)
 target-lt n Target.half pc a h k t = omega (arith, leb→le n 4096 t)
 target-lt n Target.whole pc a h k t = omega (arith, leb→le n 8192 t)
 
-entry-lt : (n : ℕ) (e : Entry) (a : ℕ) → a < n → T (fitsEntry n e) → entryOf e a < 8192
+entry-lt : (n : ℕ) (e : Entry) (a : ℕ) → a < n → T (fitsEntry n e) → callEntry e a < 8192
 entry-lt n Entry.long a k t = omega (arith, leb→le n 8192 t)
 entry-lt n Entry.short a k t = chosen-lt (eqb a 0) 0x86 (8 * a + 6) (omega arith) (omega (arith, leb→le n 1023 t))
 
@@ -72,7 +71,7 @@ latches-clear il r h k e =
     (at (λ il. below 64 (λ r. implies (eqb (il / 16 % 2) 0) (eqb (bitAnd il r / 16 % 2) 0))) 64 tt il h) r k)
     (true→T (eq-eqb (il / 16 % 2) 0 e)))
 
-flags-valid : (m : Machine) (l : Line) (x : Made) → Valid m → Valid (withFlags m l x)
+flags-valid : (m : Machine) (l : Line) (x : Made) → Valid m → Valid (withMarks m l x)
 flags-valid m l x h = regs-valid h (record { acc = h .core .regs .acc; hr = h .core .regs .hr; lr = h .core .regs .lr })
 
 picked-valid : (t : Bool) (c s : ℕ) (n m : Machine) → (T t → Valid n) → Valid m → Valid (pick t (spent c n) (stops s m) .machine)
@@ -80,14 +79,14 @@ picked-valid true c s n m h k = h tt
 picked-valid false c s n m h k = k
 
 module _ (w : Around) (m : Machine) (valid : Valid m) (running : m .core .mode ≡ Running) (bytes : (at : ℕ) → (w .rom) at < 256) where
-  past-valid : (l : Line) (x : Machine) (y : Made) → Valid x → Valid (record { core = record { regs = withFlags x l y .core .regs; pc = past m l; ptrs = x .core .ptrs; ints = x .core .ints; timers = x .core .timers; ports = x .core .ports; pins = x .core .pins; mode = x .core .mode }; ram = x .ram })
+  past-valid : (l : Line) (x : Machine) (y : Made) → Valid x → Valid (record { core = record { regs = withMarks x l y .core .regs; pc = pcPast m l; ptrs = x .core .ptrs; ints = x .core .ints; timers = x .core .timers; ports = x .core .ports; pins = x .core .pins; mode = x .core .mode }; ram = x .ram })
   past-valid l x y h = pc-valid (flags-valid x l y h) (omega arith)
 
   latches-valid : (l : Line) (e : Enable) → w .insn .a < 64 → Valid (latchesOf m w l e .machine)
   unfolding latchesOf
   latches-valid l e h =
       let i = valid .core .ints in
-      let f = past-valid l m (plain 0 false) valid in
+      let f = past-valid l m (valueAndCarry 0 false) valid in
       record {
         core = record {
           regs = f .core .regs;
@@ -111,15 +110,15 @@ module _ (w : Around) (m : Machine) (valid : Valid m) (running : m .core .mode �
   branch-valid : (n : ℕ) (l : Line) (t : Target) → w .insn .a < n → T (fitsTarget n t) → Valid (branchOf m w l t .machine)
   unfolding branchOf
   branch-valid n l t h f =
-      pc-valid (flags-valid m l (plain 0 false) valid)
-      (chosen-lt (m .core .regs .sf) (targetOf t (m .core .pc) (w .insn .a)) (past m l) (target-lt n t (m .core .pc) (w .insn .a) (valid .core .pc) h f) (omega arith))
+      pc-valid (flags-valid m l (valueAndCarry 0 false) valid)
+      (chosen-lt (m .core .regs .sf) (targetOf t (m .core .pc) (w .insn .a)) (pcPast m l) (target-lt n t (m .core .pc) (w .insn .a) (valid .core .pc) h f) (omega arith))
 
   call-valid : (n : ℕ) (l : Line) (e : Entry) → w .insn .a < n → T (fitsEntry n e) → Valid (callOf m w l e .machine)
   unfolding callOf
   call-valid n l e h f =
       let sp = m .core .ptrs .sp in
       picked-valid (both (leb 1 sp) (leb sp 13)) (l .cycles) stack-level _ m
-      (λ q. called-valid m (past m l) (entryOf e (w .insn .a)) valid (record { above = leb→le 1 sp (both-left (leb 1 sp) (leb sp 13) q); below = leb→le sp 13 (both-right (leb 1 sp) (leb sp 13) q) }) (omega arith) (entry-lt n e (w .insn .a) h f)) valid
+      (λ q. called-valid m (pcPast m l) (callEntry e (w .insn .a)) valid (record { above = leb→le 1 sp (both-left (leb 1 sp) (leb sp 13) q); below = leb→le sp 13 (both-right (leb 1 sp) (leb sp 13) q) }) (omega arith) (entry-lt n e (w .insn .a) h f)) valid
 
   returned-valid : (l : Line) (n : Machine) → (CanPop (m .core) → Valid n) → Valid (returned m l n .machine)
   returned-valid l n h = picked-valid (leb (m .core .ptrs .sp) 12) (l .cycles) stack-level n m (λ q. h (record { below = leb→le (m .core .ptrs .sp) 12 q })) valid
@@ -131,7 +130,7 @@ module _ (w : Around) (m : Machine) (valid : Valid m) (running : m .core .mode �
   performed-valid n l Operation.return h t = returned-valid l (popped m) (popped-valid m valid)
   performed-valid n l Operation.return-FLAG h t = returned-valid l (flagsReturned m) (flags-returned-valid m valid)
   performed-valid n l (Operation.IL⟵IL-and-r e) h t = latches-valid l e (omega (arith, leb→le n 64 t))
-  performed-valid n l Operation.no-operation h t = past-valid l m (plain 0 false) valid
+  performed-valid n l Operation.no-operation h t = past-valid l m (valueAndCarry 0 false) valid
 
   -- a row with its operand in its field
   pub executed-valid : w .insn .row < 108 → w .insn .a < fieldA (lineAt (w .insn .row) .codes) → Valid (executed w m .machine)

@@ -1,5 +1,4 @@
 -- What the lines of the sheet have in common, and with it: each step of the operation column makes a valid record of a valid one.
--- Assumes nothing.
 use Prim.Native.Nat.{ℕ, _+_, _/_, _%_, _<_}
 use mathlib.Core.Bool.{Bool, true, false, not}
 use mathlib.Core.Path.{_≡_, _∙_}
@@ -16,8 +15,8 @@ use Rattle.ports.specs.Ports.{readPort}
 use Rattle.ports.specs.declared.Mode.the-variants.{Running}
 use Rattle.machine.specs.Valid.{Valid}
 use Rattle.machine.specs.declared.Machine.{Machine}
-use Rattle.row.specs.Places.{Around, getOf, touched, putOf, withPorts}
-use Rattle.row.specs.Steps.{putStep, exchangeStep, stepOf}
+use Rattle.row.specs.Places.{Around, getOf, afterReading, putOf, withPorts}
+use Rattle.row.specs.Steps.{putStep, exchangeStep, operationStep}
 use Rattle.row.specs.Rows.{worked}
 use Rattle.row.specs.Columns.{isPort}
 use Rattle.row.proofs.PortsValid.{read-valid}
@@ -149,13 +148,13 @@ module _ (w : Around) (bytes : (at : ℕ) → (w .rom) at < 256) (n : ℕ) (fiel
   read-touched : (m : Machine) (k : ℕ) → Valid m → m .core .mode ≡ Running → Valid (withPorts m (readPort (w .sound) (m .core .pins) (m .core .ports) k .ports))
   read-touched m k h e = record { core = record { regs = h .core .regs; pc = h .core .pc; ptrs = h .core .ptrs; ints = h .core .ints; timers = h .core .timers; ports = read-valid (w .sound) (m .core .pins) (m .core .ports) k (h .core .ports); pins = h .core .pins; mode = rw e tt }; ram = h .ram }
 
-  port-touched : (m : Machine) (p : Port) → Valid m → m .core .mode ≡ Running → Valid (touched m w (Place.port p))
+  port-touched : (m : Machine) (p : Port) → Valid m → m .core .mode ≡ Running → Valid (afterReading m w (Place.port p))
   port-touched m Port.pins-p h e = read-touched m (w .insn .b) h e
   port-touched m Port.pins-l h e = read-touched m (m .core .regs .lr / 4 + 4) h e
   port-touched m Port.latch-p h e = h
   port-touched m Port.latch-l h e = h
 
-  touched-valid : (m : Machine) (p : Place) → Valid m → (T (isPort p) → m .core .mode ≡ Running) → Valid (touched m w p)
+  touched-valid : (m : Machine) (p : Place) → Valid m → (T (isPort p) → m .core .mode ≡ Running) → Valid (afterReading m w p)
   touched-valid m (Place.register r) h e = h
   touched-valid m (Place.given g) h e = h
   touched-valid m (Place.cell c) h e = h
@@ -175,7 +174,7 @@ module _ (w : Around) (bytes : (at : ℕ) → (w .rom) at < 256) (n : ℕ) (fiel
       let a = nibble m h x x-fits in
       let b = nibble m h y (both-left (lowPlace n y) (secondFits o y) rest) in
       let v = made-low (getOf m w x .value) (getOf m w y .value) (m .core .regs .cf) a b o (second m o y (both-right (lowPlace n y) (secondFits o y) rest)) in
-      put-valid (touched m w x) w d _ (touched-valid m x h (λ q. e (either-right (isPort d) (isPort x) q))) (λ q. touched-mode m w x ∙ e (either-left (isPort d) (isPort x) q)) v
+      put-valid (afterReading m w x) w d _ (touched-valid m x h (λ q. e (either-right (isPort d) (isPort x) q))) (λ q. touched-mode m w x ∙ e (either-left (isPort d) (isPort x) q)) v
 
   exchange-step : (m : Machine) (d x : Place) → Valid m → T (fitsStep n (Step.exchange d x)) → Valid (exchangeStep m w d x .machine)
   unfolding exchangeStep
@@ -187,14 +186,14 @@ module _ (w : Around) (bytes : (at : ℕ) → (w .rom) at < 256) (n : ℕ) (fiel
       let first = put-valid m w d (getOf m w x .value) h (λ q. absurd (not-left (isPort d) (isPort x) none q)) b in
       put-valid (putOf m w d (getOf m w x .value) .machine) w x (getOf m w d .value) first (λ q. absurd (not-right (isPort d) (isPort x) none q)) a
 
-  step-valid : (m : Machine) (s : Step) → Valid m → (T (usesPort s) → m .core .mode ≡ Running) → T (fitsStep n s) → Valid (stepOf m w s .machine)
+  step-valid : (m : Machine) (s : Step) → Valid m → (T (usesPort s) → m .core .mode ≡ Running) → T (fitsStep n s) → Valid (operationStep m w s .machine)
   step-valid m (Step.put d o x y) h e t = put-step m d o x y h e t
   step-valid m (Step.exchange d x) h e t = exchange-step m d x h t
   step-valid m Step.DP+1 h e t = pointers-valid h (record { sp = h .core .ptrs .sp; dp = omega arith })
 
-  twice-valid : (m : Machine) (s t : Step) → Valid m → m .core .mode ≡ Running → T (fitsStep n s) → T (both (fitsStep n t) (not (usesPort t))) → Valid (stepOf (stepOf m w s .machine) w t .machine)
+  twice-valid : (m : Machine) (s t : Step) → Valid m → m .core .mode ≡ Running → T (fitsStep n s) → T (both (fitsStep n t) (not (usesPort t))) → Valid (operationStep (operationStep m w s .machine) w t .machine)
   twice-valid m s t h e f g =
-      step-valid (stepOf m w s .machine) t (step-valid m s h (λ q. e) f)
+      step-valid (operationStep m w s .machine) t (step-valid m s h (λ q. e) f)
       (λ q. absurd (refuted (usesPort t) (both-right (fitsStep n t) (not (usesPort t)) g) q)) (both-left (fitsStep n t) (not (usesPort t)) g)
 
   pub worked-valid : (m : Machine) (s : Step) (a : After) → Valid m → m .core .mode ≡ Running → T (both (fitsStep n s) (fitsAfter n a)) → Valid (worked m w s a .machine)

@@ -1,12 +1,11 @@
 -- What the columns of a line tell of any row that is no branch, call or return and does not stop.
--- Assumes nothing.
 use mathlib.Core.Bool.{Bool, true, false}
 use mathlib.Core.Path.{_≡_}
 use Rattle.laws.specs.Choice.{either}
 use Rattle.sheet.specs.Operation.{Place, Step, After, Enable, Operation}
 use Rattle.sheet.specs.Table.{Line, set}
 use Rattle.machine.specs.declared.Machine.{Machine}
-use Rattle.row.specs.Rows.{Done, past}
+use Rattle.row.specs.Rows.{Done, pcPast}
 
 -- whether a place is a port
 abbrev pub isPort : Place → Bool
@@ -61,7 +60,7 @@ isOrdinary Operation.no-operation = true
 
 -- such a row moves PC by its length, spends its cycles, sets SF where S is 1, sets EI only where its operation does, and keeps the mode unless it writes a port
 pub record Ordinary (m : Machine) (l : Line) (o : Operation) (x : Done) : Type 0 where
-  pub pc : x .machine .core .pc ≡ past m l
+  pub pc : x .machine .core .pc ≡ pcPast m l
   pub cycles : x .cycles ≡ l .cycles
   pub sf : l .s ≡ set → x .machine .core .regs .sf ≡ true
   pub ei : setsEi o ≡ false → m .core .ints .ei ≡ false → x .machine .core .ints .ei ≡ false

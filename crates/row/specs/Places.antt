@@ -1,5 +1,4 @@
 -- What stands at a place that the operation column names, what reading it does besides, and what putting a nibble there does.
--- Assumes nothing.
 use Prim.Native.Nat.{ℕ, _+_, _*_, _/_, _%_}
 use mathlib.Core.Bool.{Bool}
 use mathlib.Core.List.{List}
@@ -64,8 +63,8 @@ pub record Put : Type 0 where
 abbrev pub found : ℕ → Got
 found v = record { stop = 0; value = v }
 
-abbrev pub stopped : ℕ → Got
-stopped n = record { stop = n; value = 0 }
+abbrev pub gotStop : ℕ → Got
+gotStop n = record { stop = n; value = 0 }
 
 abbrev pub there : Machine → Put
 there m = record { stop = 0; machine = m }
@@ -131,27 +130,27 @@ portGot m w Port.latch-l = found (latchOf (m .core .ports) (m .core .regs .lr / 
 abbrev pub getOf : Machine → Around → Place → Got
 getOf m w (Place.register r) = found (registerOf (m .core .regs) r)
 getOf m w (Place.given g) = found (givenOf (m .core .regs) (w .insn) g)
-getOf m w (Place.cell c) = pick (ltb (cellOf (m .core) (w .insn) c) 372) (found (getD (m .ram) (cellOf (m .core) (w .insn) c) 0)) (stopped absent-ram-address)
+getOf m w (Place.cell c) = pick (ltb (cellOf (m .core) (w .insn) c) 372) (found (getD (m .ram) (cellOf (m .core) (w .insn) c) 0)) (gotStop absent-ram-address)
 getOf m w (Place.port p) = portGot m w p
-getOf m w (Place.pointer p) = inBank0 (m .core) (found (pointerOf (m .core) p)) (stopped absent-ram-address)
+getOf m w (Place.pointer p) = inBank0 (m .core) (found (pointerOf (m .core) p)) (gotStop absent-ram-address)
 getOf m w (Place.rom h) = found (halfOf h ((w .rom) (0x1000 + m .core .ptrs .dp)))
 getOf m w Place.mask = found (m .core .ints .mask)
 
 -- "Reading or testing P4 or P8 .. sets the latch to 15"
-abbrev pub portTouched : Machine → Around → Port → Machine
-portTouched m w Port.pins-p = withPorts m (readPort (w .sound) (m .core .pins) (m .core .ports) (w .insn .b) .ports)
-portTouched m w Port.pins-l = withPorts m (readPort (w .sound) (m .core .pins) (m .core .ports) (m .core .regs .lr / 4 + 4) .ports)
-portTouched m w Port.latch-p = m
-portTouched m w Port.latch-l = m
+abbrev pub afterPortRead : Machine → Around → Port → Machine
+afterPortRead m w Port.pins-p = withPorts m (readPort (w .sound) (m .core .pins) (m .core .ports) (w .insn .b) .ports)
+afterPortRead m w Port.pins-l = withPorts m (readPort (w .sound) (m .core .pins) (m .core .ports) (m .core .regs .lr / 4 + 4) .ports)
+afterPortRead m w Port.latch-p = m
+afterPortRead m w Port.latch-l = m
 
-abbrev pub touched : Machine → Around → Place → Machine
-touched m w (Place.register r) = m
-touched m w (Place.given g) = m
-touched m w (Place.cell c) = m
-touched m w (Place.port p) = portTouched m w p
-touched m w (Place.pointer p) = m
-touched m w (Place.rom h) = m
-touched m w Place.mask = m
+abbrev pub afterReading : Machine → Around → Place → Machine
+afterReading m w (Place.register r) = m
+afterReading m w (Place.given g) = m
+afterReading m w (Place.cell c) = m
+afterReading m w (Place.port p) = afterPortRead m w p
+afterReading m w (Place.pointer p) = m
+afterReading m w (Place.rom h) = m
+afterReading m w Place.mask = m
 
 abbrev pub registerPut : Registers → Register → ℕ → Registers
 registerPut r Register.acc v = record { acc = v; hr = r .hr; lr = r .lr; cf = r .cf; zf = r .zf; sf = r .sf }

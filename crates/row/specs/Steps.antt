@@ -1,14 +1,13 @@
 -- One step of the operation column: a nibble made and put, two exchanged, or the data pointer stepped.
--- Assumes nothing.
 use Prim.Native.Nat.{ℕ, _+_, _%_, min}
 use mathlib.Core.Bool.{false}
 use lib.Dec.{eqb}
 use Rattle.laws.specs.Choice.{pick}
 use Rattle.sheet.specs.Operation.{Op, Place, Step}
-use Rattle.alu.specs.Making.{made, plain}
+use Rattle.alu.specs.Making.{made, valueAndCarry}
 use Rattle.alu.specs.declared.Made.{Made}
 use Rattle.machine.specs.declared.Machine.{Machine}
-use Rattle.row.specs.Places.{Around, getOf, touched, putOf, withPointers}
+use Rattle.row.specs.Places.{Around, getOf, afterReading, putOf, withPointers}
 
 -- a stop or 0, what the flags speak of, and the record, which a stop leaves unsaid
 pub record Did : Type 0 where
@@ -27,16 +26,16 @@ unfoldable pub putStep : Machine → Around → Place → Op → Place → Place
 putStep m w d o x y = record {
   stop =
       firstOf (firstOf (getOf m w x .stop) (getOf m w y .stop))
-      (putOf (touched m w x) w d (made-of m w o x y .value) .stop);
+      (putOf (afterReading m w x) w d (made-of m w o x y .value) .stop);
   made = made-of m w o x y;
-  machine = putOf (touched m w x) w d (made-of m w o x y .value) .machine;
+  machine = putOf (afterReading m w x) w d (made-of m w o x y .value) .machine;
 }
 
 -- the flags speak of "the one ACC receives": in the rows that mark Z, ACC is the first place
 unfoldable pub exchangeStep : Machine → Around → Place → Place → Did
 exchangeStep m w d x = record {
   stop = firstOf (getOf m w d .stop) (getOf m w x .stop);
-  made = plain (getOf m w x .value) false;
+  made = valueAndCarry (getOf m w x .value) false;
   machine = putOf (putOf m w d (getOf m w x .value) .machine) w x (getOf m w d .value) .machine;
 }
 
@@ -44,11 +43,11 @@ exchangeStep m w d x = record {
 abbrev pub pointerStep : Machine → Did
 pointerStep m = record {
   stop = 0;
-  made = plain 0 false;
+  made = valueAndCarry 0 false;
   machine = withPointers m (record { sp = m .core .ptrs .sp; dp = (m .core .ptrs .dp + 1) % 4096 });
 }
 
-abbrev pub stepOf : Machine → Around → Step → Did
-stepOf m w (Step.put d o x y) = putStep m w d o x y
-stepOf m w (Step.exchange d x) = exchangeStep m w d x
-stepOf m w Step.DP+1 = pointerStep m
+abbrev pub operationStep : Machine → Around → Step → Did
+operationStep m w (Step.put d o x y) = putStep m w d o x y
+operationStep m w (Step.exchange d x) = exchangeStep m w d x
+operationStep m w Step.DP+1 = pointerStep m

@@ -1,5 +1,4 @@
 -- LCALL and SCALL, and their stop, are their lines of the table: by the tests of SP, then by computation.
--- Assumes nothing.
 use mathlib.Core.Path.{_≡_}
 use mathlib.Core.List.{List}
 use mathlib.Core.Bool.{true, false}
@@ -8,7 +7,7 @@ use native.Mathlib.Omega.{arith}
 use lib.Dec.{leb}
 use borrow.Author.Tests.{le-leb, lt-leb}
 use Rattle.laws.specs.Choice.{both}
-use Rattle.sheet.specs.Flow.{entryOf}
+use Rattle.sheet.specs.Flow.{callEntry}
 use Rattle.sheet.specs.Operation.Entry.{short}
 use Rattle.sheet.specs.Table.{lines, lineAt}
 use Rattle.machine.specs.Stack.{CanPush, called}
@@ -26,7 +25,7 @@ module _ (m : Core) (a : ℕ) (l k : List ℕ) (x : Turn) where
   unfolding lineAt lines callOf called
   lcall-where h e = record { same = λ rom sound b. rw (h, e .turn, e .ram) }
 
-  scall-where : both (leb 1 (m .ptrs .sp)) (leb (m .ptrs .sp) 13) ≡ true → Called m l ((m .pc + 1) % 8192) (entryOf short a) k x → Turns m 72 a l k x
+  scall-where : both (leb 1 (m .ptrs .sp)) (leb (m .ptrs .sp) 13) ≡ true → Called m l ((m .pc + 1) % 8192) (callEntry short a) k x → Turns m 72 a l k x
   unfolding lineAt lines callOf called
   scall-where h e = record { same = λ rom sound b. rw (h, e .turn, e .ram) }
 
@@ -36,7 +35,7 @@ module _ (m : Core) (a : ℕ) (l k : List ℕ) (x : Turn) where
   pub lcall : CanPush m → Called m l ((m .pc + 2) % 8192) a k x → Turns m 71 a l k x
   lcall h e = lcall-where (within h) e
 
-  pub scall : CanPush m → Called m l ((m .pc + 1) % 8192) (entryOf short a) k x → Turns m 72 a l k x
+  pub scall : CanPush m → Called m l ((m .pc + 1) % 8192) (callEntry short a) k x → Turns m 72 a l k x
   scall h e = scall-where (within h) e
 
 module _ (m : Core) (a : ℕ) (l : List ℕ) where

@@ -1,5 +1,4 @@
 -- What holds at each of two rows holds at a row that is one of them.
--- Assumes nothing.
 use mathlib.Core.Path.{_≡_}
 use mathlib.Core.Bool.{true}
 use mathlib.Core.List.{[], _∷_}

@@ -1,5 +1,4 @@
 -- RET and RTI, and their stop, are their lines of the table: by the test of SP, then by computation.
--- Assumes nothing.
 use mathlib.Core.Path.{_≡_}
 use mathlib.Core.List.{List}
 use mathlib.Core.Bool.{true, false}

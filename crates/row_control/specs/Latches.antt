@@ -1,5 +1,4 @@
 -- The ends of the rows of interrupt control: the scalars after, by what the row leaves in EI, or with ACC and the mask exchanged.
--- Assumes nothing.
 use Prim.Native.Nat.{ℕ, _+_, _%_}
 use mathlib.Core.Bool.{Bool, true}
 use lib.Bits.{bitAnd}
@@ -20,8 +19,8 @@ leaving m acc i n = record {
   mode = m .mode;
 }
 
-abbrev pub latched : Core → Bool → ℕ → Turn
-latched m ei r = record {
+abbrev pub latchesLeft : Core → Bool → ℕ → Turn
+latchesLeft m ei r = record {
   stop = 0;
   cycles = 2;
   core = leaving m (m .regs .acc) (record { ei = ei; il = bitAnd (m .ints .il) r; mask = m .ints .mask }) 2;

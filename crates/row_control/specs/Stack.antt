@@ -1,5 +1,4 @@
 -- The ends of the rows that use the stack: the scalars after, from what machine says of a return and a call, and the stop.
--- Assumes nothing.
 use Prim.Native.Nat.{ℕ, _+_, _-_}
 use mathlib.Core.Bool.{true}
 use mathlib.Core.List.{List}

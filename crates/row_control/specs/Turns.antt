@@ -1,5 +1,4 @@
 -- What a row that moves the scalars and perhaps RAM gives, held against the table's definition.
--- Assumes nothing.
 use Prim.Native.Nat.{ℕ}
 use mathlib.Core.Bool.{Bool}
 use mathlib.Core.List.{List}

@@ -10,7 +10,7 @@ ghost use mathlib.Core.Path.{_≡_};
 ghost use mathlib.Core.Bool.{true};
 ghost use Prim.Native.Nat.{_<_};
 ghost use Rattle.sheet.specs.Operation.Entry.{short};
-ghost use Rattle.sheet.specs.Flow.{entryOf};
+ghost use Rattle.sheet.specs.Flow.{callEntry};
 ghost use Rattle.machine.specs.Stack.{CanPush};
 ghost use Rattle.machine.specs.Valid.{Nibbles};
 ghost use Rattle.laws.specs.Among.{among};
@@ -21,7 +21,7 @@ ghost use Rattle.row_control.specs.Turns.{Turns};
 // "SCALL n: 8n + 6, but 86h for n = 0"
 fn short_entry(n: u16) -> u16
     requires { ⌜ n < 8192 ⌝ }
-    ensures { λ x. ⌜ x ≡ entryOf short n ⌝ }
+    ensures { λ x. ⌜ x ≡ callEntry short n ⌝ }
 {
     if n == 0 {
         return 0x86;

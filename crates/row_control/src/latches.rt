@@ -7,13 +7,13 @@ ghost use mathlib.Core.Bool.{true};
 ghost use Prim.Native.Nat.{_<_};
 ghost use Rattle.laws.specs.Among.{among};
 ghost use Rattle.row_control.specs.Groups.{latches};
-ghost use Rattle.row_control.specs.Latches.{latched, exchanged};
+ghost use Rattle.row_control.specs.Latches.{latchesLeft, exchanged};
 ghost use Rattle.row_control.specs.Turns.{Keeps};
 
 // "IL←IL & r", with EI as the row leaves it.
 fn latched(m: Core, ei: bool, r: u8) -> Turn
     requires { ⌜ m .pc < 8192 ⌝ }
-    ensures { λ x. ⌜ x ≡ latched m ei r ⌝ }
+    ensures { λ x. ⌜ x ≡ latchesLeft m ei r ⌝ }
 {
     let il = m.ints.il & r;
     let mut after = m;

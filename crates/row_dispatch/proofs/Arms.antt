@@ -1,5 +1,4 @@
 -- What a group's function asks follows from validity and the group; what it gives is what the definition says.
--- Assumes nothing.
 use mathlib.Core.Path.{_≡_, refl, subst}
 use mathlib.Core.Bool.{Bool, true}
 use mathlib.Core.List.{List}

@@ -1,5 +1,4 @@
 -- The words of groups put each row of the sheet into a group that has it, with its operands below the group's limits; and a number of a group that is no other's.
--- Assumes nothing.
 use mathlib.Core.Path.{_≡_, sym, ap, subst, _∙_}
 use mathlib.Core.Bool.{Bool}
 use mathlib.Core.List.{List}

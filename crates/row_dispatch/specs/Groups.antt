@@ -1,5 +1,4 @@
 -- Which function executes a row: its group's, by number.
--- Assumes nothing.
 use Prim.Native.Nat.{ℕ, suc, _+_, _*_, _/_, _%_, _^_, _<_}
 use mathlib.Core.Bool.{true}
 use mathlib.Core.List.{List, [], _∷_}
@@ -8,11 +7,11 @@ use lib.ListN.{getD}
 use Rattle.laws.specs.Among.{among}
 use Rattle.laws.specs.Choice.{pick}
 use Rattle.sheet.specs.declared.Insn.{Insn}
-use Rattle.row_registers.specs.Groups as near
-use Rattle.row_ram.specs.Groups as cells
-use Rattle.row_ram_pair.specs.Groups as pairs
+use Rattle.row_registers.specs.Groups as registers
+use Rattle.row_ram.specs.Groups as ram
+use Rattle.row_ram_pair.specs.Groups as pair
 use Rattle.row_pointers.specs.Groups as pointers
-use Rattle.row_control.specs.Groups as turns
+use Rattle.row_control.specs.Groups as control
 use Rattle.row_ports.specs.Groups as ports
 
 -- LDAX; LDAXI
@@ -32,11 +31,11 @@ cellToPort = 78 ∷ []
 -- the rows of each group, from group 0 on
 abbrev pub groups : List (List ℕ)
 groups =
-    near.moves ∷ near.makes ∷ near.asks ∷ near.branches ∷ pointers.loadPointer ∷ pointers.loadTimer ∷
-    cells.readByHL ∷ cells.readByX ∷ cells.readByY ∷ pairs.loads ∷
-    cells.writtenByHL ∷ cells.writtenByX ∷ cells.writtenByY ∷ pairs.exchanges ∷
+    registers.moves ∷ registers.makes ∷ registers.asks ∷ registers.branches ∷ pointers.loadPointer ∷ pointers.loadTimer ∷
+    ram.readByHL ∷ ram.readByX ∷ ram.readByY ∷ pair.loads ∷
+    ram.writtenByHL ∷ ram.writtenByX ∷ ram.writtenByY ∷ pair.exchanges ∷
     pointers.storePointer ∷ pointers.storeTimer ∷ romLow ∷ romHigh ∷
-    turns.latches ∷ turns.returns ∷ turns.calls ∷
+    control.latches ∷ control.returns ∷ control.calls ∷
     ports.writing ∷ ports.reading ∷ portToCell ∷ cellToPort ∷ []
 
 abbrev pub rowsOf : ℕ → List ℕ

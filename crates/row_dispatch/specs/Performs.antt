@@ -1,5 +1,4 @@
 -- What executing a row gives, held against the table's definition.
--- Assumes nothing.
 use Prim.Native.Nat.{ℕ}
 use mathlib.Core.Bool.{Bool}
 use mathlib.Core.List.{List}

@@ -4,7 +4,7 @@ use machine::Core;
 use machine::Registers;
 ghost use mathlib.Core.Path.{_≡_};
 ghost use Prim.Native.Nat.{_<_};
-ghost use Rattle.row_ends.specs.Ends.{accLoaded, accHrExchanged, accLrExchanged, accSummed, accLessened, accLogical, accCarried, accBorrowed, hrLoaded, hrSummed, lrLoaded, lrSummed, lrLessened, wentOn, summed, lessened, logical, compared, cfTested, tested, nothing, past, jumped, stopped};
+ghost use Rattle.row_ends.specs.Ends.{accLoaded, accHrExchanged, accLrExchanged, accSummed, accLessened, accLogical, accCarried, accBorrowed, hrLoaded, hrSummed, lrLoaded, lrSummed, lrLessened, wentOn, summed, lessened, logical, compared, cfTested, tested, nothing, goesPast, jumped, stopped};
 
 // What a row that touches the registers alone leaves: a stop or 0, its cycles, PC and the registers.
 pub struct Act {
@@ -16,7 +16,7 @@ pub struct Act {
 
 fn past(m: Core, r: Registers, n: u8, t: u8) -> Act
     requires { ⌜ m .pc < 8192 ⌝ }
-    ensures { λ a. ⌜ a ≡ past m r n t ⌝ }
+    ensures { λ a. ⌜ a ≡ goesPast m r n t ⌝ }
 {
     Act {
         stop: 0,

@@ -1,5 +1,4 @@
 -- LDAX and LDAXI are their lines of the table.
--- Assumes nothing.
 use Prim.Native.Nat.{ℕ, _+_, _/_, _%_}
 use Rattle.sheet.specs.Table.{lines, lineAt}
 use Rattle.alu.specs.Making.{made}

@@ -1,5 +1,4 @@
 -- Each row that stores ACC in a pointer or a timer is its line of the table; with P9.3 set each stops.
--- Assumes nothing.
 use mathlib.Core.Path.{_≡_}
 use mathlib.Core.Bool.{true, false}
 use lib.Dec.{eqb}

@@ -1,5 +1,4 @@
 -- The rows of the data pointer, the stack pointer and the timers, and of the ROM by the data pointer.
--- Assumes nothing.
 use Prim.Native.Nat.{ℕ}
 use mathlib.Core.List.{List, [], _∷_}
 

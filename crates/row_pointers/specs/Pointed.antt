@@ -1,5 +1,4 @@
 -- What a row of a pointer or a timer gives, held against the table's definition.
--- Assumes nothing.
 use Prim.Native.Nat.{ℕ, _<_}
 use mathlib.Core.Bool.{Bool, true}
 use mathlib.Core.List.{List}

@@ -1,5 +1,4 @@
 -- Each row that reads a port into SF or ACC is its line of the table: by its stop, then by computation.
--- Assumes nothing.
 use Prim.Native.Nat.{ℕ, _+_, _/_, _%_}
 use mathlib.Core.Bool.{Bool, true, false}
 use mathlib.Core.List.{List}

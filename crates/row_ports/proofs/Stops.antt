@@ -1,5 +1,4 @@
 -- Laws of the stops of the rows of ports: what a stop leaves, and 31 before 33 and 34.
--- Assumes nothing.
 use Prim.Native.Nat.{ℕ, _/_}
 use mathlib.Core.Bool.{Bool, true, false}
 use mathlib.Core.List.{List}

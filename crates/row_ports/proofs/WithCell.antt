@@ -1,5 +1,4 @@
 -- INM and OUTM are their lines of the table: by the address, then the port, then by computation.
--- Assumes nothing.
 use Prim.Native.Nat.{ℕ}
 use mathlib.Core.Bool.{Bool, true, false, not}
 use mathlib.Core.List.{List}

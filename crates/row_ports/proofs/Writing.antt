@@ -1,5 +1,4 @@
 -- Each row that writes a port is its line of the table: by its stop, then by computation.
--- Assumes nothing.
 use Prim.Native.Nat.{ℕ, _+_, _/_, _%_}
 use mathlib.Core.List.{List}
 use mathlib.Core.Path.{_≡_}

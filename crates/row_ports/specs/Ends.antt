@@ -1,11 +1,10 @@
 -- The ends of the rows of ports: a port written, its latch with a bit set or clear, a port read into SF or ACC, and the stop.
--- Assumes nothing.
 use Prim.Native.Nat.{ℕ, _+_, _%_}
 use mathlib.Core.Bool.{Bool, true, false, not}
 use lib.Dec.{eqb}
 use Rattle.laws.specs.Choice.{pick}
 use Rattle.bits.specs.Bits.{hasBit, withBit, withoutBit}
-use Rattle.alu.specs.Making.{plain}
+use Rattle.alu.specs.Making.{valueAndCarry}
 use Rattle.ports.specs.Ports.{latchOf, readPort, writePort, modeAfter}
 use Rattle.ports.specs.declared.Ports.{Ports}
 use Rattle.ports.specs.declared.PortRead.{PortRead}
@@ -62,13 +61,13 @@ unfoldable pub afterRead : Core → PortRead → Act → Turn
 afterRead m r x = pick (eqb (r .stop) 0) (left m x (r .ports)) (stopped m (r .stop))
 
 -- the bit of weight w is 1, or it is 0
-abbrev pub answered : Bool → ℕ → ℕ → Bool
-answered one v w = pick one (hasBit v w) (not (hasBit v w))
+abbrev pub bitAnswer : Bool → ℕ → ℕ → Bool
+bitAnswer one v w = pick one (hasBit v w) (not (hasBit v w))
 
 -- - - *
 abbrev pub portTested : Bool → Core → ℕ → ℕ → Bool → ℕ → Turn
-portTested sound m n w one bytes = afterRead m (portRead sound m n) (tested m (answered one (portRead sound m n .value) w) bytes 2)
+portTested sound m n w one bytes = afterRead m (portRead sound m n) (tested m (bitAnswer one (portRead sound m n .value) w) bytes 2)
 
 -- - Z Z'
 abbrev pub portLoaded : Bool → Core → ℕ → Turn
-portLoaded sound m n = afterRead m (portRead sound m n) (accLogical m (plain (portRead sound m n .value) false) 2 2)
+portLoaded sound m n = afterRead m (portRead sound m n) (accLogical m (valueAndCarry (portRead sound m n .value) false) 2 2)

@@ -1,5 +1,4 @@
 -- What a row of the ports gives, held against the table's definition, and what it asks.
--- Assumes nothing.
 use Prim.Native.Nat.{ℕ, _<_}
 use mathlib.Core.Bool.{Bool, true}
 use mathlib.Core.List.{List}

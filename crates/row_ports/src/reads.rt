@@ -11,13 +11,13 @@ use sheet::rows;
 use row_control::Turn;
 ghost use mathlib.Core.Path.{_≡_};
 ghost use Prim.Native.Nat.{_<_};
-ghost use Rattle.row_ports.specs.Ends.{answered, portTested, portLoaded};
+ghost use Rattle.row_ports.specs.Ends.{bitAnswer, portTested, portLoaded};
 ghost use Rattle.row_ports.specs.Ported.{Reads, ReadFits, Readable};
 
 // TTP asks whether the bit is 1, TFP and TFPL whether it is 0.
 fn answered(one: bool, v: u8, w: u8) -> bool
     requires { ⌜ 0 < w ⌝ }
-    ensures { λ r. ⌜ r ≡ answered one v w ⌝ }
+    ensures { λ r. ⌜ r ≡ bitAnswer one v w ⌝ }
 {
     if one {
         return has_bit(v, w);

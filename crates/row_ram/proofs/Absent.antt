@@ -1,5 +1,4 @@
 -- An absent address stops each of the rows that name a place in RAM.
--- Assumes nothing.
 use mathlib.Core.Path.{_≡_}
 use mathlib.Core.Bool.{false}
 use mathlib.Core.List.{List}

@@ -1,5 +1,4 @@
 -- A row on the RAM that is lent, from its arm: the place, what stands there, and a stop where RAM has no such place.
--- Assumes nothing.
 use mathlib.Core.Path.{_≡_, sym}
 use mathlib.Core.Bool.{true, false}
 use mathlib.Core.List.{List}

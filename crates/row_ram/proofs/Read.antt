@@ -1,5 +1,4 @@
 -- Each arm that reads a nibble is its line of the table: by computation.
--- Assumes nothing.
 use mathlib.Core.Bool.{not}
 use Prim.Native.Nat.{ℕ}
 use Rattle.bits.specs.Bits.{hasBit}

@@ -1,5 +1,4 @@
 -- Each arm that writes a nibble is its line of the table: by computation.
--- Assumes nothing.
 use Prim.Native.Nat.{ℕ}
 use Rattle.bits.specs.Bits.{withBit, withoutBit}
 use Rattle.sheet.specs.Table.{lines, lineAt}

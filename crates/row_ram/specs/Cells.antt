@@ -1,5 +1,4 @@
 -- What a row that reads or writes one nibble of RAM gives, held against the table's definition.
--- Assumes nothing.
 use Prim.Native.Nat.{ℕ, _<_}
 use mathlib.Core.Bool.{Bool, true}
 use mathlib.Core.List.{List}

@@ -1,5 +1,4 @@
 -- The rows that read or write one nibble of RAM, by how they name its place.
--- Assumes nothing.
 use Prim.Native.Nat.{ℕ}
 use mathlib.Core.List.{List, [], _∷_}
 

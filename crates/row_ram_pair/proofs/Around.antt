@@ -1,5 +1,4 @@
 -- A row on the RAM that is lent, from its line: the two places, and what stands there.
--- Assumes nothing.
 use mathlib.Core.Path.{_≡_}
 use mathlib.Core.Bool.{true}
 use mathlib.Core.List.{List}

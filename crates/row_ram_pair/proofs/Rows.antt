@@ -1,5 +1,4 @@
 -- LDHL and EXHL, and their stops, are their lines of the table: by computation.
--- Assumes nothing.
 use mathlib.Core.Path.{_≡_}
 use mathlib.Core.Bool.{Bool, true, false}
 use mathlib.Core.List.{List}

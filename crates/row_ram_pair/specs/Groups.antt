@@ -1,5 +1,4 @@
 -- The rows that move two nibbles between HL and RAM, by their numbers in the sheet.
--- Assumes nothing.
 use Prim.Native.Nat.{ℕ}
 use mathlib.Core.List.{List, [], _∷_}
 

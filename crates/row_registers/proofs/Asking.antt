@@ -1,5 +1,4 @@
 -- Each row that compares or tests registers, and NOP, is its line of the table: by computation.
--- Assumes nothing.
 use mathlib.Core.Path.{_≡_, refl}
 use Prim.Native.Nat.{ℕ}
 use Rattle.sheet.specs.Table.{lines, lineAt}

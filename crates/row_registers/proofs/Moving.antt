@@ -1,5 +1,4 @@
 -- Each row that moves or exchanges registers is its line of the table: by computation.
--- Assumes nothing.
 use mathlib.Core.Path.{refl}
 use Prim.Native.Nat.{ℕ}
 use Rattle.sheet.specs.Table.{lines, lineAt}

@@ -1,5 +1,4 @@
 -- Which rows each function of this crate is for, by their numbers in the sheet, the last arm's row first.
--- Assumes nothing.
 use Prim.Native.Nat.{ℕ}
 use mathlib.Core.List.{List, [], _∷_}
 

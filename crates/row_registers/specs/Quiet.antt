@@ -1,5 +1,4 @@
 -- What a row that leaves RAM alone gives, held against the table's definition.
--- Assumes nothing.
 use Prim.Native.Nat.{ℕ, _<_}
 use mathlib.Core.Bool.{Bool}
 use mathlib.Core.List.{List}

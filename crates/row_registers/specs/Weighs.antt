@@ -1,5 +1,4 @@
 -- The weight of the bit that an operand names.
--- Assumes nothing.
 use Prim.Native.Nat.{ℕ, _<_}
 use mathlib.Core.Path.{_≡_}
 use Rattle.row.specs.Places.{weightOf}

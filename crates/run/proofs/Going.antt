@@ -1,5 +1,4 @@
 -- A run that is under way: the record is valid, what is left are frames, and the whole run is what is left of it.
--- Assumes nothing.
 use mathlib.Core.Path.{_≡_, refl, sym, ap, subst, _∙_}
 use mathlib.Core.Bool.{true}
 use mathlib.Core.List.{List, _∷_}

@@ -1,5 +1,4 @@
 -- How a run goes: what was spent before it is added to what it spends, and where its first frames complete the rest are run from what they gave.
--- Assumes nothing.
 use mathlib.Core.Path.{_≡_, refl, sym, ap, _∙_}
 use mathlib.Core.Bool.{Bool, true, false}
 use mathlib.Core.List.{List, [], _∷_, _++_}

@@ -1,5 +1,4 @@
 -- What the call run answers: document 01's number, 0 where nothing is refused and nothing stops, and what comes with it. Refusals in the order of its table, but 4 before 3.
--- Assumes nothing.
 use Prim.Native.Nat.{ℕ, _<_, _≤_}
 use mathlib.Core.Bool.{true, false}
 use mathlib.Core.List.{List}

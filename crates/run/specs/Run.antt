@@ -1,5 +1,4 @@
 -- Document 01, "What comes back": a run "makes one step a frame, and ends early at a stop; it returns the record, steps completed, cycles spent and the stop, 0 if none".
--- Assumes nothing.
 use Prim.Native.Nat.{ℕ, suc, _+_}
 use mathlib.Core.List.{List, [], _∷_}
 use lib.Dec.{eqb}

@@ -1,5 +1,4 @@
 -- Where a part of a buffer goes on, once some of it is used.
--- Assumes nothing.
 use mathlib.Core.List.{List}
 use Prim.Native.Nat.{ℕ, _+_, _-_, _<_, _≤_}
 use native.Mathlib.Omega.{arith}

@@ -1,5 +1,4 @@
 -- The agreement of a table of first bytes with the rows: one test over the whole table, carried to each first byte.
--- Assumes nothing.
 use mathlib.Core.Path.{_≡_, refl, ap, _∙_}
 use mathlib.Core.Bool.{Bool, true, false}
 use mathlib.Core.List.{List, [], _∷_}

@@ -1,5 +1,4 @@
 -- The operands that are read are within their fields.
--- Assumes nothing.
 use mathlib.Core.Path.{_≡_, sym, ap, _∙_}
 use mathlib.Core.Bool.{Bool, true, false}
 use mathlib.Core.List.{List, [], _∷_}
@@ -9,7 +8,7 @@ use native.Mathlib.Nat.{le-trans, not-suc-le-zero}
 use native.Mathlib.Decide.{decLt, ℕ-discrete}
 use native.Mathlib.Omega.{arith}
 use Rattle.laws.specs.Choice.{pick}
-use Rattle.sheet.specs.Code.{Group, #, all, fixed1, fixed2, fixed3, above2, among, Operand, absent, value, valueOf, fits, extendedIf, gives, operandFrom}
+use Rattle.sheet.specs.Code.{Group, #, all, fixed1, fixed2, fixed3, above2, hasSign, Operand, absent, value, valueOf, fits, extendedIf, gives, operandFrom}
 use Rattle.sheet.specs.Table.{Code, lineAt}
 use Rattle.sheet.specs.Fields.{widened, fieldFrom, leads, fieldA, fieldB, InFields}
 use Rattle.sheet.specs.Reading.{codeOf, rowNumber, readDigits, bytesOf}
@@ -53,11 +52,11 @@ by-2 false o n d b = b
 
 given : (ls : String) (g : Group) (o : Operand) (n d : ℕ) → d < 16 → Below o n → Below (gives ls g d o) (widened ls g n)
 given ls (# v) o n d h b = b
-given ls (all l) o n d h b = by-16 (among ls l) o n d h b
-given ls (fixed1 v l) o n d h b = by-8 (among ls l) o n d b
-given ls (fixed2 v l) o n d h b = by-4 (among ls l) o n d b
-given ls (fixed3 v l) o n d h b = by-2 (among ls l) o n d b
-given ls (above2 l v) o n d h b = by-16 (among ls l) o n d h b
+given ls (all l) o n d h b = by-16 (hasSign ls l) o n d h b
+given ls (fixed1 v l) o n d h b = by-8 (hasSign ls l) o n d b
+given ls (fixed2 v l) o n d h b = by-4 (hasSign ls l) o n d b
+given ls (fixed3 v l) o n d h b = by-2 (hasSign ls l) o n d b
+given ls (above2 l v) o n d h b = by-16 (hasSign ls l) o n d h b
 
 -- the field only grows
 no-less : (t : Bool) (n m : ℕ) → n ≤ m → n ≤ pick t m n
@@ -66,11 +65,11 @@ no-less false n m h = omega arith
 
 grows : (ls : String) (g : Group) (n : ℕ) → n ≤ widened ls g n
 grows ls (# v) n = omega arith
-grows ls (all l) n = no-less (among ls l) n (n * 16) (omega arith)
-grows ls (fixed1 v l) n = no-less (among ls l) n (n * 8) (omega arith)
-grows ls (fixed2 v l) n = no-less (among ls l) n (n * 4) (omega arith)
-grows ls (fixed3 v l) n = no-less (among ls l) n (n * 2) (omega arith)
-grows ls (above2 l v) n = no-less (among ls l) n (n * 16) (omega arith)
+grows ls (all l) n = no-less (hasSign ls l) n (n * 16) (omega arith)
+grows ls (fixed1 v l) n = no-less (hasSign ls l) n (n * 8) (omega arith)
+grows ls (fixed2 v l) n = no-less (hasSign ls l) n (n * 4) (omega arith)
+grows ls (fixed3 v l) n = no-less (hasSign ls l) n (n * 2) (omega arith)
+grows ls (above2 l v) n = no-less (hasSign ls l) n (n * 16) (omega arith)
 
 below-more : (o : Operand) (n m : ℕ) → n ≤ m → Below o n → Below o m
 below-more absent n m h b = omega arith

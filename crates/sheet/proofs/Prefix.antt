@@ -1,5 +1,4 @@
 -- What is read does not depend on bytes past the row's length.
--- Assumes nothing.
 use mathlib.Core.Path.{_≡_, refl, sym, ap, subst, subst⁻¹, _∙_}
 use mathlib.Core.Bool.{Bool, true, false, not}
 use mathlib.Core.Logic.{_⊎_, inl, inr, ⊎-elim}
@@ -15,7 +14,7 @@ use Rattle.laws.specs.Choice.{pick, both}
 use Rattle.laws.proofs.Computed.{implies, modus, below, at, both-left, both-right}
 use Rattle.sheet.specs.Code.{Group, hasDigit, fits, fixedBits, Operand, absent, valueOf, gives, operandFrom, digits}
 use Rattle.sheet.specs.Table.{Code, Line, lines, lineAt}
-use Rattle.sheet.specs.Reading.{claim, over, Winner, winner, codeOf, insn, assigned, rowNumber, rowWith, readDigits, readBytes, bytesOf}
+use Rattle.sheet.specs.Reading.{bitsFixedIfFits, over, Winner, winner, codeOf, insn, assigned, rowNumber, rowWith, readDigits, readBytes, bytesOf}
 use Rattle.sheet.specs.declared.Insn.{Insn}
 use Rattle.sheet.specs.declared.Read.the-variants.{Row, Unassigned}
 use Rattle.sheet.proofs.Winning.{At, here, there, line-at, Fitting, winner-is}
@@ -72,7 +71,7 @@ module _ (h l m : ℕ) (xs ys : List ℕ) (same : take m (h ∷ l ∷ xs) ≡ ta
   same-fits : (c : Code) → T (implies (begins (c .groups) h l) (eqb (length (c .groups)) m)) → fits (c .groups) ds ≡ fits (c .groups) es
   same-fits c t = fits-by (c .groups) (begins (c .groups) h l) refl (λ b. eqb→eq (length (c .groups)) m (modus (begins (c .groups) h l) (eqb (length (c .groups)) m) t b))
 
-  same-claim : (cs : List Code) → T (wideCodes cs h l m) → claim cs ds ≡ claim cs es
+  same-claim : (cs : List Code) → T (wideCodes cs h l m) → bitsFixedIfFits cs ds ≡ bitsFixedIfFits cs es
   same-claim [] t = refl
   same-claim (c ∷ cs) t =
       let f = same-fits c (both-left (implies (begins (c .groups) h l) (eqb (length (c .groups)) m)) (wideCodes cs h l m) t) in

@@ -1,5 +1,4 @@
 -- What a code that is read as an instruction tells of it.
--- Assumes nothing.
 use mathlib.Core.Path.{_≡_, refl, ap, subst⁻¹, _∙_}
 use mathlib.Core.Bool.{Bool, true, false}
 use mathlib.Core.List.{List, [], _∷_}

@@ -1,6 +1,5 @@
 -- The object code column of sheet 000: what a text such as "0110 1010 xxxx xxxx" says, by groups of four signs.
 -- A code's digits are its groups of four bits, from the left.
--- Assumes nothing.
 use Prim.Native.Nat.{ℕ, zero, suc, _+_, _-_, _*_, _/_, _%_}
 use Prim.Native.Char.{Char, code}
 use Prim.Native.String.{String, len, charAt, [] as none, _∷_ as _and_}
@@ -42,8 +41,8 @@ abbrev pub groupsFrom : String → ℕ → ℕ → List Group
 groupsFrom t i zero = []
 groupsFrom t i (suc n) = groupAt t i ∷ groupsFrom t (suc i) n
 
-abbrev pub groups : String → List Group
-groups t = groupsFrom t 0 ((len t + 1) / 5)
+abbrev pub groupsOf : String → List Group
+groupsOf t = groupsFrom t 0 ((len t + 1) / 5)
 
 -- whether a group has the digit d
 abbrev pub hasDigit : Group → ℕ → Bool
@@ -86,9 +85,9 @@ abbrev pub extended : Operand → ℕ → ℕ → Operand
 extended absent w n = value n
 extended (value m) w n = value (m * w + n)
 
-abbrev pub among : String → Char → Bool
-among none c = false
-among (l and ls) c = pick (eqb (code l) (code c)) true (among ls c)
+abbrev pub hasSign : String → Char → Bool
+hasSign none c = false
+hasSign (l and ls) c = pick (eqb (code l) (code c)) true (hasSign ls c)
 
 abbrev pub extendedIf : Bool → Operand → ℕ → ℕ → Operand
 extendedIf true o w n = extended o w n
@@ -97,11 +96,11 @@ extendedIf false o w n = o
 -- a group gives its bits to the operand that one of the letters names; two fixed bits below the letter are the operand's too, as in xxxx xx00
 abbrev pub gives : String → Group → ℕ → Operand → Operand
 gives ls (# v) d o = o
-gives ls (all l) d o = extendedIf (among ls l) o 16 d
-gives ls (fixed1 v l) d o = extendedIf (among ls l) o 8 (d % 8)
-gives ls (fixed2 v l) d o = extendedIf (among ls l) o 4 (d % 4)
-gives ls (fixed3 v l) d o = extendedIf (among ls l) o 2 (d % 2)
-gives ls (above2 l v) d o = extendedIf (among ls l) o 16 d
+gives ls (all l) d o = extendedIf (hasSign ls l) o 16 d
+gives ls (fixed1 v l) d o = extendedIf (hasSign ls l) o 8 (d % 8)
+gives ls (fixed2 v l) d o = extendedIf (hasSign ls l) o 4 (d % 4)
+gives ls (fixed3 v l) d o = extendedIf (hasSign ls l) o 2 (d % 2)
+gives ls (above2 l v) d o = extendedIf (hasSign ls l) o 16 d
 
 -- the operand that one of the letters names, in the digits of a code
 abbrev pub operandFrom : Operand → String → List Group → List ℕ → Operand

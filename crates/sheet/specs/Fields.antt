@@ -1,20 +1,19 @@
 -- The field of an operand: what its values stay below, by its bits in the object code; of xxxx xx00 that is 256, and only multiples of 4 are read.
--- Assumes nothing.
 use Prim.Native.Nat.{ℕ, suc, _*_, _<_, max}
 use Prim.Native.String.{String}
 use mathlib.Core.List.{List, [], _∷_}
 use Rattle.laws.specs.Choice.{pick}
-use Rattle.sheet.specs.Code.{Group, #, all, fixed1, fixed2, fixed3, above2, among, Operand, absent, value}
+use Rattle.sheet.specs.Code.{Group, #, all, fixed1, fixed2, fixed3, above2, hasSign, Operand, absent, value}
 use Rattle.sheet.specs.Table.{Code, lineAt}
 use Rattle.sheet.specs.declared.Insn.{Insn}
 
 abbrev pub widened : String → Group → ℕ → ℕ
 widened ls (# v) n = n
-widened ls (all l) n = pick (among ls l) (n * 16) n
-widened ls (fixed1 v l) n = pick (among ls l) (n * 8) n
-widened ls (fixed2 v l) n = pick (among ls l) (n * 4) n
-widened ls (fixed3 v l) n = pick (among ls l) (n * 2) n
-widened ls (above2 l v) n = pick (among ls l) (n * 16) n
+widened ls (all l) n = pick (hasSign ls l) (n * 16) n
+widened ls (fixed1 v l) n = pick (hasSign ls l) (n * 8) n
+widened ls (fixed2 v l) n = pick (hasSign ls l) (n * 4) n
+widened ls (fixed3 v l) n = pick (hasSign ls l) (n * 2) n
+widened ls (above2 l v) n = pick (hasSign ls l) (n * 16) n
 
 abbrev pub fieldFrom : ℕ → String → List Group → ℕ
 fieldFrom n ls [] = n

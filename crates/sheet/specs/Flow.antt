@@ -1,5 +1,4 @@
 -- Where a branch or a call goes, by its operand and, of a branch, by the address of the row's own first byte.
--- Assumes nothing.
 use Prim.Native.Nat.{ℕ, _+_, _*_, _/_}
 use lib.Dec.{eqb}
 use Rattle.laws.specs.Choice.{pick}
@@ -14,6 +13,6 @@ targetOf half at a = at / 4096 * 4096 + a
 targetOf whole at a = a
 
 -- "SCALL n: 8n + 6, but 86h for n = 0"; the address of LCALL stands in its code
-abbrev pub entryOf : Entry → ℕ → ℕ
-entryOf long a = a
-entryOf short n = pick (eqb n 0) 0x86 (8 * n + 6)
+abbrev pub callEntry : Entry → ℕ → ℕ
+callEntry long a = a
+callEntry short n = pick (eqb n 0) 0x86 (8 * n + 6)

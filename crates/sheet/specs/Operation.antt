@@ -1,5 +1,4 @@
 -- The operation column of sheet 000's instruction table as data, in the sheet's own symbols.
--- Assumes nothing.
 
 -- a register; what the row itself gives (its operand k, one, the bit that b or LR 1..0 names, nothing); a flag read as a bit
 pub data Register : Type 0 where
@@ -172,44 +171,44 @@ infix 10 compare_minus_
 infix 10 _⟵_then_
 infix 10 _⟵_besides_
 infix 10 _⟷_besides_
-abbrev pub made : Place → Op → Place → Place → Operation
-made d o x y = work (put d o x y) alone
+abbrev pub puts : Place → Op → Place → Place → Operation
+puts d o x y = work (put d o x y) alone
 
 abbrev pub _⟵_ : Place → Place → Operation
-_⟵_ d x = made d Move x none
+_⟵_ d x = puts d Move x none
 
 abbrev pub _⟵_plus_ : Place → Place → Place → Operation
-_⟵_plus_ d x y = made d Plus x y
+_⟵_plus_ d x y = puts d Plus x y
 
 abbrev pub _⟵_plus_plus-CF : Place → Place → Place → Operation
-_⟵_plus_plus-CF d x y = made d PlusCF x y
+_⟵_plus_plus-CF d x y = puts d PlusCF x y
 
 abbrev pub _⟵_minus_ : Place → Place → Place → Operation
-_⟵_minus_ d x y = made d Minus x y
+_⟵_minus_ d x y = puts d Minus x y
 
 abbrev pub _⟵_minus_minus-CF' : Place → Place → Place → Operation
-_⟵_minus_minus-CF' d x y = made d MinusCF' x y
+_⟵_minus_minus-CF' d x y = puts d MinusCF' x y
 
 abbrev pub _⟵_and_ : Place → Place → Place → Operation
-_⟵_and_ d x y = made d And x y
+_⟵_and_ d x y = puts d And x y
 
 abbrev pub _⟵_or_ : Place → Place → Place → Operation
-_⟵_or_ d x y = made d Or x y
+_⟵_or_ d x y = puts d Or x y
 
 abbrev pub _⟵_xor_ : Place → Place → Place → Operation
-_⟵_xor_ d x y = made d Xor x y
+_⟵_xor_ d x y = puts d Xor x y
 
 abbrev pub ⟵CF⟵Acc⟵ : Operation
-⟵CF⟵Acc⟵ = made Acc RotateLeft Acc none
+⟵CF⟵Acc⟵ = puts Acc RotateLeft Acc none
 
 abbrev pub ⟶CF⟶Acc⟶ : Operation
-⟶CF⟶Acc⟶ = made Acc RotateRight Acc none
+⟶CF⟶Acc⟶ = puts Acc RotateRight Acc none
 
 abbrev pub _⟷_ : Place → Place → Operation
 _⟷_ d x = work (exchange d x) alone
 
 abbrev pub compare_minus_ : Place → Place → Operation
-compare_minus_ x y = made none Minus x y
+compare_minus_ x y = puts none Minus x y
 
 -- "Set and clear use the latch": of a port the bit is set in what its latch holds
 abbrev pub held : Place → Place
@@ -225,25 +224,25 @@ held (rom h) = rom h
 held mask = mask
 
 abbrev pub _bit_⟵0 : Place → Place → Operation
-_bit_⟵0 d x = made d Clear (held d) x
+_bit_⟵0 d x = puts d Clear (held d) x
 
 abbrev pub _bit_⟵1 : Place → Place → Operation
-_bit_⟵1 d x = made d Set (held d) x
+_bit_⟵1 d x = puts d Set (held d) x
 
 abbrev pub SF⟵_bit_ : Place → Place → Operation
-SF⟵_bit_ x y = made none Has x y
+SF⟵_bit_ x y = puts none Has x y
 
 abbrev pub SF⟵_bit_' : Place → Place → Operation
-SF⟵_bit_' x y = made none Lacks x y
+SF⟵_bit_' x y = puts none Lacks x y
 
 abbrev pub SF⟵CF : Operation
-SF⟵CF = made none Has CF one
+SF⟵CF = puts none Has CF one
 
 abbrev pub SF⟵CF' : Operation
-SF⟵CF' = made none Lacks CF one
+SF⟵CF' = puts none Lacks CF one
 
 abbrev pub SF⟵ZF : Operation
-SF⟵ZF = made none Has ZF one
+SF⟵ZF = puts none Has ZF one
 
 -- the second steps
 abbrev pub LR+1 : Step

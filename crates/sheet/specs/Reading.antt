@@ -1,5 +1,4 @@
 -- What a code is, by document 01's general rules over the table: a row with its operands, or unassigned.
--- Assumes nothing.
 use Prim.Native.Nat.{ℕ, zero, suc, _+_, _%_}
 use mathlib.Core.List.{List, [], _∷_}
 use lib.Dec.{ltb}
@@ -12,9 +11,9 @@ use Rattle.sheet.specs.declared.Read.{Read}
 use Rattle.sheet.specs.declared.Read.the-variants.{Row, Unassigned}
 
 -- how many bits of the digits a row fixes, by the one of its codes that they begin with; 0 where they begin with none
-abbrev pub claim : List Code → List ℕ → ℕ
-claim [] ds = 0
-claim (c ∷ cs) ds = pick (fits (c .groups) ds) (fixedBits (c .groups)) (claim cs ds)
+abbrev pub bitsFixedIfFits : List Code → List ℕ → ℕ
+bitsFixedIfFits [] ds = 0
+bitsFixedIfFits (c ∷ cs) ds = pick (fits (c .groups) ds) (fixedBits (c .groups)) (bitsFixedIfFits cs ds)
 
 -- "A row with more bits fixed wins over a wider one": of the rows that fit the one that fixes most bits, by its number; 0 where none fits, for "a pattern in neither table is unassigned"
 pub record Winner : Type 0 where
@@ -26,7 +25,7 @@ over n bits w = pick (ltb (w .bits) bits) (record { row = n; bits = bits }) w
 
 abbrev pub winner : List Line → ℕ → List ℕ → Winner
 winner [] n ds = record { row = 0; bits = 0 }
-winner (l ∷ ls) n ds = over n (claim (l .codes) ds) (winner ls (suc n) ds)
+winner (l ∷ ls) n ds = over n (bitsFixedIfFits (l .codes) ds) (winner ls (suc n) ds)
 
 unfoldable pub rowNumber : List ℕ → ℕ
 unfolding lines

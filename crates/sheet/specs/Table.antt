@@ -1,11 +1,10 @@
 -- The instruction table of sheet 000 ("INSTRUCTION TABLE", sections 1 to 14), a line a row: mnemonic, object code, operation, bytes, cycles and the flags C, Z and S.
--- Assumes nothing.
 use Prim.Native.Nat.{ℕ, zero, suc}
 use Prim.Native.String.{String}
 use mathlib.Core.List.{List, [], _∷_, _++_}
 use lib.Text.{eqt}
 use Rattle.laws.specs.Choice.{pick}
-use Rattle.sheet.specs.Code.{Group, groups, Operand, absent, value}
+use Rattle.sheet.specs.Code.{Group, groupsOf, Operand, absent, value}
 use Rattle.sheet.specs.Operation.{Operation, _⟵_, _⟵_plus_, _⟵_plus_plus-CF, _⟵_minus_, _⟵_minus_minus-CF', _⟵_and_, _⟵_or_, _⟵_xor_, _⟵_then_, _⟵_besides_, _⟷_, _⟷_besides_, ⟵CF⟵Acc⟵, ⟶CF⟶Acc⟶, compare_minus_, _bit_⟵0, _bit_⟵1, SF⟵_bit_, SF⟵_bit_', SF⟵CF, SF⟵CF', SF⟵ZF, LR+1, LR-1, HR⟵RAM[x+1], HR⟷RAM[x+1], Acc, HR, LR, k, one, b, LR₁₋₀, RAM[HL], RAM[x], RAM[y], PORT[p], PORT[LR₃₋₂+4], SP, [DP]L, [DP]M, [DP]H, [TA]L, [TA]M, [TA]H, [TB]L, [TB]M, [TB]H, ROM[DP]L, ROM[DP]H, MASK}
 use Rattle.sheet.specs.Operation.Step.{DP+1}
 use Rattle.sheet.specs.Operation.Operation.{branch, call, return, return-FLAG, IL⟵IL-and-r, no-operation}
@@ -29,12 +28,12 @@ pub record Code : Type 0 where
   pub groups : List Group
   pub lead : Operand
 
-abbrev pub plain : String → Code
-plain t = record { groups = groups t; lead = absent }
+abbrev pub oneCode : String → Code
+oneCode t = record { groups = groupsOf t; lead = absent }
 
 infix 20 _with-a₁₂_
 abbrev pub _with-a₁₂_ : String → ℕ → Code
-_with-a₁₂_ t n = record { groups = groups t; lead = value n }
+_with-a₁₂_ t n = record { groups = groupsOf t; lead = value n }
 
 pub record Line : Type 0 where
   pub mnemonic : String
@@ -51,7 +50,7 @@ line name codes o n t fc fz fs = record { mnemonic = name; codes = codes; operat
 
 -- a line of the sheet: mnemonic, object code, operation, bytes, cycles, C, Z, S
 abbrev pub row : String → String → Operation → ℕ → ℕ → String → String → String → Line
-row name code o n t fc fz fs = line name (plain code ∷ []) o n t fc fz fs
+row name code o n t fc fz fs = line name (oneCode code ∷ []) o n t fc fz fs
 
 -- a row that the sheet prints with two codes
 abbrev pub row² : String → Code → Code → Operation → ℕ → ℕ → String → String → String → Line

@@ -1,5 +1,4 @@
 -- "A table of 256 first bytes gives length and cycles, second bytes deciding where needed": what such a table has to say of a first byte. All rows that begin with it agree, so a second byte decides only whether there is one.
--- Assumes nothing.
 use Prim.Native.Nat.{ℕ, _/_, _%_}
 use mathlib.Core.List.{List, _∷_}
 use mathlib.Core.Path.{_≡_}

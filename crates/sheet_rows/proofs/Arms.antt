@@ -1,5 +1,4 @@
 -- The reader's arms: what a code is whose row has been found by a test that the checker computes.
--- Assumes nothing.
 use mathlib.Core.Path.{_≡_, sym, ap, refl, subst⁻¹, _∙_}
 use mathlib.Core.List.{List, [], _∷_}
 use mathlib.Core.Bool.{Bool, true, false, not}
@@ -14,7 +13,7 @@ use Rattle.sheet.specs.Reading.{insn, rowNumber, rowWith, readDigits}
 use Rattle.sheet.specs.declared.Insn.{Insn}
 use Rattle.sheet.specs.declared.Read.{Read}
 use Rattle.sheet.specs.declared.Read.the-variants.{Row, Unassigned}
-use Rattle.sheet_rows.specs.Found.{asRead, noRow, direct, aligned, far}
+use Rattle.sheet_rows.specs.Found.{asRead, noRow, direct, directByFour, far}
 
 -- a code has the row n
 pub row-is : (n : ℕ) (ds : List ℕ) → T (eqb (rowNumber ds) n) → rowWith n ds ≡ readDigits ds
@@ -72,7 +71,7 @@ module _ (l n : ℕ) (ds : List ℕ) (is-row : T (not (eqb n 0))) (reads : (h m 
   as-aligned b false p q = q tt
 
   -- a code xxxx xx00
-  pub aligned-reads : (b : ℕ) → b < 256 → T (below 16 (λ m. implies (eqb (m % 4) 0) (eqb (rowNumber (4 ∷ l ∷ b / 16 ∷ m ∷ ds)) n))) → T (below 16 (λ m. implies (not (eqb (m % 4) 0)) (eqb (rowNumber (4 ∷ l ∷ b / 16 ∷ m ∷ ds)) 0))) → asRead (aligned n b) ≡ readDigits (4 ∷ l ∷ b / 16 ∷ b % 16 ∷ ds)
+  pub aligned-reads : (b : ℕ) → b < 256 → T (below 16 (λ m. implies (eqb (m % 4) 0) (eqb (rowNumber (4 ∷ l ∷ b / 16 ∷ m ∷ ds)) n))) → T (below 16 (λ m. implies (not (eqb (m % 4) 0)) (eqb (rowNumber (4 ∷ l ∷ b / 16 ∷ m ∷ ds)) 0))) → asRead (directByFour n b) ≡ readDigits (4 ∷ l ∷ b / 16 ∷ b % 16 ∷ ds)
   aligned-reads b below256 yes-row no-row =
       as-aligned b (eqb (b % 4) 0)
       (λ t. direct-reads n (b / 16 * 16 + b % 16) b is-row (whole b) ∙ (sym (reads (b / 16) (b % 16)) ∙ row-is n (4 ∷ l ∷ b / 16 ∷ b % 16 ∷ ds) (where-at (λ m. eqb (m % 4) 0) (λ m. eqb (rowNumber (4 ∷ l ∷ b / 16 ∷ m ∷ ds)) n) 16 yes-row (b % 16) (omega arith) (true→T (eq-eqb (b % 16 % 4) 0 (omega (arith, eqb→eq (b % 4) 0 t)))))))

@@ -1,5 +1,4 @@
 -- What the reader's inner functions give: an instruction whose row is 0 where the code is unassigned.
--- Assumes nothing.
 use Prim.Native.Nat.{ℕ, _+_, _*_, _/_, _%_}
 use mathlib.Core.List.{List, _∷_}
 use mathlib.Core.Path.{_≡_}
@@ -19,8 +18,8 @@ noRow = insn 0 0 0
 abbrev pub direct : ℕ → ℕ → Insn
 direct n x = pick (ltb x 0xF4) (insn n x 0) noRow
 
-abbrev pub aligned : ℕ → ℕ → Insn
-aligned n x = pick (eqb (x % 4) 0) (direct n x) noRow
+abbrev pub directByFour : ℕ → ℕ → Insn
+directByFour n x = pick (eqb (x % 4) 0) (direct n x) noRow
 
 abbrev pub far : ℕ → ℕ → ℕ → Insn
 far upper b1 b2 = pick (eqb (b1 / 16) 12) (insn 49 (upper * 4096 + b1 % 16 * 256 + b2) 0) noRow

@@ -4,7 +4,7 @@ use sheet::rows;
 ghost use mathlib.Core.Path.{_≡_};
 ghost use Prim.Native.Nat.{_<_, _≤_, _+_, _*_, _/_, _%_};
 ghost use Rattle.sheet.specs.Reading.{insn};
-ghost use Rattle.sheet_rows.specs.Found.{Begins1, Begins2, Begins3, direct, aligned, far};
+ghost use Rattle.sheet_rows.specs.Found.{Begins1, Begins2, Begins3, direct, directByFour, far};
 
 fn row_5(l: u8) -> u8
     requires { ⌜ (l < 16) × (l ≡ 5 → ⊥) × (l ≡ 7 → ⊥) ⌝ }
@@ -206,7 +206,7 @@ fn by_x(row: u8, x: u8) -> Insn
 
 // A code xxxx xx00.
 fn by_aligned_x(row: u8, x: u8) -> Insn
-    ensures { λ r. ⌜ r ≡ aligned row x ⌝ }
+    ensures { λ r. ⌜ r ≡ directByFour row x ⌝ }
 {
     if x % 4 == 0 {
         return by_x(row, x);

@@ -1,5 +1,4 @@
 -- A step of a valid record is valid, and its stop gives back the record that was handed in.
--- Assumes nothing.
 use mathlib.Core.Path.{_≡_, refl}
 use mathlib.Core.Bool.{Bool, true, false}
 use Prim.Native.Nat.{ℕ, _<_}

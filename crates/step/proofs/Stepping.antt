@@ -1,5 +1,4 @@
 -- A step by its three ways: it stops and is undone, it acts, or it only looked.
--- Assumes nothing.
 use mathlib.Core.Path.{_≡_, ap, _∙_}
 use mathlib.Core.Bool.{true, false}
 use mathlib.Core.List.{List}

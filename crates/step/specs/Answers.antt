@@ -1,5 +1,4 @@
 -- What the call step answers: document 01's number, 0 where nothing is refused and nothing stops, and what comes with it. Refusals in the order of its table.
--- Assumes nothing.
 use Prim.Native.Nat.{ℕ}
 use mathlib.Core.List.{List}
 use mathlib.Core.Path.{_≡_}

@@ -1,5 +1,4 @@
 -- What a step on the scalars, with RAM lent, gives: the definition's answer taken apart.
--- Assumes nothing.
 use Prim.Native.Nat.{ℕ}
 use mathlib.Core.List.{List}
 use mathlib.Core.Path.{_≡_}

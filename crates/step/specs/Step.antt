@@ -1,5 +1,4 @@
 -- Document 01, "One step": a step is what a record sees of its frame and then, where it runs, what it does.
--- Assumes nothing.
 use Prim.Native.Nat.{ℕ}
 use lib.Dec.{eqb}
 use Rattle.laws.specs.Choice.{pick}

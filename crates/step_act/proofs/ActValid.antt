@@ -1,5 +1,4 @@
 -- Acting makes a valid record of a valid one that runs.
--- Assumes nothing.
 use mathlib.Core.Path.{_≡_, refl}
 use mathlib.Core.Bool.{Bool}
 use Prim.Native.Nat.{ℕ, _<_}
@@ -24,7 +23,7 @@ use Rattle.row.specs.Rows.{Done, spent, stops}
 use Rattle.row.proofs.RowsValid.{executed-valid}
 use Rattle.step_look.specs.Look.{timeOf}
 use Rattle.step_look.proofs.Ranges.{clear, is-clear}
-use Rattle.step_act.specs.Act.{sourceOf, acceptOf, runRead, runOne, turnOf, ratesOf, timed, coreIn, coreAfter, actOf}
+use Rattle.step_act.specs.Act.{sourceOf, acceptOf, runRead, runOne, acceptOrRun, ratesOf, timed, coreIn, coreAfter, actOf}
 
 pub time-in-range : (m : Core) → ValidCore m → InRange (timeOf m)
 time-in-range m v =
@@ -81,12 +80,12 @@ module _ (rom : ℕ → ℕ) (sound : Bool) (m : Machine) (valid : Valid m) (run
   unfolding runOne
   run-valid = read-valid (readAt rom (m .core .pc)) refl
 
-  pub turn-valid : Valid (turnOf rom sound m .machine)
-  unfolding turnOf
+  pub turn-valid : Valid (acceptOrRun rom sound m .machine)
+  unfolding acceptOrRun
   turn-valid =
       picked-by (λ (d : Done). Valid (d .machine)) (ltb (sourceOf (m .core)) 6) (acceptOf m (sourceOf (m .core))) (runOne rom sound m)
       (λ q. accept-valid (sourceOf (m .core)) (ltb→lt (sourceOf (m .core)) 6 q)) run-valid
 
   pub act-valid : Valid (actOf rom sound m .machine)
   unfolding actOf
-  act-valid = record { core = after-valid (turnOf rom sound m .cycles) (turnOf rom sound m .machine .core) (turn-valid .core); ram = turn-valid .ram }
+  act-valid = record { core = after-valid (acceptOrRun rom sound m .cycles) (acceptOrRun rom sound m .machine .core) (turn-valid .core); ram = turn-valid .ram }

@@ -1,5 +1,4 @@
 -- From what the parts give to what the definitions of a turn say.
--- Assumes nothing.
 use mathlib.Core.Path.{_≡_, sym, ap, subst}
 use mathlib.Core.Bool.{Bool, true, false}
 use mathlib.Core.List.{List}
@@ -20,7 +19,7 @@ use Rattle.row.specs.Rows.{Done}
 use Rattle.row_registers.specs.Quiet.{assembled}
 use Rattle.row_control.specs.declared.Turn.{Turn}
 use Rattle.row_dispatch.specs.Performs.{Performs}
-use Rattle.step_act.specs.Act.{sourceOf, acceptOf, runOne, turnOf, coreIn, coreAfter, actOf}
+use Rattle.step_act.specs.Act.{sourceOf, acceptOf, runOne, acceptOrRun, coreIn, coreAfter, actOf}
 use Rattle.step_act.specs.Gives.{Gives}
 
 abbrev pub stopped : Core → ℕ → Turn
@@ -53,15 +52,15 @@ module _ (rom : ℕ → ℕ) (sound : Bool) (m : Core) (l k : List ℕ) where
   unfolding runOne
   row-read i x e p = record { same = rw e (p .same) }
 
-  pub turn-accepts : (due : ℕ) (x : Turn) → due ≡ sourceOf m → due < 6 → Gives (acceptOf (assembled m l) due) k x → Gives (turnOf rom sound (assembled m l)) k x
-  unfolding turnOf
+  pub turn-accepts : (due : ℕ) (x : Turn) → due ≡ sourceOf m → due < 6 → Gives (acceptOf (assembled m l) due) k x → Gives (acceptOrRun rom sound (assembled m l)) k x
+  unfolding acceptOrRun
   turn-accepts due x e h g = record { same = rw (← e, lt-ltb due 6 h) (g .same) }
 
-  pub turn-runs : (due : ℕ) (x : Turn) → due ≡ sourceOf m → 6 ≤ due → Gives (runOne rom sound (assembled m l)) k x → Gives (turnOf rom sound (assembled m l)) k x
-  unfolding turnOf
+  pub turn-runs : (due : ℕ) (x : Turn) → due ≡ sourceOf m → 6 ≤ due → Gives (runOne rom sound (assembled m l)) k x → Gives (acceptOrRun rom sound (assembled m l)) k x
+  unfolding acceptOrRun
   turn-runs due x e h g = record { same = rw (← e, le-ltb due 6 h) (g .same) }
 
-  pub time-passes : (x : Turn) (after : Core) → Gives (turnOf rom sound (assembled m l)) k x → after ≡ coreAfter (x .cycles) (x .core) → Gives (actOf rom sound (assembled m l)) k (record { stop = x .stop; cycles = x .cycles; core = after })
+  pub time-passes : (x : Turn) (after : Core) → Gives (acceptOrRun rom sound (assembled m l)) k x → after ≡ coreAfter (x .cycles) (x .core) → Gives (actOf rom sound (assembled m l)) k (record { stop = x .stop; cycles = x .cycles; core = after })
   unfolding actOf
   time-passes x after g e = record { same = rw (← g .same, e) }
 

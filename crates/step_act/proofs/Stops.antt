@@ -1,5 +1,4 @@
 -- A turn that stops leaves the record as it was; what acts leaves RAM.
--- Assumes nothing.
 use mathlib.Core.Path.{_≡_, refl, ap}
 use mathlib.Core.Bool.{Bool, true, false}
 use Prim.Native.Nat.{ℕ}
@@ -13,7 +12,7 @@ use Rattle.machine.specs.Stack.{accepted}
 use Rattle.machine.specs.declared.Machine.{Machine}
 use Rattle.row.specs.Rows.{Done, spent, stops}
 use Rattle.row.proofs.Frame.{stop-undone}
-use Rattle.step_act.specs.Act.{sourceOf, acceptOf, runRead, runOne, turnOf, actOf}
+use Rattle.step_act.specs.Act.{sourceOf, acceptOf, runRead, runOne, acceptOrRun, actOf}
 
 -- a stop keeps the record m
 abbrev Keeps : Machine → Done → Type 0
@@ -35,8 +34,8 @@ module _ (rom : ℕ → ℕ) (sound : Bool) (m : Machine) where
       λ z. ap (λ (x : Done). x .machine) (stop-undone m (record { rom = rom; sound = sound; insn = i }) (lineAt (i .row)) (lineAt (i .row) .operation) z)
   read-keeps Read.Unassigned = λ z. refl
 
-  pub turn-keeps : Keeps m (turnOf rom sound m)
-  unfolding turnOf runOne
+  pub turn-keeps : Keeps m (acceptOrRun rom sound m)
+  unfolding acceptOrRun runOne
   turn-keeps =
       either-keeps m (ltb (sourceOf (m .core)) 6) (acceptOf m (sourceOf (m .core))) (runOne rom sound m)
       (accept-keeps (sourceOf (m .core))) (read-keeps (readAt rom (m .core .pc)))

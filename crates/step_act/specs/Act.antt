@@ -1,5 +1,4 @@
 -- Document 01, "One step": what a running record does once it has seen the frame. It accepts an interrupt or executes one row; then time passes.
--- Assumes nothing.
 use Prim.Native.Nat.{ℕ}
 use mathlib.Core.Bool.{Bool}
 use lib.Dec.{leb, ltb}
@@ -36,8 +35,8 @@ unfoldable pub runOne : (ℕ → ℕ) → Bool → Machine → Done
 runOne rom sound m = runRead rom sound m (readAt rom (m .core .pc))
 
 -- "accept the first of INT0, TRGA, TRGB, TBI, INT1 .. Otherwise one instruction runs."
-unfoldable pub turnOf : (ℕ → ℕ) → Bool → Machine → Done
-turnOf rom sound m = pick (ltb (sourceOf (m .core)) 6) (acceptOf m (sourceOf (m .core))) (runOne rom sound m)
+unfoldable pub acceptOrRun : (ℕ → ℕ) → Bool → Machine → Done
+acceptOrRun rom sound m = pick (ltb (sourceOf (m .core)) 6) (acceptOf m (sourceOf (m .core))) (runOne rom sound m)
 
 -- "Settings are those left by the instruction", and the pins P8.3 and P8.1 are those of this step's frame
 abbrev pub ratesOf : Core → Rates
@@ -60,4 +59,4 @@ abbrev pub afterTime : Done → Done
 afterTime x = record { stop = x .stop; cycles = x .cycles; machine = record { core = coreAfter (x .cycles) (x .machine .core); ram = x .machine .ram } }
 
 unfoldable pub actOf : (ℕ → ℕ) → Bool → Machine → Done
-actOf rom sound m = afterTime (turnOf rom sound m)
+actOf rom sound m = afterTime (acceptOrRun rom sound m)

@@ -14,7 +14,7 @@ ghost use Prim.Native.Nat.{_<_};
 ghost use lib.ListN.{length};
 ghost use Rattle.sheet.specs.Reading.{romOf};
 ghost use Rattle.machine.specs.Valid.{ValidCore, Nibbles};
-ghost use Rattle.step_act.specs.Act.{sourceOf, acceptOf, runOne, turnOf, coreAfter, timed, actOf};
+ghost use Rattle.step_act.specs.Act.{sourceOf, acceptOf, runOne, acceptOrRun, coreAfter, timed, actOf};
 ghost use Rattle.step_act.specs.Gives.{Gives, Runs};
 
 // A stop, with the scalars as they were.
@@ -76,7 +76,7 @@ fn source(m: Core) -> u8
 
 fn turn(image: &[u8], sound: bool, m: Core, ram: &mut [u8; 372]) -> Turn
     requires { ⌜ (ValidCore m) × (Nibbles (now ram)) × (length (now image) ≡ 8192) ⌝ }
-    ensures { λ x. ⌜ Gives (turnOf (romOf (now (image .entry))) sound (record { core = m; ram = now (ram .entry) })) (now (ram .exit)) x ⌝ }
+    ensures { λ x. ⌜ Gives (acceptOrRun (romOf (now (image .entry))) sound (record { core = m; ram = now (ram .entry) })) (now (ram .exit)) x ⌝ }
 {
     let due = source(m);
     if due < 6 {

@@ -1,5 +1,4 @@
 -- A look at a frame makes a valid record of a valid one; a running record acts, and what acts is running.
--- Assumes nothing.
 use mathlib.Core.Path.{_≡_, refl, sym, _∙_}
 use mathlib.Core.Bool.{Bool, true, false}
 use Prim.Native.Nat.{ℕ}

@@ -1,5 +1,4 @@
 -- What a look sees where P8 is as it was, and the waking times as a table.
--- Assumes nothing.
 use mathlib.Core.Path.{_≡_, _∙_}
 use Prim.Native.Nat.{ℕ, _%_}
 use native.Mathlib.Nat.{mod-lt, mod-mod}

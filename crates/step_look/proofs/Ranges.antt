@@ -1,5 +1,4 @@
 -- The time base, the timers and the latches of a valid record are in the clock's ranges, also where edges set latches.
--- Assumes nothing.
 use mathlib.Core.Path.{_≡_}
 use mathlib.Core.Bool.{Bool, true, false}
 use Prim.Native.Nat.{ℕ, _/_, _%_, _^_, _<_}

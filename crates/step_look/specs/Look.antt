@@ -1,5 +1,4 @@
 -- Document 01, "One step": what a step sees of its frame. Running, the edges set latches and count events; in sleep or hold it only looks for the edge that wakes. "The last frame is always updated."
--- Assumes nothing.
 use Prim.Native.Nat.{ℕ, _%_}
 use mathlib.Core.Bool.{Bool, true, false}
 use mathlib.Core.List.{[], _∷_}

@@ -1,5 +1,4 @@
 -- The cycles of the row at an address, and that they are few.
--- Assumes nothing.
 use mathlib.Core.Path.{_≡_, sym}
 use Prim.Native.Nat.{ℕ, _<_, _≤_}
 use native.Mathlib.Omega.{arith}

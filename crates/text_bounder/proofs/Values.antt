@@ -1,5 +1,4 @@
 -- The value of an answer that is below 65,536, by its case; and a decimal number aligned to the right.
--- Assumes nothing.
 use mathlib.Core.Path.{_≡_}
 use mathlib.Core.List.{List}
 use Prim.Native.Nat.{ℕ, _-_, _<_, _≤_}
@@ -11,7 +10,7 @@ use Rattle.text_digits.specs.Digits.{placesOf, decimal, blanks}
 use Rattle.text_digits.proofs.Numbers.{digits-length, places-up-to}
 use Rattle.bound.specs.Answer.{paperOf}
 use Rattle.bound.specs.declared.Bounded.{Bounded}
-use Rattle.text_bounder.specs.Report.{aligned}
+use Rattle.text_bounder.specs.Report.{rightAligned}
 
 module _ {r : Bounded} {n : ℕ} where
   pub excluded-small : r ≡ Bounded.Excluded n → getD (paperOf r .values) 0 0 < 65536 → n < 65536
@@ -29,5 +28,5 @@ module _ {r : Bounded} {n : ℕ} where
 pub few-places : (n : ℕ) → n < 65536 → placesOf n ≤ 5
 few-places n h = places-up-to 4 n (omega arith)
 
-pub wrote-aligned : {b m e : List ℕ} {from mid end : ℕ} (n : ℕ) → Wrote b m from mid (blanks (5 - placesOf n)) → Wrote m e mid end (decimal n) → Wrote b e from end (aligned 5 (decimal n))
+pub wrote-aligned : {b m e : List ℕ} {from mid end : ℕ} (n : ℕ) → Wrote b m from mid (blanks (5 - placesOf n)) → Wrote m e mid end (decimal n) → Wrote b e from end (rightAligned 5 (decimal n))
 wrote-aligned n a d = rw (digits-length 10 (placesOf n) n) (wrote-then a d)

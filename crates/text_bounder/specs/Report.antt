@@ -1,5 +1,4 @@
 -- What the bounder says of an answer, and a line of its path, as characters. Sentences in quotation marks are of docs/PROGRAMS.md.
--- Assumes nothing.
 use Prim.Native.Nat.{ℕ, _-_}
 use mathlib.Core.List.{List, [], _∷_, _++_}
 use lib.ListN.{length}
@@ -27,11 +26,11 @@ summaryOf (Bounded.Short bytes) = refusedText path-buffer-too-short ++ (characte
 summaryOf (Bounded.Longest cycles) = characters "N " ++ decimal cycles
 
 -- as the lister's line, then a blank and the total of cycles so far, right-aligned in five characters
-abbrev pub aligned : ℕ → List ℕ → List ℕ
-aligned n text = blanks (n - length text) ++ text
+abbrev pub rightAligned : ℕ → List ℕ → List ℕ
+rightAligned n text = blanks (n - length text) ++ text
 
 abbrev pub pathLineOf : (ℕ → ℕ) → ℕ → ℕ → List ℕ
-pathLineOf rom at total = columnsOf rom at ++ (characters " " ++ (aligned 5 (decimal total) ++ (10 ∷ [])))
+pathLineOf rom at total = columnsOf rom at ++ (characters " " ++ (rightAligned 5 (decimal total) ++ (10 ∷ [])))
 
 -- the cycles of the row at an address, 0 where there is none
 abbrev pub cyclesRead : Read → ℕ

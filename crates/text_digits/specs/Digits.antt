@@ -1,5 +1,4 @@
 -- Numbers and words as characters, each character by its code. Sentences in quotation marks are of docs/PROGRAMS.md.
--- Assumes nothing.
 use Prim.Native.Nat.{ℕ, zero, suc, _-_, _/_, _%_}
 use Prim.Native.Char.{code}
 use Prim.Native.String.{String, [] as none, _∷_ as _and_}

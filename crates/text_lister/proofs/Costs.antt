@@ -1,5 +1,4 @@
 -- The bytes and the cycles that the first byte of a code gives are those of its row.
--- Assumes nothing.
 use mathlib.Core.Path.{_≡_, sym}
 use Prim.Native.Nat.{ℕ}
 use Rattle.sheet.specs.Reading.{readAt, bytesOf, cyclesOf}

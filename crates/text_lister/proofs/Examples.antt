@@ -1,5 +1,4 @@
 -- The notation and two lines, as the design shows them, computed from the definitions.
--- Assumes nothing.
 use mathlib.Core.Path.{_≡_, refl}
 use mathlib.Core.List.{List, [], _∷_}
 use Prim.Native.Nat.{ℕ}

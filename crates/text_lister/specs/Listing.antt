@@ -1,5 +1,4 @@
 -- The lister's lines, and its sweep over an image. Sentences in quotation marks are of docs/PROGRAMS.md.
--- Assumes nothing.
 use Prim.Native.Nat.{ℕ, zero, suc, _+_}
 use mathlib.Core.List.{List, [], _∷_, _++_}
 use lib.Dec.{ltb}
@@ -47,11 +46,11 @@ unfoldable pub lineOf : (ℕ → ℕ) → ℕ → List ℕ
 lineOf rom at = columnsOf rom at ++ characters "\n"
 
 -- where the sweep goes on: after a row, and after an unassigned code "at the next byte"
-abbrev pub past : ℕ → Read → ℕ
-past at (Row i) = at + bytesOf (i .row)
-past at Unassigned = at + 1
+abbrev pub sweepNext : ℕ → Read → ℕ
+sweepNext at (Row i) = at + bytesOf (i .row)
+sweepNext at Unassigned = at + 1
 
 -- "one row a line, as a sweep from ADDRESS (default 0000) for COUNT lines (decimal, default and at most to the end of the image)"; "A row that begins before the end and wraps is shown whole, and is the last line."
-unfoldable pub listingOf : (ℕ → ℕ) → ℕ → ℕ → List ℕ
-listingOf rom at zero = []
-listingOf rom at (suc n) = pick (ltb at 8192) (lineOf rom at ++ listingOf rom (past at (readAt rom at)) n) []
+unfoldable pub sweptLines : (ℕ → ℕ) → ℕ → ℕ → List ℕ
+sweptLines rom at zero = []
+sweptLines rom at (suc n) = pick (ltb at 8192) (lineOf rom at ++ sweptLines rom (sweepNext at (readAt rom at)) n) []

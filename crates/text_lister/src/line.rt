@@ -14,7 +14,7 @@ ghost use Rattle.laws.specs.Writing.{Wrote};
 ghost use Rattle.sheet.specs.Reading.{readAt, romOf, fetched};
 ghost use Rattle.text_digits.specs.Digits.{hex, padded};
 ghost use Rattle.text_notation.specs.Notation.{rowText};
-ghost use Rattle.text_lister.specs.Listing.{spaced, rowColumns, refusedColumns, columnsOf, lineOf, past, listingOf};
+ghost use Rattle.text_lister.specs.Listing.{spaced, rowColumns, refusedColumns, columnsOf, lineOf, sweepNext, sweptLines};
 
 fn byte(out: &mut [u8], from: usize, b: u8) -> usize
     requires { ⌜ from + 2 ≤ length (now out) ⌝ }
@@ -116,7 +116,7 @@ pub fn line(out: &mut [u8], from: usize, image: &[u8], at: u16) -> usize
 // Where the sweep goes on after the line at an address.
 pub fn after(image: &[u8], at: u16) -> u16
     requires { ⌜ (length (now image) ≡ 8192) × (at < 8192) ⌝ }
-    ensures { λ r. ⌜ r ≡ past at (readAt (romOf (now (image .entry))) at) ⌝ }
+    ensures { λ r. ⌜ r ≡ sweepNext at (readAt (romOf (now (image .entry))) at) ⌝ }
 {
     let Read::Row(_) = read_at(image, at) else {
         return at + 1;
@@ -128,7 +128,7 @@ pub fn after(image: &[u8], at: u16) -> u16
 // The lines from an address on, as many as asked or to the end of the image.
 pub fn listing(out: &mut [u8], image: &[u8], from: u16, count: u32) -> usize
     requires { ⌜ (length (now image) ≡ 8192) × (37 * count + 3 ≤ length (now out)) ⌝ }
-    ensures { λ r. ⌜ Wrote (now (out .entry)) (now (out .exit)) 0 r (listingOf (romOf (now (image .entry))) from count) ⌝ }
+    ensures { λ r. ⌜ Wrote (now (out .entry)) (now (out .exit)) 0 r (sweptLines (romOf (now (image .entry))) from count) ⌝ }
 {
     let mut end = 0;
     let mut at = from;

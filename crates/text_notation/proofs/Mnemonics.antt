@@ -1,5 +1,4 @@
 -- The mnemonics as one table of eight characters a row, held against the rows by tests over the whole of it.
--- Assumes nothing.
 use mathlib.Core.Path.{_≡_, refl}
 use mathlib.Core.Bool.{Bool, true, not}
 use mathlib.Core.List.{List, [], _∷_, _++_}

@@ -1,12 +1,11 @@
 -- A row in the notation of sheet 000: its mnemonic, with each operand in the place of its letter. Sentences in quotation marks are of docs/PROGRAMS.md.
--- Assumes nothing.
 use Prim.Native.Nat.{ℕ}
 use Prim.Native.Char.{Char, code}
 use mathlib.Core.Bool.{Bool}
 use mathlib.Core.List.{List, [], _∷_, _++_}
 use lib.Dec.{eqb}
 use Rattle.laws.specs.Choice.{pick}
-use Rattle.sheet.specs.Flow.{targetOf, entryOf}
+use Rattle.sheet.specs.Flow.{targetOf, callEntry}
 use Rattle.sheet.specs.Operation.{Operation}
 use Rattle.sheet.specs.Operation.Operation.{work, branch, call, return, return-FLAG, IL⟵IL-and-r, no-operation}
 use Rattle.sheet.specs.Table.{lineAt}
@@ -17,7 +16,7 @@ use Rattle.text_digits.specs.Digits.{characters, inBase, hex, binary, decimal}
 abbrev pub goesBy : Operation → ℕ → ℕ → ℕ
 goesBy (work s t) at a = 0
 goesBy (branch t) at a = targetOf t at a
-goesBy (call e) at a = entryOf e a
+goesBy (call e) at a = callEntry e a
 goesBy return at a = 0
 goesBy return-FLAG at a = 0
 goesBy (IL⟵IL-and-r e) at a = 0

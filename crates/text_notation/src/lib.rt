@@ -8,7 +8,7 @@ ghost use mathlib.Core.Path.{_≡_};
 ghost use mathlib.Core.List.{[], _∷_, _++_};
 ghost use Prim.Native.Nat.{_+_, _<_, _≤_};
 ghost use lib.ListN.{length, getD};
-ghost use Rattle.sheet.specs.Flow.{entryOf};
+ghost use Rattle.sheet.specs.Flow.{callEntry};
 ghost use Rattle.sheet.specs.Operation.Entry.{short};
 ghost use Rattle.laws.specs.Writing.{Wrote};
 ghost use Rattle.text_digits.specs.Digits.{characters, inBase};
@@ -144,7 +144,7 @@ fn letter(row: u8, i: usize) -> u8
 
 fn entry(n: u32) -> u32
     requires { ⌜ n < 65536 ⌝ }
-    ensures { λ r. ⌜ r ≡ entryOf short n ⌝ }
+    ensures { λ r. ⌜ r ≡ callEntry short n ⌝ }
 {
     if n == 0 {
         return 0x86;

@@ -1,5 +1,4 @@
 -- Document 01, the runner's lines: the header, what a step prints, and a refusal.
--- Assumes nothing.
 use Prim.Native.Nat.{ℕ}
 use mathlib.Core.Bool.{Bool}
 use mathlib.Core.List.{List, [], _∷_, _++_}

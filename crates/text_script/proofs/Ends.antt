@@ -1,5 +1,4 @@
 -- Where a script's first line ends, a character at a time; and a script by its first line.
--- Assumes nothing.
 use mathlib.Core.Path.{_≡_, refl}
 use mathlib.Core.Bool.{Bool, true, false}
 use mathlib.Core.List.{List, [], _∷_, _++_}

@@ -1,5 +1,4 @@
 -- Document 01, "The record": "A script is one frame a line, ended by LF, the last line perhaps by nothing".
--- Assumes nothing.
 use Prim.Native.Nat.{ℕ, suc}
 use Prim.Native.Char.{code}
 use mathlib.Core.Bool.{Bool}

@@ -1,5 +1,4 @@
 -- The value of digits, a digit at a time and at most 8192.
--- Assumes nothing.
 use mathlib.Core.Path.{_≡_, refl, sym, _∙_}
 use mathlib.Core.Bool.{Bool, true, false}
 use mathlib.Core.List.{List, [], _∷_}
@@ -14,7 +13,7 @@ use lib.ListN.{length, getD, drop, drop-of-length-le}
 use lib.Seq.{drop-cons}
 use Rattle.laws.specs.Choice.{pick}
 use Rattle.laws.proofs.Computed.{true→T, both-left}
-use Rattle.text_words.specs.Words.{between, digitValue, allDigits, isNumber, valueAfter, valueOf, numberOf, addressOf}
+use Rattle.text_words.specs.Words.{between, digitValue, allDigits, isNumber, valueAfter, wordValue, numberOf, wordAddress}
 use Rattle.text_words.specs.declared.Number.{Number}
 use Rattle.text_words.specs.declared.Number.the-variants.{Value, Nothing}
 use Rattle.text_words.specs.declared.Address.{Address}
@@ -38,7 +37,7 @@ bounded base l x h (no b) = omega (arith, value-up base l (min 8192 x) h, value-
 -- the digits before i make the value v
 pub record Parsed (base : ℕ) (word : List ℕ) (v i : ℕ) : Type 0 where
   pub digits : allDigits base word ≡ allDigits base (drop i word)
-  pub value : min 8192 (valueOf base word) ≡ min 8192 (valueAfter base v (drop i word))
+  pub value : min 8192 (wordValue base word) ≡ min 8192 (valueAfter base v (drop i word))
   pub small : v ≤ 8192
 
 pub parsed-none : (base : ℕ) (word : List ℕ) → Parsed base word 0 0
@@ -61,7 +60,7 @@ module _ {base : ℕ} {word : List ℕ} {v i : ℕ} (p : Parsed base word v i) w
   pub parsed-digits : length word ≤ i → allDigits base word ≡ true
   parsed-digits l = p .digits ∙ rw (drop-of-length-le word l)
 
-  pub parsed-value : length word ≤ i → min 8192 (valueOf base word) ≡ v
+  pub parsed-value : length word ≤ i → min 8192 (wordValue base word) ≡ v
   parsed-value l = p .value ∙ (rw (drop-of-length-le word l) (min-eq-right (p .small)))
 
 up-to-8192 : (t : Bool) (x v : ℕ) → pick t (Value (min 8192 x)) Nothing ≡ Value v → v ≤ 8192
@@ -70,7 +69,7 @@ up-to-8192 false x v e = absurd (let z : _≡_ {A = ℕ} 0 1 = cc in omega arith
 
 pub number-up-to-8192 : (base : ℕ) (word : List ℕ) (v : ℕ) → numberOf base word ≡ Value v → v ≤ 8192
 unfolding numberOf
-number-up-to-8192 base word v e = up-to-8192 (isNumber base word) (valueOf base word) v e
+number-up-to-8192 base word v e = up-to-8192 (isNumber base word) (wordValue base word) v e
 
 -- an address by the number that its digits make
 abbrev pub inImage : Number → Address
@@ -85,6 +84,6 @@ picked-address : (t : Bool) (v : ℕ) → pick t (inImage (Value v)) Refused ≡
 picked-address true v = bounded-address v (decLt v 8192)
 picked-address false v = refl
 
-pub address-of : (word : List ℕ) → length word ≤ 4 → inImage (numberOf 16 word) ≡ addressOf word
-unfolding numberOf addressOf
-address-of word h = rw (le-leb (length word) 4 h) (sym (picked-address (isNumber 16 word) (valueOf 16 word)))
+pub address-of : (word : List ℕ) → length word ≤ 4 → inImage (numberOf 16 word) ≡ wordAddress word
+unfolding numberOf wordAddress
+address-of word h = rw (le-leb (length word) 4 h) (sym (picked-address (isNumber 16 word) (wordValue 16 word)))

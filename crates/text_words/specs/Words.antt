@@ -1,5 +1,4 @@
 -- The words that a program is given: an address, and a number of lines. Sentences in quotation marks are of docs/PROGRAMS.md.
--- Assumes nothing.
 use Prim.Native.Nat.{ℕ, _+_, _-_, _*_, min}
 use Prim.Native.Char.{code}
 use mathlib.Core.Bool.{Bool, true}
@@ -34,14 +33,14 @@ abbrev pub valueAfter : ℕ → ℕ → List ℕ → ℕ
 valueAfter base v [] = v
 valueAfter base v (c ∷ cs) = valueAfter base (v * base + digitValue c) cs
 
-abbrev pub valueOf : ℕ → List ℕ → ℕ
-valueOf base word = valueAfter base 0 word
+abbrev pub wordValue : ℕ → List ℕ → ℕ
+wordValue base word = valueAfter base 0 word
 
 -- a number to a base; no image has more than 8192 addresses or lines, so 8192 stands for all numbers above it
 unfoldable pub numberOf : ℕ → List ℕ → Number
-numberOf base word = pick (isNumber base word) (Value (min 8192 (valueOf base word))) Nothing
+numberOf base word = pick (isNumber base word) (Value (min 8192 (wordValue base word))) Nothing
 
 -- "ADDRESS is one to four hexadecimal digits of either case, nothing else; anything else, or over 1FFF, is refused 20"
-unfoldable pub addressOf : List ℕ → Address
-addressOf word =
-    pick (both (leb (length word) 4) (isNumber 16 word)) (pick (ltb (valueOf 16 word) 8192) (At (valueOf 16 word)) Refused) Refused
+unfoldable pub wordAddress : List ℕ → Address
+wordAddress word =
+    pick (both (leb (length word) 4) (isNumber 16 word)) (pick (ltb (wordValue 16 word) 8192) (At (wordValue 16 word)) Refused) Refused

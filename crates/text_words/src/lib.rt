@@ -1,7 +1,7 @@
 // The words that a program is given: an address, and a number of lines.
 ghost use mathlib.Core.Path.{_≡_};
 ghost use Prim.Native.Nat.{_<_, _≤_, min};
-ghost use Rattle.text_words.specs.Words.{digitValue, numberOf, addressOf};
+ghost use Rattle.text_words.specs.Words.{digitValue, numberOf, wordAddress};
 ghost use Rattle.text_words.specs.Words.{between as isBetween};
 
 pub enum Number {
@@ -69,7 +69,7 @@ pub fn read_number(word: &[u8], base: u32) -> Number
 }
 
 pub fn read_address(word: &[u8]) -> Address
-    ensures { λ r. ⌜ r ≡ addressOf (now (word .entry)) ⌝ }
+    ensures { λ r. ⌜ r ≡ wordAddress (now (word .entry)) ⌝ }
 {
     if 4 < word.len() {
         return Address::Refused;

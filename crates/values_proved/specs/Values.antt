@@ -1,5 +1,4 @@
 -- Document 01, "Worked values": those marked P, one list under one statement. Each line has the document's words, what the definitions give, and what the document says.
--- Assumes nothing.
 use Prim.Native.Nat.{ℕ}
 use Prim.Native.String.{String}
 use mathlib.Core.Bool.{Bool, true, false}

@@ -1,5 +1,4 @@
 -- Demand 2 of codes: a code read and written back is the same bytes, an instruction written and read back is the same instruction, and the writer's answer is determined.
--- Assumes nothing.
 use mathlib.Core.Path.{_≡_, refl, sym, ap, _∙_}
 use mathlib.Core.List.{List, [], _∷_}
 use Prim.Native.Nat.{ℕ}

@@ -1,5 +1,4 @@
 -- Whatever code reads as an instruction is the one that the instruction spells.
--- Assumes nothing.
 use mathlib.Core.Path.{_≡_, refl, sym, ap, subst⁻¹, _∙_}
 use mathlib.Core.Bool.{Bool, true, false, not}
 use mathlib.Core.List.{List, [], _∷_}

@@ -1,12 +1,11 @@
 -- The digits that a row's object code has with given operands, read off the table: what the writer tries.
--- Assumes nothing.
 use Prim.Native.Nat.{ℕ, zero, suc, _+_, _-_, _*_}
 use Prim.Native.String.{String}
 use mathlib.Core.Bool.{Bool, false}
 use mathlib.Core.List.{List, [], _∷_}
 use lib.Dec.{eqb, ltb}
 use Rattle.laws.specs.Choice.{pick, both}
-use Rattle.sheet.specs.Code.{Group, #, all, fixed1, fixed2, fixed3, above2, among}
+use Rattle.sheet.specs.Code.{Group, #, all, fixed1, fixed2, fixed3, above2, hasSign}
 use Rattle.sheet.specs.Table.{Code, Line, lineAt}
 use Rattle.sheet.specs.declared.Insn.{Insn}
 use Rattle.sheet.specs.declared.Read.{Read}
@@ -23,11 +22,11 @@ fixedOf (above2 l v) = v
 
 abbrev pub has : String → Group → Bool
 has ls (# v) = false
-has ls (all l) = among ls l
-has ls (fixed1 v l) = among ls l
-has ls (fixed2 v l) = among ls l
-has ls (fixed3 v l) = among ls l
-has ls (above2 l v) = among ls l
+has ls (all l) = hasSign ls l
+has ls (fixed1 v l) = hasSign ls l
+has ls (fixed2 v l) = hasSign ls l
+has ls (fixed3 v l) = hasSign ls l
+has ls (above2 l v) = hasSign ls l
 
 abbrev pub fixedAt : List Group → ℕ → ℕ
 fixedAt [] n = 0
@@ -55,8 +54,8 @@ behind l = behindIn (groupsOf (l .codes)) 6 0
 abbrev pub placed : ℕ → ℕ → ℕ
 placed n k = pick (eqb k 4) (n * 65536) (pick (eqb k 3) (n * 4096) (pick (eqb k 2) (n * 256) n))
 
-abbrev pub spelled : Line → ℕ → ℕ → ℕ
-spelled l a b = firstByte l * 65536 + (secondByte l + b) * 256 + placed a (behind l)
+abbrev pub spelledCode : Line → ℕ → ℕ → ℕ
+spelledCode l a b = firstByte l * 65536 + (secondByte l + b) * 256 + placed a (behind l)
 
 -- SLBR's two codes
 abbrev pub farSpelled : ℕ → ℕ
@@ -65,7 +64,7 @@ farSpelled a = pick (ltb 4095 a) (0x55B000 + a) (0x57C000 + a)
 -- six digits as a number; the row 49 is SLBR
 unfoldable pub spelling : Insn → ℕ
 unfolding lineAt
-spelling i = pick (eqb (i .row) 49) (farSpelled (i .a)) (spelled (lineAt (i .row)) (i .a) (i .b))
+spelling i = pick (eqb (i .row) 49) (farSpelled (i .a)) (spelledCode (lineAt (i .row)) (i .a) (i .b))
 
 abbrev pub sameInsn : Insn → Insn → Bool
 sameInsn i j = both (eqb (i .row) (j .row)) (both (eqb (i .a) (j .a)) (eqb (i .b) (j .b)))

@@ -1,6 +1,5 @@
 -- The writer's promise, stated over the reader's table alone: 11, "operand outside its field, or the code is unassigned or another row's".
 -- A value outside its field, a row that is none and a value in an operand that the row does not have are in no code; a code that is unassigned or another row's does not read as the instruction.
--- Assumes nothing.
 use Prim.Native.Nat.{ℕ, _<_}
 use mathlib.Core.List.{List, [], _∷_}
 use mathlib.Core.Path.{_≡_}

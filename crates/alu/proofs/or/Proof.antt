@@ -1,5 +1,4 @@
 -- `alu::or` meets its contract.
--- Assumes nothing.
 use mathlib.Core.Path.{refl}
 use Rattle.alu.specs.Making.{made}
 use Rattle.alu.proofs.or.Statement.{statement}

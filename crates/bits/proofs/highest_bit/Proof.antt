@@ -1,5 +1,4 @@
 -- `bits::highest_bit` meets its contract: 31 less the leading zeros is the number of the highest bit.
--- Assumes nothing.
 use native.Mathlib.Omega.{arith}
 use lib.Count.{leading-le}
 use borrow.Author.Needs.{needs}

@@ -1,5 +1,4 @@
 -- `bits::nibble_at` meets its contract.
--- Assumes nothing.
 use Prim.Native.Nat.{_/_, _^_}
 use lib.Bits.{and-mask, and-le-r}
 use borrow.Author.Needs.{needs}

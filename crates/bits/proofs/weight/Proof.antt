@@ -1,5 +1,4 @@
 -- `bits::weight` meets its contract.
--- Assumes nothing.
 use Prim.Native.Nat.{_*_, _%_, _^_}
 use lib.Dec.{eqb, eqb→eq}
 use Rattle.laws.proofs.Computed.{at}

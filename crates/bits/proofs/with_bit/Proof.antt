@@ -1,5 +1,4 @@
 -- `bits::with_bit` meets its contract.
--- Assumes nothing.
 use borrow.Author.Needs.{needs}
 use Rattle.bits.proofs.with_bit.Statement.{statement}
 use Rattle.bits.proofs.with_bit.Tie as tie

@@ -1,5 +1,4 @@
 -- `bits::without_bit` meets its contract.
--- Assumes nothing.
 use mathlib.Core.Path.{sym, _∙_}
 use borrow.Author.Needs.{needs}
 use Rattle.bits.proofs.Laws.{bit-le}

@@ -1,5 +1,4 @@
 -- `bound::answer` meets its contract.
--- Assumes nothing.
 use borrow.Author.Needs.{needs}
 use Rattle.bound.proofs.answer.Statement.{statement}
 use Rattle.bound.proofs.answer.Tie as tie

@@ -1,5 +1,4 @@
 -- `bound::bound` meets its contract.
--- Assumes nothing.
 use mathlib.Core.Path.{refl}
 use native.Mathlib.Omega.{arith}
 use Rattle.graph_search.proofs.Zeros.{blank-zeros}

@@ -1,5 +1,4 @@
 -- `bound::bound_in` meets its contract.
--- Assumes nothing.
 use native.Mathlib.Omega.{arith}
 use Rattle.graph_longest.proofs.Unique.{means-to}
 use Rattle.bound.proofs.Answers.{explored-agrees}

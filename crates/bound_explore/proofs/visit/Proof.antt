@@ -1,5 +1,4 @@
 -- `explore::visit` meets its contract.
--- Assumes nothing.
 use denote.Ref.{now}
 use Rattle.sheet.specs.Reading.{romOf}
 use Rattle.graph_search.proofs.Grown.{room-grown}

@@ -1,5 +1,4 @@
 -- `flow::node_by` meets its contract.
--- Assumes nothing.
 use Prim.Native.Nat.{_+_, _*_, _%_}
 use native.Mathlib.Nat.{add-zero}
 use Rattle.bound_flow.proofs.Ways.{last-way}

@@ -1,5 +1,4 @@
 -- `flow::way_of` meets its contract.
--- Assumes nothing.
 use Rattle.sheet.specs.Table.{lines, lineAt}
 use mathlib.Core.Path.{refl}
 use native.Mathlib.Omega.{arith}

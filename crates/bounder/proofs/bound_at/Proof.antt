@@ -1,5 +1,4 @@
 -- `bounder::bound_at` meets its contract.
--- Assumes nothing.
 use native.Mathlib.Omega.{arith}
 use Rattle.bound.proofs.Sizes.{answer-small}
 use Rattle.text_bounder.proofs.Values.{longest-small}

@@ -1,5 +1,4 @@
 -- `bounder::entry` meets its contract.
--- Assumes nothing.
 use native.Mathlib.Omega.{arith}
 use Rattle.bound.proofs.Sizes.{answer-small}
 use borrow.Author.Needs.{needs}

@@ -1,5 +1,4 @@
 -- `bounder::list_path` meets its contract.
--- Assumes nothing.
 use native.Mathlib.Omega.{arith}
 use Prim.Native.Nat.{_+_, _-_, _*_, _≤_}
 use Rattle.bounder.proofs.list_path.Statement.{statement}

@@ -1,5 +1,4 @@
 -- `calls::em73862_bound` meets its contract.
--- Assumes nothing.
 use native.Mathlib.Omega.{arith}
 use Rattle.bound.proofs.Sizes.{answer-small}
 use borrow.Author.Needs.{needs}

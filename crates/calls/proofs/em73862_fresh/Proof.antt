@@ -1,7 +1,6 @@
 -- `calls::em73862_fresh` meets its contract.
--- Assumes nothing.
 use mathlib.Core.Path.{refl, ap, _∙_}
-use Rattle.machine_bytes.specs.Layout.{bytesOf}
+use Rattle.machine_bytes.specs.Layout.{recordBytes}
 use Rattle.calls.specs.Calls.{wrong-length, fresh}
 use borrow.Author.Needs.{needs}
 use Rattle.calls.proofs.em73862_fresh.Statement.{statement}
@@ -20,7 +19,7 @@ same-length : tie.Need-same-length
 same-length c = search needs
 
 returns-2 : tie.Need-returns-2
-returns-2 c = fresh (c .before .before .before .before .before .if1 .left) refl (c .before .before .pack .ensures .same ∙ ap bytesOf (c .before .before .before .before .fresh .ensures))
+returns-2 c = fresh (c .before .before .before .before .before .if1 .left) refl (c .before .before .pack .ensures .same ∙ ap recordBytes (c .before .before .before .before .fresh .ensures))
 
 pub em73862-fresh-spec : {M : Type 1} → statement M
 em73862-fresh-spec =

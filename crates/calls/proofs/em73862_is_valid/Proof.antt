@@ -1,5 +1,4 @@
 -- `calls::em73862_is_valid` meets its contract.
--- Assumes nothing.
 use mathlib.Core.Path.{refl}
 use Rattle.laws.proofs.Computed.{true→T}
 use Rattle.calls.specs.Calls.{no-record, record-of}

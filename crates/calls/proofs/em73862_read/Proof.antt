@@ -1,5 +1,4 @@
 -- `calls::em73862_read` meets its contract.
--- Assumes nothing.
 use Rattle.calls.proofs.Answers.{told}
 use borrow.Author.Needs.{needs}
 use Rattle.calls.proofs.em73862_read.Statement.{statement}

@@ -1,5 +1,4 @@
 -- `calls::em73862_run` meets its contract.
--- Assumes nothing.
 use mathlib.Core.Path.{refl}
 use Rattle.calls.specs.Calls.{no-record, record-of}
 use Rattle.calls.proofs.Answers.{ran}

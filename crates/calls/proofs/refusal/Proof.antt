@@ -1,5 +1,4 @@
 -- `calls::refusal` meets its contract.
--- Assumes nothing.
 use borrow.Author.Tests.{eq-eqb, ne-eqb}
 use Rattle.calls.proofs.refusal.Statement.{statement}
 use Rattle.calls.proofs.refusal.Tie as tie

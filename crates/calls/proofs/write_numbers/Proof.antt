@@ -1,5 +1,4 @@
 -- `calls::write_numbers` meets its contract.
--- Assumes nothing.
 use Rattle.calls.proofs.Answers.{spelt}
 use borrow.Author.Needs.{needs}
 use Rattle.calls.proofs.write_numbers.Statement.{statement}

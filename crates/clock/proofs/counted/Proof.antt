@@ -1,5 +1,4 @@
 -- `clock::counted` meets its contract.
--- Assumes nothing.
 use borrow.Author.Needs.{needs}
 use Rattle.clock.proofs.counted.Statement.{statement}
 use Rattle.clock.proofs.counted.Tie as tie

@@ -1,5 +1,4 @@
 -- `clock::events` meets its contract.
--- Assumes nothing.
 use borrow.Author.Needs.{needs}
 use Rattle.clock.specs.Clock.{eventCount}
 use Rattle.clock.proofs.events.Statement.{statement}

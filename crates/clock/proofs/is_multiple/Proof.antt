@@ -1,5 +1,4 @@
 -- `clock::is_multiple` meets its contract: what shifting k bits out and in again leaves unchanged is a multiple of 2 ^ k.
--- Assumes nothing.
 use borrow.Author.Needs.{needs}
 use Rattle.clock.proofs.Periods.{shifted}
 use Rattle.clock.proofs.is_multiple.Statement.{statement}

@@ -1,5 +1,4 @@
 -- `clock::latched` meets its contract.
--- Assumes nothing.
 use borrow.Author.Needs.{needs}
 use Rattle.clock.proofs.latched.Statement.{statement}
 use Rattle.clock.proofs.latched.Tie as tie

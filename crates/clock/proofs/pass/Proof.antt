@@ -1,5 +1,4 @@
 -- `clock::pass` meets its contract: the quick way out is a law of the definition.
--- Assumes nothing.
 use mathlib.Core.Path.{sym}
 use borrow.Author.Needs.{needs}
 use Rattle.clock.proofs.Quiet.{passed-quiet}

@@ -1,5 +1,4 @@
 -- `clock::runs` meets its contract.
--- Assumes nothing.
 use borrow.Author.Tests.{eq-eqb, ne-eqb}
 use borrow.Author.Needs.{needs}
 use Rattle.clock.proofs.runs.Statement.{statement}

@@ -1,5 +1,4 @@
 -- `clock::tbi_sets` meets its contract: its table of exponents is the one that the definition makes.
--- Assumes nothing.
 use borrow.Author.Needs.{needs}
 use Rattle.clock.proofs.Periods.{tbiTable, tbi-exponent, tbi-fits}
 use Rattle.clock.proofs.tbi_sets.Statement.{statement}

@@ -1,5 +1,4 @@
 -- `clock::tick` meets its contract: between two multiples of 256 only the time base moves.
--- Assumes nothing.
 use mathlib.Core.Path.{sym}
 use borrow.Author.Needs.{needs}
 use Rattle.clock.specs.Clock.{tick}

@@ -1,5 +1,4 @@
 -- `clock::ticks` meets its contract. The invariant: as many cycles as are left, from here, are all the cycles from the start.
--- Assumes nothing.
 use Prim.Native.Nat.{_-_, _≤_}
 use mathlib.Core.Path.{_≡_, refl, sym, ap, _∙_}
 use native.Mathlib.Nat.{sub-zero}

@@ -1,5 +1,4 @@
 -- `display::byte` meets its contract.
--- Assumes nothing.
 use borrow.Author.Needs.{needs}
 use Rattle.display.proofs.byte.Statement.{statement}
 use Rattle.display.proofs.byte.Tie as tie

@@ -1,5 +1,4 @@
 -- `display::display` meets its contract.
--- Assumes nothing.
 use borrow.Author.Needs.{needs}
 use Rattle.display.proofs.Answers.{fails, passes, outside-ranges, under-40, all-shown}
 use Rattle.display.proofs.display.Statement.{statement}

@@ -1,5 +1,4 @@
 -- `display::show` meets its contract: from byte j on the forty are left to be written.
--- Assumes nothing.
 use Prim.Native.Nat.{_-_, _≤_}
 use native.Mathlib.Omega.{arith}
 use lib.ListN.{drop}

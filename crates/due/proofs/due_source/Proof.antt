@@ -1,5 +1,4 @@
 -- `due::due_source` meets its contract.
--- Assumes nothing.
 use mathlib.Core.Path.{_∙_}
 use native.Mathlib.Nat.{lt-of-le-of-lt}
 use lib.Bits.{and-le-l}

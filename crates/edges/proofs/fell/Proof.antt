@@ -1,5 +1,4 @@
 -- `edges::fell` meets its contract.
--- Assumes nothing.
 use borrow.Author.Needs.{needs}
 use Rattle.edges.proofs.fell.Statement.{statement}
 use Rattle.edges.proofs.fell.Tie as tie

@@ -1,5 +1,4 @@
 -- `edges::pin_wakes` meets its contract.
--- Assumes nothing.
 use borrow.Author.Needs.{needs}
 use Rattle.edges.proofs.pin_wakes.Statement.{statement}
 use Rattle.edges.proofs.pin_wakes.Tie as tie

@@ -1,5 +1,4 @@
 -- `edges::port_wakes` meets its contract.
--- Assumes nothing.
 use borrow.Author.Needs.{needs}
 use Rattle.edges.proofs.port_wakes.Statement.{statement}
 use Rattle.edges.proofs.port_wakes.Tie as tie

@@ -1,5 +1,4 @@
 -- `edges::wakes` meets its contract.
--- Assumes nothing.
 use Rattle.edges.specs.Edges.{wakes}
 use borrow.Author.Needs.{needs}
 use Rattle.edges.proofs.wakes.Statement.{statement}

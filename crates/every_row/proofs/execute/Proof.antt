@@ -1,5 +1,4 @@
 -- `every_row::execute` meets its contract.
--- Assumes nothing.
 use Rattle.laws.proofs.Computed.{true→T}
 use borrow.Author.Needs.{needs}
 use Rattle.every_row.proofs.execute.Statement.{statement}

@@ -1,5 +1,4 @@
 -- `every_row::show` meets its contract.
--- Assumes nothing.
 use mathlib.Core.Path.{sym, _∙_}
 use native.Mathlib.Omega.{arith}
 use Rattle.sheet.proofs.Operands.{in-fields}

@@ -1,5 +1,4 @@
 -- `fields::is_named` meets its contract.
--- Assumes nothing.
 use borrow.Author.Needs.{needs}
 use Prim.Native.Nat.{_-_, _≤_}
 use Rattle.fields.proofs.is_named.Statement.{statement}

@@ -1,5 +1,4 @@
 -- `frame::are_frames` meets its contract. The invariant: the whole is frames exactly where what is left is.
--- Assumes nothing.
 use Prim.Native.Nat.{_≤_, _-_}
 use mathlib.Core.Path.{_≡_, refl, sym, _∙_}
 use native.Mathlib.Omega.{arith}

@@ -1,5 +1,4 @@
 -- `frame::as_before` meets its contract.
--- Assumes nothing.
 use borrow.Author.Needs.{needs}
 use Rattle.frame.proofs.Alike.{not-so, so-if}
 use Rattle.frame.proofs.as_before.Statement.{statement}

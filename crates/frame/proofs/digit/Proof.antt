@@ -1,5 +1,4 @@
 -- `frame::digit` meets its contract.
--- Assumes nothing.
 use mathlib.Core.Path.{sym}
 use borrow.Author.Needs.{needs}
 use Rattle.frame.proofs.Characters.{before-digits, decimal, before-capitals, capital, before-small, small, past-small}

@@ -1,5 +1,4 @@
 -- `frame::frame_at` meets its contract.
--- Assumes nothing.
 use mathlib.Core.Path.{sym, _∙_}
 use borrow.Author.Needs.{needs}
 use Rattle.frame.proofs.Characters.{seen, not-seen}

@@ -1,5 +1,4 @@
 -- `frame::frame_of` meets its contract: three characters are those at 0, and any other number of them is no frame.
--- Assumes nothing.
 use mathlib.Core.Path.{ap, sym, _∙_}
 use native.Mathlib.Omega.{arith}
 use lib.Seq.{take-all}

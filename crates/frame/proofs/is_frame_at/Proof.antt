@@ -1,5 +1,4 @@
 -- `frame::is_frame_at` meets its contract: of three characters the pins alone decide.
--- Assumes nothing.
 use borrow.Author.Needs.{needs}
 use Rattle.frame.proofs.Characters.{frame-judged}
 use Rattle.frame.proofs.is_frame_at.Statement.{statement}

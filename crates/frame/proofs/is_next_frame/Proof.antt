@@ -1,5 +1,4 @@
 -- `frame::is_next_frame` meets its contract.
--- Assumes nothing.
 use mathlib.Core.Path.{sym}
 use borrow.Author.Needs.{needs}
 use Rattle.frame.proofs.Alike.{frame-again}

@@ -1,5 +1,4 @@
 -- `frame::pins_at` meets its contract.
--- Assumes nothing.
 use borrow.Author.Needs.{needs}
 use Rattle.frame.proofs.Characters.{chars-at}
 use Rattle.frame.proofs.pins_at.Statement.{statement}

@@ -1,5 +1,4 @@
 -- `loops::comes_back` meets its contract.
--- Assumes nothing.
 use borrow.Author.Needs.{needs}
 use native.Mathlib.Omega.{arith}
 use Rattle.graph.proofs.Reach.{laid-at}

@@ -1,5 +1,4 @@
 -- `loops::loops_at` meets its contract: a place that is skipped does not come back.
--- Assumes nothing.
 use borrow.Author.Needs.{needs}
 use native.Mathlib.Omega.{arith}
 use Rattle.graph.proofs.Reach.{laid-at}

@@ -1,5 +1,4 @@
 -- `components::components` meets its contract: it lends arrays of as many elements as there are places.
--- Assumes nothing.
 use borrow.Author.Needs.{needs}
 use mathlib.Core.Path.{sym}
 use native.Mathlib.Omega.{arith}

@@ -1,5 +1,4 @@
 -- `components::go_on` meets its contract: what follows a place is one of the places.
--- Assumes nothing.
 use borrow.Author.Needs.{needs}
 use native.Mathlib.Omega.{arith}
 use Rattle.graph.proofs.Reach.{successor-lt}

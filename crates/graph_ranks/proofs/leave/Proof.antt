@@ -1,5 +1,4 @@
 -- `components::leave` meets its contract.
--- Assumes nothing.
 use borrow.Author.Needs.{needs}
 use native.Mathlib.Omega.{arith}
 use Rattle.graph_search.proofs.Zeros.{wide16}

@@ -1,5 +1,4 @@
 -- `route::go_on` meets its contract: both successors are places, and the test is the turn.
--- Assumes nothing.
 use borrow.Author.Needs.{needs}
 use native.Mathlib.Omega.{arith}
 use mathlib.Core.Path.{refl}

@@ -1,5 +1,4 @@
 -- `search::clear` meets its contract: the elements that are passed are 0.
--- Assumes nothing.
 use mathlib.Core.Path.{_≡_}
 use Prim.Native.Nat.{_≤_, _-_}
 use borrow.Author.Needs.{needs}

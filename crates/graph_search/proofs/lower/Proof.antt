@@ -1,5 +1,4 @@
 -- `search::lower` meets its contract.
--- Assumes nothing.
 use borrow.Author.Needs.{needs}
 use Rattle.graph_search.proofs.LowestOf.{lower-kept, lower-here}
 use Rattle.graph_search.proofs.lower.Statement.{statement}

@@ -1,5 +1,4 @@
 -- `search::lowest` meets its contract: the lowest of the part of the queue that is passed.
--- Assumes nothing.
 use Prim.Native.Nat.{_≤_, _-_}
 use borrow.Author.Needs.{needs}
 use lib.ListN.{length}

@@ -1,5 +1,4 @@
 -- `search::visit` meets its contract: the successors are marked, next before other.
--- Assumes nothing.
 use borrow.Author.Needs.{needs}
 use native.Mathlib.Omega.{arith}
 use Rattle.graph.specs.Laid.{graphOf}

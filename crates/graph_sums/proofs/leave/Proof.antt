@@ -1,5 +1,4 @@
 -- `sums::leave` meets its contract: the walk goes back to a place, or is over.
--- Assumes nothing.
 use borrow.Author.Needs.{needs}
 use native.Mathlib.Omega.{arith}
 use Rattle.graph_search.proofs.Zeros.{wide16}

@@ -1,5 +1,4 @@
 -- `sums::settle` meets its contract: the sum is stored where those after the place have theirs, and fits 32 bits.
--- Assumes nothing.
 use borrow.Author.Needs.{needs}
 use mathlib.Core.Path.{refl}
 use native.Mathlib.Omega.{arith}

@@ -1,5 +1,4 @@
 -- `sums::sums` meets its contract: each sweep that changes something gives a place its sum, and one that changes nothing leaves the queue idle.
--- Assumes nothing.
 use Prim.Native.Nat.{_+_}
 use borrow.Author.Needs.{needs}
 use lib.ListN.{length}

@@ -1,5 +1,4 @@
 -- `sums::sweep` meets its contract: the part of the queue that is passed was settled.
--- Assumes nothing.
 use Prim.Native.Nat.{_≤_, _-_}
 use lib.ListN.{length}
 use mathlib.Core.Path.{_≡_, refl, _∙_}

@@ -1,5 +1,4 @@
 -- `lister::list_from` meets its contract.
--- Assumes nothing.
 use mathlib.Core.Path.{sym, _∙_}
 use Rattle.text_words.proofs.Values.{number-up-to-8192}
 use borrow.Author.Needs.{needs}

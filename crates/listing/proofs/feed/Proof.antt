@@ -1,5 +1,4 @@
 -- `listing::feed` meets its contract: the lines before `used` are told.
--- Assumes nothing.
 use Prim.Native.Nat.{_-_}
 use native.Mathlib.Omega.{arith}
 use borrow.Author.Needs.{needs}

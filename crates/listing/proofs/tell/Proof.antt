@@ -1,5 +1,4 @@
 -- `listing::tell` meets its contract.
--- Assumes nothing.
 use mathlib.Core.Path.{sym, _∙_}
 use native.Mathlib.Omega.{arith}
 use denote.Ref.{now}

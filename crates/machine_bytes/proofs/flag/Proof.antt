@@ -1,5 +1,4 @@
 -- `layout::flag` meets its contract.
--- Assumes nothing.
 use Rattle.machine_bytes.proofs.Numbers.{flag-of}
 use Rattle.machine_bytes.proofs.flag.Statement.{statement}
 use Rattle.machine_bytes.proofs.flag.Tie as tie

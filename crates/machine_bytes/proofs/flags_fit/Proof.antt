@@ -1,5 +1,4 @@
 -- `layout::flags_fit` meets its contract.
--- Assumes nothing.
 use Rattle.machine_bytes.proofs.Numbers.{flagsFit}
 use borrow.Author.Needs.{needs}
 use Rattle.machine_bytes.proofs.flags_fit.Statement.{statement}

@@ -1,5 +1,4 @@
 -- `layout::from_four` meets its contract.
--- Assumes nothing.
 use Rattle.machine_bytes.proofs.Numbers.{four-of}
 use borrow.Author.Needs.{needs}
 use Rattle.machine_bytes.proofs.from_four.Statement.{statement}

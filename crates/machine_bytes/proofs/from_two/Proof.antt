@@ -1,5 +1,4 @@
 -- `layout::from_two` meets its contract.
--- Assumes nothing.
 use Rattle.machine_bytes.proofs.Numbers.{two-of}
 use borrow.Author.Needs.{needs}
 use Rattle.machine_bytes.proofs.from_two.Statement.{statement}

@@ -1,5 +1,4 @@
 -- `layout::head_at` meets its contract.
--- Assumes nothing.
 use mathlib.Core.Path.{sym, _∙_}
 use native.Mathlib.Nat.{le-of-eq}
 use lib.Seq.{length-take-le}

@@ -1,5 +1,4 @@
 -- `layout::mode_of` meets its contract.
--- Assumes nothing.
 use borrow.Author.Needs.{needs}
 use Rattle.machine_bytes.specs.Layout.{modeNumber}
 use Rattle.machine_bytes.proofs.mode_of.Statement.{statement}

@@ -1,12 +1,11 @@
 -- `layout::nibbles_of` meets its contract.
--- Assumes nothing.
 use mathlib.Core.Path.{refl}
-use Rattle.machine_bytes.specs.Layout.{latches, nibblesOf}
+use Rattle.machine_bytes.specs.Layout.{latchBytes, nibblesOf}
 use Rattle.machine_bytes.proofs.nibbles_of.Statement.{statement}
 use Rattle.machine_bytes.proofs.nibbles_of.Tie as tie
 
 returns : tie.Need-returns
-unfolding latches nibblesOf
+unfolding latchBytes nibblesOf
 returns c = refl
 
 pub nibbles-of-spec : {M : Type 1} → statement M

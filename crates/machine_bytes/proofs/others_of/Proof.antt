@@ -1,5 +1,4 @@
 -- `layout::others_of` meets its contract.
--- Assumes nothing.
 use Rattle.machine_bytes.specs.Layout.{two, four, othersOf}
 use borrow.Author.Needs.{needs}
 use Rattle.machine_bytes.proofs.others_of.Statement.{statement}

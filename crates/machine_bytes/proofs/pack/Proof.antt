@@ -1,5 +1,4 @@
 -- `layout::pack` meets its contract.
--- Assumes nothing.
 use Rattle.machine_bytes.proofs.Parts.{room-for-ram, packed}
 use borrow.Author.Needs.{needs}
 use Rattle.machine_bytes.proofs.pack.Statement.{statement}

@@ -1,8 +1,7 @@
 -- `layout::ports_of` meets its contract.
--- Assumes nothing.
 use native.Mathlib.Omega.{arith}
 use Rattle.machine_bytes.proofs.Parts.{listed-part}
-use Rattle.machine_bytes.specs.Layout.{latches}
+use Rattle.machine_bytes.specs.Layout.{latchBytes}
 use borrow.Author.Needs.{needs}
 use Rattle.machine_bytes.proofs.ports_of.Statement.{statement}
 use Rattle.machine_bytes.proofs.ports_of.Tie as tie
@@ -41,7 +40,7 @@ element-copy-out-t34 : tie.Need-element-copy-out-t34
 element-copy-out-t34 c = search needs
 
 returns : tie.Need-returns
-unfolding latches
+unfolding latchBytes
 returns c = listed-part (c .before .before .before .before .before .before .before .before .before .before .before .args .head .now) 5 11 (omega (arith, c .before .before .before .before .before .before .before .before .before .before .before .pre))
 
 pub ports-of-spec : {M : Type 1} → statement M

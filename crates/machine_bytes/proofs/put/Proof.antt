@@ -1,5 +1,4 @@
 -- `layout::put` meets its contract.
--- Assumes nothing.
 use Rattle.machine_bytes.proofs.Parts.{put-wrote}
 use borrow.Author.Needs.{needs}
 use Rattle.machine_bytes.proofs.put.Statement.{statement}

@@ -1,5 +1,4 @@
 -- `layout::ram_at` meets its contract.
--- Assumes nothing.
 use mathlib.Core.Path.{_∙_}
 use Rattle.machine_bytes.proofs.Parts.{copied, ram-rest, ram-length}
 use borrow.Author.Needs.{needs}

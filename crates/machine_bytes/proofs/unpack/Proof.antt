@@ -1,5 +1,4 @@
 -- `layout::unpack` meets its contract.
--- Assumes nothing.
 use mathlib.Core.Path.{ap, _∙_}
 use native.Mathlib.Omega.{arith}
 use lib.ListN.{length}

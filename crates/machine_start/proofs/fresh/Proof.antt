@@ -1,5 +1,4 @@
 -- `start::fresh` meets its contract.
--- Assumes nothing.
 use borrow.Author.Needs.{needs}
 use Rattle.machine_start.proofs.fresh.Statement.{statement}
 use Rattle.machine_start.proofs.fresh.Tie as tie

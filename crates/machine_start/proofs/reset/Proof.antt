@@ -1,5 +1,4 @@
 -- `start::reset` meets its contract.
--- Assumes nothing.
 use mathlib.Core.Path.{refl}
 use Rattle.laws.proofs.Computed.{true→T}
 use borrow.Author.Needs.{needs}

@@ -1,5 +1,4 @@
 -- `valid::are_nibbles` meets its contract. The invariant: every nibble passed is below 16.
--- Assumes nothing.
 use Prim.Native.Nat.{ℕ, _-_, _<_, _≤_}
 use native.Mathlib.Omega.{arith}
 use lib.ListN.{getD}

@@ -1,5 +1,4 @@
 -- `valid::interrupts_valid` meets its contract.
--- Assumes nothing.
 use Rattle.machine_valid.proofs.Validity.{interrupts}
 use borrow.Author.Needs.{needs}
 use Rattle.machine_valid.proofs.interrupts_valid.Statement.{statement}

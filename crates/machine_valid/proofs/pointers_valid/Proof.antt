@@ -1,5 +1,4 @@
 -- `valid::pointers_valid` meets its contract.
--- Assumes nothing.
 use Rattle.machine_valid.proofs.Validity.{pointers}
 use borrow.Author.Needs.{needs}
 use Rattle.machine_valid.proofs.pointers_valid.Statement.{statement}

@@ -1,5 +1,4 @@
 -- `valid::ports_valid` meets its contract.
--- Assumes nothing.
 use Rattle.machine_valid.proofs.Validity.{ports}
 use borrow.Author.Needs.{needs}
 use Rattle.machine_valid.proofs.ports_valid.Statement.{statement}

@@ -1,5 +1,4 @@
 -- `valid::registers_valid` meets its contract.
--- Assumes nothing.
 use Rattle.machine_valid.proofs.Validity.{registers}
 use borrow.Author.Needs.{needs}
 use Rattle.machine_valid.proofs.registers_valid.Statement.{statement}

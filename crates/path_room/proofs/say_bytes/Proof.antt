@@ -1,5 +1,4 @@
 -- `path_room::say_bytes` is safe and ends.
--- Assumes nothing.
 use mathlib.Core.Path.{refl}
 use Prim.Native.Nat.{_-_}
 use native.Mathlib.Omega.{arith}

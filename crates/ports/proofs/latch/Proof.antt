@@ -1,5 +1,4 @@
 -- `ports::latch` meets its contract.
--- Assumes nothing.
 use Rattle.ports.proofs.Others.{other, no-latch}
 use Rattle.ports.specs.Ports.{latchOf}
 use Rattle.ports.proofs.latch.Statement.{statement}

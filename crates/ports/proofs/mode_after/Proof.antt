@@ -1,5 +1,4 @@
 -- `ports::mode_after` meets its contract.
--- Assumes nothing.
 use borrow.Author.Tests.{eq-eqb, ne-eqb}
 use Rattle.ports.proofs.mode_after.Statement.{statement}
 use Rattle.ports.proofs.mode_after.Tie as tie

@@ -1,5 +1,4 @@
 -- `ports::p27_after` meets its contract.
--- Assumes nothing.
 use borrow.Author.Tests.{eq-eqb, ne-eqb}
 use Rattle.ports.proofs.p27_after.Statement.{statement}
 use Rattle.ports.proofs.p27_after.Tie as tie

@@ -1,5 +1,4 @@
 -- `ports::p4_pins` meets its contract.
--- Assumes nothing.
 use borrow.Author.Needs.{needs}
 use Rattle.ports.proofs.p4_pins.Statement.{statement}
 use Rattle.ports.proofs.p4_pins.Tie as tie

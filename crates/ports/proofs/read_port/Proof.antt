@@ -1,5 +1,4 @@
 -- `ports::read_port` meets its contract.
--- Assumes nothing.
 use borrow.Author.Tests.{ne-eqb}
 use Rattle.ports.specs.Ports.{readPort}
 use borrow.Author.Needs.{needs}

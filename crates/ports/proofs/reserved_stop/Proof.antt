@@ -1,5 +1,4 @@
 -- `ports::reserved_stop` meets its contract.
--- Assumes nothing.
 use borrow.Author.Tests.{eq-eqb, ne-eqb}
 use Rattle.ports.proofs.reserved_stop.Statement.{statement}
 use Rattle.ports.proofs.reserved_stop.Tie as tie

@@ -1,5 +1,4 @@
 -- `ports::with_latch` meets its contract.
--- Assumes nothing.
 use Rattle.ports.proofs.Others.{other, same-latches}
 use Rattle.ports.specs.Ports.{withLatch}
 use Rattle.ports.proofs.with_latch.Statement.{statement}

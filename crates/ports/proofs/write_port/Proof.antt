@@ -1,5 +1,4 @@
 -- `ports::write_port` meets its contract.
--- Assumes nothing.
 use borrow.Author.Tests.{eq-eqb, ne-eqb}
 use Rattle.ports.specs.Ports.{writePort}
 use borrow.Author.Needs.{needs}

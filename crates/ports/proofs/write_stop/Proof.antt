@@ -1,5 +1,4 @@
 -- `ports::write_stop` meets its contract.
--- Assumes nothing.
 use Rattle.ports.proofs.Others.{other, not-written}
 use Rattle.ports.specs.Ports.{writeStop}
 use borrow.Author.Needs.{needs}

@@ -1,5 +1,4 @@
 -- `reader::decode` meets its contract.
--- Assumes nothing.
 use mathlib.Core.List.{[]}
 use borrow.Author.Tests.{eq-eqb, ne-eqb}
 use borrow.Author.Needs.{needs}

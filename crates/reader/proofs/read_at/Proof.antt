@@ -1,5 +1,4 @@
 -- `reader::read_at` meets its contract.
--- Assumes nothing.
 use borrow.Author.Needs.{needs}
 use Rattle.reader.proofs.read_at.Statement.{statement}
 use Rattle.reader.proofs.read_at.Tie as tie

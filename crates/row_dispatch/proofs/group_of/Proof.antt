@@ -1,5 +1,4 @@
 -- `perform::group_of` meets its contract.
--- Assumes nothing.
 use native.Mathlib.Omega.{arith}
 use borrow.Author.Needs.{needs}
 use Rattle.row_dispatch.proofs.Groups.{unpacked}

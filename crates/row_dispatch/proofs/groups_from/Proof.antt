@@ -1,5 +1,4 @@
 -- `perform::groups_from` meets its contract.
--- Assumes nothing.
 use native.Mathlib.Omega.{arith}
 use mathlib.Core.List.{[], _∷_}
 use Rattle.row_dispatch.proofs.Groups.{packed-at, last}

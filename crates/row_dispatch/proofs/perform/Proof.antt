@@ -1,5 +1,4 @@
 -- `perform::perform` meets its contract.
--- Assumes nothing.
 use borrow.Author.Needs.{needs}
 use Rattle.row_dispatch.proofs.Arms.{acted}
 use Rattle.row_dispatch.proofs.perform.Statement.{statement}

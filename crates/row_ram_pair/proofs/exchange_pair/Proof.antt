@@ -1,5 +1,4 @@
 -- `pairs::exchange_pair` meets its contract.
--- Assumes nothing.
 use mathlib.Core.Path.{refl}
 use borrow.Author.Needs.{needs}
 use Rattle.machine.proofs.Places.{set-nibble}

@@ -1,5 +1,4 @@
 -- `pairs::load_pair` meets its contract.
--- Assumes nothing.
 use mathlib.Core.Path.{refl}
 use borrow.Author.Needs.{needs}
 use Rattle.row_ram.proofs.Around.{stopped-there}

@@ -1,5 +1,4 @@
 -- `near::weight` meets its contract.
--- Assumes nothing.
 use native.Mathlib.Omega.{arith}
 use borrow.Author.Tests.{ne-eqb}
 use Rattle.row_registers.proofs.weight.Statement.{statement}

@@ -1,5 +1,4 @@
 -- `run::run_frames` meets its contract. The invariant: the whole run is what is left of it, after the steps made.
--- Assumes nothing.
 use Prim.Native.Nat.{_-_}
 use native.Mathlib.Omega.{arith}
 use lib.ListN.{length}

@@ -1,5 +1,4 @@
 -- `runner::run` meets its contract.
--- Assumes nothing.
 use Rattle.machine_start.proofs.Starting.{fresh-valid}
 use borrow.Author.Needs.{needs}
 use Rattle.runner.proofs.run.Statement.{statement}

@@ -1,5 +1,4 @@
 -- `runner::session` is safe and ends: its measure is the number of turns that are left.
--- Assumes nothing.
 use mathlib.Core.Path.{_≡_, refl}
 use Prim.Native.Nat.{_≤_}
 use native.Mathlib.Omega.{arith}

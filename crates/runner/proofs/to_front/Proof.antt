@@ -1,5 +1,4 @@
 -- `runner::to_front` is safe and ends.
--- Assumes nothing.
 use mathlib.Core.Path.{_≡_, refl}
 use Prim.Native.Nat.{_-_}
 use native.Mathlib.Omega.{arith}

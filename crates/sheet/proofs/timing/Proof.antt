@@ -1,5 +1,4 @@
 -- `sheet::timing` meets its contract: its two tables are, entry by entry, those that the rows make.
--- Assumes nothing.
 use borrow.Author.Needs.{needs}
 use Rattle.sheet.proofs.FirstBytes.{bytesTable, cyclesTable, first-byte}
 use Rattle.sheet.proofs.timing.Statement.{statement}

@@ -1,5 +1,4 @@
 -- `families::by_aligned_x` meets its contract.
--- Assumes nothing.
 use borrow.Author.Tests.{eq-eqb, ne-eqb}
 use borrow.Author.Needs.{needs}
 use Rattle.sheet_rows.proofs.by_aligned_x.Statement.{statement}

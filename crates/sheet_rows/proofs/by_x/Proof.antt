@@ -1,5 +1,4 @@
 -- `families::by_x` meets its contract.
--- Assumes nothing.
 use borrow.Author.Tests.{lt-ltb, le-ltb}
 use borrow.Author.Needs.{needs}
 use Rattle.sheet_rows.proofs.by_x.Statement.{statement}

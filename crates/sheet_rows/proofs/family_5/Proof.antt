@@ -1,5 +1,4 @@
 -- `families::family_5` meets its contract.
--- Assumes nothing.
 use mathlib.Core.Path.{refl}
 use mathlib.Core.List.{_∷_}
 use Prim.Native.Nat.{_/_, _%_}

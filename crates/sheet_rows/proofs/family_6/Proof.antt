@@ -1,5 +1,4 @@
 -- `families::family_6` meets its contract.
--- Assumes nothing.
 use mathlib.Core.List.{[], _∷_}
 use Prim.Native.Nat.{_/_, _%_}
 use native.Mathlib.Omega.{arith}

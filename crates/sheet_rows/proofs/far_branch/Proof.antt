@@ -1,5 +1,4 @@
 -- `families::far_branch` meets its contract.
--- Assumes nothing.
 use borrow.Author.Tests.{eq-eqb, ne-eqb}
 use borrow.Author.Needs.{needs}
 use Rattle.sheet_rows.proofs.far_branch.Statement.{statement}

@@ -1,5 +1,4 @@
 -- `families::row_6c` meets its contract.
--- Assumes nothing.
 use Prim.Native.Nat.{_%_}
 use native.Mathlib.Omega.{arith}
 use Rattle.sheet.specs.Reading.{rowNumber, rowWith}

@@ -1,5 +1,4 @@
 -- `families::row_f` meets its contract.
--- Assumes nothing.
 use native.Mathlib.Omega.{arith}
 use Rattle.sheet.specs.Reading.{rowNumber, rowWith}
 use Rattle.sheet_rows.proofs.Arms.{by-quarter-digit}

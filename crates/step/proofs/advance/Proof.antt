@@ -1,5 +1,4 @@
 -- `step::advance` meets its contract.
--- Assumes nothing.
 use mathlib.Core.Path.{refl, sym, _∙_}
 use borrow.Author.Needs.{needs}
 use Rattle.step.proofs.Stepping.{sees, seen-runs, waits, rests, only-looked, acted, stopped}

@@ -1,5 +1,4 @@
 -- `step::step` meets its contract.
--- Assumes nothing.
 use mathlib.Core.Path.{sym, _∙_}
 use borrow.Author.Needs.{needs}
 use Rattle.step.proofs.Answering.{denied, passes, seen-in-range, step-refused-1, step-refused-2, step-refused-3, step-made}

@@ -1,5 +1,4 @@
 -- `act::accept` meets its contract.
--- Assumes nothing.
 use borrow.Author.Needs.{needs}
 use Rattle.step_act.proofs.Acting.{stop-low, stop-high, accepts}
 use Rattle.step_act.proofs.accept.Statement.{statement}

@@ -1,5 +1,4 @@
 -- `act::after` meets its contract.
--- Assumes nothing.
 use mathlib.Core.Path.{_∙_}
 use Rattle.ports.specs.declared.Mode.{Mode}
 use borrow.Author.Needs.{needs}

@@ -1,5 +1,4 @@
 -- `act::pass` meets its contract.
--- Assumes nothing.
 use borrow.Author.Needs.{needs}
 use Rattle.step_act.proofs.ActValid.{time-in-range}
 use Rattle.step_act.proofs.pass.Statement.{statement}

@@ -1,5 +1,4 @@
 -- `act::run_one` meets its contract.
--- Assumes nothing.
 use mathlib.Core.Path.{sym, _∙_}
 use denote.Ref.{now}
 use Rattle.sheet.specs.Reading.{romOf}

@@ -1,5 +1,4 @@
 -- `look::counted` meets its contract.
--- Assumes nothing.
 use borrow.Author.Needs.{needs}
 use Rattle.step_look.specs.Look.{edgesCounted}
 use Rattle.step_look.proofs.Ranges.{edges-in-range}

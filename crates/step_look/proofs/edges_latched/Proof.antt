@@ -1,5 +1,4 @@
 -- `look::edges_latched` meets its contract.
--- Assumes nothing.
 use native.Mathlib.Omega.{arith}
 use lib.Dec.{lit<}
 use borrow.Author.Needs.{needs}

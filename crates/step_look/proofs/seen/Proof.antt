@@ -1,5 +1,4 @@
 -- `look::seen` meets its contract.
--- Assumes nothing.
 use borrow.Author.Needs.{needs}
 use Rattle.step_look.proofs.Looking.{counted-still}
 use Rattle.step_look.proofs.seen.Statement.{statement}

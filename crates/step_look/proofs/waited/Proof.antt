@@ -1,5 +1,4 @@
 -- `look::waited` meets its contract.
--- Assumes nothing.
 use borrow.Author.Needs.{needs}
 use Rattle.step_look.specs.Look.{waited}
 use Rattle.step_look.proofs.waited.Statement.{statement}

@@ -1,5 +1,4 @@
 -- `report::cycles_at` meets its contract.
--- Assumes nothing.
 use mathlib.Core.Path.{refl, sym, _∙_}
 use native.Mathlib.Omega.{arith}
 use denote.Ref.{now}

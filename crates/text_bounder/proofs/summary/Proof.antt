@@ -1,5 +1,4 @@
 -- `report::summary` meets its contract.
--- Assumes nothing.
 use native.Mathlib.Omega.{arith}
 use Rattle.laws.proofs.Writing.{wrote-then}
 use Rattle.text_bounder.proofs.Values.{excluded-small, repeats-small, short-small, longest-small, few-places}

@@ -1,5 +1,4 @@
 -- `digits::digit` meets its contract.
--- Assumes nothing.
 use mathlib.Core.Path.{refl}
 use borrow.Author.Needs.{needs}
 use Rattle.text_digits.specs.Digits.{digit}

@@ -1,5 +1,4 @@
 -- `digits::places` meets its contract.
--- Assumes nothing.
 use mathlib.Core.Path.{sym}
 use borrow.Author.Needs.{needs}
 use Rattle.text_digits.proofs.Numbers.{places-one, places-in}

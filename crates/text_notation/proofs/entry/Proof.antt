@@ -1,5 +1,4 @@
 -- `notation::entry` meets its contract.
--- Assumes nothing.
 use borrow.Author.Tests.{eq-eqb, ne-eqb}
 use borrow.Author.Needs.{needs}
 use Rattle.text_notation.proofs.entry.Statement.{statement}

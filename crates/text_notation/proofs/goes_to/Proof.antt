@@ -1,5 +1,4 @@
 -- `notation::goes_to` meets its contract.
--- Assumes nothing.
 use mathlib.Core.Path.{sym, _∙_}
 use Rattle.sheet.specs.Table.{lineAt}
 use Rattle.text_notation.proofs.Flows.{goes-by, goes-nowhere}

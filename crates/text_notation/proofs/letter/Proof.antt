@@ -1,5 +1,4 @@
 -- `notation::letter` meets its contract: its table is the one that the rows make.
--- Assumes nothing.
 use Rattle.sheet.specs.Table.{lineAt}
 use Rattle.text_notation.proofs.Mnemonics.{mnemonics, letter-at, no-mnemonic}
 use borrow.Author.Needs.{needs}

@@ -1,5 +1,4 @@
 -- `notation::sign` meets its contract.
--- Assumes nothing.
 use borrow.Author.Tests.{ne-eqb}
 use Rattle.text_notation.specs.Notation.{sign}
 use borrow.Author.Needs.{needs}

@@ -1,5 +1,4 @@
 -- `lines::flag` meets its contract.
--- Assumes nothing.
 use borrow.Author.Needs.{needs}
 use Rattle.text_runner.proofs.flag.Statement.{statement}
 use Rattle.text_runner.proofs.flag.Tie as tie

@@ -1,5 +1,4 @@
 -- `lines::refused` meets its contract.
--- Assumes nothing.
 use native.Mathlib.Omega.{arith}
 use borrow.Author.Needs.{needs}
 use Rattle.laws.proofs.Writing.{wrote-then}

@@ -1,5 +1,4 @@
 -- `lines::registers` meets its contract.
--- Assumes nothing.
 use native.Mathlib.Omega.{arith}
 use Rattle.laws.proofs.Writing.{wrote-then, wrote-last}
 use borrow.Author.Needs.{needs}

@@ -1,5 +1,4 @@
 -- `words::between` meets its contract.
--- Assumes nothing.
 use borrow.Author.Tests.{lt-leb, le-leb}
 use Rattle.text_words.proofs.between.Statement.{statement}
 use Rattle.text_words.proofs.between.Tie as tie

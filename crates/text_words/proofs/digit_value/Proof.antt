@@ -1,5 +1,4 @@
 -- `words::digit_value` meets its contract.
--- Assumes nothing.
 use mathlib.Core.Path.{sym, _∙_}
 use Rattle.text_words.specs.Words.{digitValue}
 use Rattle.text_words.proofs.Values.{between-from}

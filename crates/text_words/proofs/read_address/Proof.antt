@@ -1,18 +1,17 @@
 -- `words::read_address` meets its contract.
--- Assumes nothing.
 use mathlib.Core.Path.{sym, ap, _∙_}
 use native.Mathlib.Omega.{arith}
 use borrow.Author.Tests.{lt-ltb, le-ltb, lt-leb}
 use lib.ListN.{length}
 use denote.Ref.{now}
-use Rattle.text_words.specs.Words.{addressOf}
+use Rattle.text_words.specs.Words.{wordAddress}
 use Rattle.text_words.proofs.Values.{inImage, address-of}
 use borrow.Author.Needs.{needs}
 use Rattle.text_words.proofs.read_address.Statement.{statement}
 use Rattle.text_words.proofs.read_address.Tie as tie
 
 returns : tie.Need-returns
-unfolding addressOf
+unfolding wordAddress
 returns c = rw (lt-leb (length (now (c .before .before .args .word))) 4 (c .if1 .taken))
 
 read-number-requires : tie.Need-read-number-requires

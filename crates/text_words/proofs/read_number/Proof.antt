@@ -1,5 +1,4 @@
 -- `words::read_number` meets its contract.
--- Assumes nothing.
 use Prim.Native.Nat.{_-_, _≤_}
 use native.Mathlib.Omega.{arith}
 use borrow.Author.Needs.{needs}

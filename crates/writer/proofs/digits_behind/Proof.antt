@@ -1,5 +1,4 @@
 -- `writer::digits_behind` meets its contract.
--- Assumes nothing.
 use mathlib.Core.Path.{ap, _∙_}
 use Prim.Native.Nat.{ℕ, _+_, _%_}
 use lib.Dec.{eqb, eqb→eq}

@@ -1,5 +1,4 @@
 -- `writer::reads_as` meets its contract.
--- Assumes nothing.
 use mathlib.Core.Path.{sym, ap, _∙_}
 use Rattle.writer.specs.Spelling.{readsAs}
 use borrow.Author.Needs.{needs}

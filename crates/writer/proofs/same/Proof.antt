@@ -1,5 +1,4 @@
 -- `writer::same` meets its contract.
--- Assumes nothing.
 use borrow.Author.Tests.{eq-eqb, ne-eqb}
 use Rattle.writer.proofs.same.Statement.{statement}
 use Rattle.writer.proofs.same.Tie as tie

@@ -1,5 +1,4 @@
 -- `writer::spell` meets its contract.
--- Assumes nothing.
 use borrow.Author.Tests.{eq-eqb, ne-eqb}
 use Rattle.writer.specs.Spelling.{spelling}
 use borrow.Author.Needs.{needs}

@@ -1,5 +1,4 @@
 -- `writer::spell_far` meets its contract.
--- Assumes nothing.
 use borrow.Author.Tests.{lt-ltb, le-ltb}
 use borrow.Author.Needs.{needs}
 use Rattle.writer.proofs.spell_far.Statement.{statement}

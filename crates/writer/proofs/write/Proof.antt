@@ -1,5 +1,4 @@
 -- `writer::write` meets its contract.
--- Assumes nothing.
 use mathlib.Core.Path.{sym, _∙_}
 use Rattle.writer.proofs.Answers.{refuses, none-of-row, none-read, reads-row, writes}
 use borrow.Author.Needs.{needs}

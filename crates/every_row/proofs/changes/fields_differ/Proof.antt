@@ -1,5 +1,4 @@
 -- `every_row::changes::fields_differ` meets its contract.
--- Assumes nothing.
 use borrow.Author.Needs.{needs}
 use Prim.Native.Nat.{_-_}
 use Rattle.every_row.proofs.changes.fields_differ.Statement.{statement}

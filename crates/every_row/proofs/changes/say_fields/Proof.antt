@@ -1,5 +1,4 @@
 -- `every_row::changes::say_fields` meets its contract.
--- Assumes nothing.
 use borrow.Author.Needs.{needs}
 use Prim.Native.Nat.{_-_, _≤_}
 use Rattle.every_row.proofs.changes.say_fields.Statement.{statement}

@@ -1,5 +1,4 @@
 -- `machine::Machine::accept` meets its contract.
--- Assumes nothing.
 use lib.Pow.{pow-pos}
 use Rattle.machine.specs.Stack.{accepted}
 use borrow.Author.Needs.{needs}

@@ -1,5 +1,4 @@
 -- `machine::Machine::call` meets its contract.
--- Assumes nothing.
 use Rattle.machine.specs.Stack.{called}
 use borrow.Author.Needs.{needs}
 use Rattle.machine.proofs.Machine.call.Statement.{statement}

@@ -1,5 +1,4 @@
 -- `machine::Machine::pop` meets its contract.
--- Assumes nothing.
 use borrow.Author.Needs.{needs}
 use Rattle.machine.proofs.Machine.pop.Statement.{statement}
 use Rattle.machine.proofs.Machine.pop.Tie as tie

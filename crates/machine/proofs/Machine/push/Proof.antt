@@ -1,5 +1,4 @@
 -- `machine::Machine::push` meets its contract.
--- Assumes nothing.
 use borrow.Author.Needs.{needs}
 use Rattle.machine.proofs.Machine.push.Statement.{statement}
 use Rattle.machine.proofs.Machine.push.Tie as tie

@@ -1,5 +1,4 @@
 -- `machine::Machine::return_flags` meets its contract.
--- Assumes nothing.
 use Rattle.machine.specs.Stack.{flagsReturned}
 use borrow.Author.Needs.{needs}
 use Rattle.machine.proofs.Machine.return_flags.Statement.{statement}

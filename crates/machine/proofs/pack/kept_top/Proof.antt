@@ -1,5 +1,4 @@
 -- `machine::pack::kept_top` meets its contract.
--- Assumes nothing.
 use Prim.Native.Nat.{ℕ, _/_, _%_}
 use mathlib.Core.Path.{ap, _∙_}
 use native.Mathlib.Omega.{arith}

@@ -1,5 +1,4 @@
 -- `machine::pack::pc_at` meets its contract.
--- Assumes nothing.
 use borrow.Author.Needs.{needs}
 use Rattle.machine.proofs.pack.pc_at.Statement.{statement}
 use Rattle.machine.proofs.pack.pc_at.Tie as tie

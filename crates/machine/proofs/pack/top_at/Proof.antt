@@ -1,5 +1,4 @@
 -- `machine::pack::top_at` meets its contract.
--- Assumes nothing.
 use borrow.Author.Needs.{needs}
 use Rattle.machine.proofs.pack.top_at.Statement.{statement}
 use Rattle.machine.proofs.pack.top_at.Tie as tie

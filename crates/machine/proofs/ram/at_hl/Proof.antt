@@ -1,5 +1,4 @@
 -- `machine::ram::at_hl` meets its contract.
--- Assumes nothing.
 use borrow.Author.Needs.{needs}
 use Rattle.machine.proofs.ram.at_hl.Statement.{statement}
 use Rattle.machine.proofs.ram.at_hl.Tie as tie

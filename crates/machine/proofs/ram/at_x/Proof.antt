@@ -1,5 +1,4 @@
 -- `machine::ram::at_x` meets its contract.
--- Assumes nothing.
 use borrow.Author.Needs.{needs}
 use Rattle.machine.proofs.ram.at_x.Statement.{statement}
 use Rattle.machine.proofs.ram.at_x.Tie as tie

@@ -1,5 +1,4 @@
 -- `machine::ram::peek` meets its contract.
--- Assumes nothing.
 use mathlib.Core.Path.{refl}
 use borrow.Author.Needs.{needs}
 use Rattle.machine.proofs.ram.peek.Statement.{statement}

@@ -1,5 +1,4 @@
 -- `machine::ram::place` meets its contract: each way through it is one range of addresses.
--- Assumes nothing.
 use mathlib.Core.Path.{sym}
 use Rattle.machine.proofs.Places.{place-low, place-between, place-high, place-above}
 use borrow.Author.Needs.{needs}

@@ -1,5 +1,4 @@
 -- `turns::calls::call` meets its contract.
--- Assumes nothing.
 use mathlib.Core.List.{[], _∷_}
 use Rattle.laws.proofs.Among.{first}
 use Rattle.row_control.proofs.Calling.{lcall, scall, stop-low, stop-high}

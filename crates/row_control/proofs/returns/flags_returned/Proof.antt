@@ -1,5 +1,4 @@
 -- `turns::returns::flags_returned` meets its contract.
--- Assumes nothing.
 use borrow.Author.Needs.{needs}
 use Rattle.row_control.proofs.returns.flags_returned.Statement.{statement}
 use Rattle.row_control.proofs.returns.flags_returned.Tie as tie

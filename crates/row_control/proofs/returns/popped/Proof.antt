@@ -1,5 +1,4 @@
 -- `turns::returns::popped` meets its contract.
--- Assumes nothing.
 use borrow.Author.Needs.{needs}
 use Rattle.row_control.proofs.returns.popped.Statement.{statement}
 use Rattle.row_control.proofs.returns.popped.Tie as tie

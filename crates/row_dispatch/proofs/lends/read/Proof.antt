@@ -1,5 +1,4 @@
 -- `perform::lends::read` meets its contract.
--- Assumes nothing.
 use mathlib.Core.List.{[], _∷_}
 use borrow.Author.Needs.{needs}
 use Rattle.row_dispatch.proofs.Groups.{last}

@@ -1,5 +1,4 @@
 -- `pointers::loads::from_timer` meets its contract.
--- Assumes nothing.
 use borrow.Author.Needs.{needs}
 use borrow.Author.Tests.{eq-eqb}
 use Rattle.row_pointers.specs.Groups.{loadTimer}

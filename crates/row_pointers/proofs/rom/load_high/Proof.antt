@@ -1,5 +1,4 @@
 -- `pointers::rom::load_high` meets its contract.
--- Assumes nothing.
 use borrow.Author.Needs.{needs}
 use Rattle.row_pointers.proofs.FromRom.{ldaxi}
 use Rattle.row_pointers.proofs.rom.load_high.Statement.{statement}

@@ -1,5 +1,4 @@
 -- `pointers::stores::left` meets its contract.
--- Assumes nothing.
 use borrow.Author.Needs.{needs}
 use Rattle.row_pointers.proofs.stores.left.Statement.{statement}
 use Rattle.row_pointers.proofs.stores.left.Tie as tie

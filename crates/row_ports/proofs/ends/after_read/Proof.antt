@@ -1,5 +1,4 @@
 -- `port_rows::ends::after_read` meets its contract.
--- Assumes nothing.
 use borrow.Author.Tests.{eq-eqb, ne-eqb}
 use Rattle.row_ports.specs.Ends.{afterRead}
 use borrow.Author.Needs.{needs}

@@ -1,5 +1,4 @@
 -- `port_rows::ends::base_after` meets its contract.
--- Assumes nothing.
 use borrow.Author.Tests.{eq-eqb, ne-eqb}
 use Rattle.row_ports.proofs.ends.base_after.Statement.{statement}
 use Rattle.row_ports.proofs.ends.base_after.Tie as tie

@@ -1,5 +1,4 @@
 -- `port_rows::ends::written` meets its contract.
--- Assumes nothing.
 use borrow.Author.Tests.{eq-eqb, ne-eqb}
 use Rattle.row_ports.specs.Ends.{written}
 use borrow.Author.Needs.{needs}

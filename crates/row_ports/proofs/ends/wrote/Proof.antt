@@ -1,5 +1,4 @@
 -- `port_rows::ends::wrote` meets its contract.
--- Assumes nothing.
 use borrow.Author.Needs.{needs}
 use Rattle.row_ports.proofs.ends.wrote.Statement.{statement}
 use Rattle.row_ports.proofs.ends.wrote.Tie as tie

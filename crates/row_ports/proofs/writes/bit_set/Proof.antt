@@ -1,5 +1,4 @@
 -- `port_rows::writes::bit_set` meets its contract.
--- Assumes nothing.
 use borrow.Author.Needs.{needs}
 use Rattle.row_ports.proofs.writes.bit_set.Statement.{statement}
 use Rattle.row_ports.proofs.writes.bit_set.Tie as tie

@@ -1,5 +1,4 @@
 -- `cells::read_hl::reading` meets its contract.
--- Assumes nothing.
 use borrow.Author.Needs.{needs}
 use Rattle.row_ram.specs.Groups.{readByHL}
 use Rattle.laws.proofs.Among.{first}

@@ -1,5 +1,4 @@
 -- `cells::read_x::reading` meets its contract.
--- Assumes nothing.
 use borrow.Author.Needs.{needs}
 use Rattle.row_ram.specs.Groups.{readByX}
 use Rattle.laws.proofs.Among.{first}

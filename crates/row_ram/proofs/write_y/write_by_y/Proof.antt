@@ -1,5 +1,4 @@
 -- `cells::write_y::write_by_y` meets its contract.
--- Assumes nothing.
 use Rattle.sheet.specs.Operation.Cell.{by-y}
 use borrow.Author.Needs.{needs}
 use Rattle.row_ram.specs.Groups.{writtenByY}

@@ -1,5 +1,4 @@
 -- `cells::write_y::writing` meets its contract.
--- Assumes nothing.
 use borrow.Author.Needs.{needs}
 use Rattle.row_ram.specs.Groups.{writtenByY}
 use Rattle.laws.proofs.Among.{first}

@@ -1,5 +1,4 @@
 -- `text::line::after` meets its contract.
--- Assumes nothing.
 use mathlib.Core.Path.{sym, _∙_}
 use denote.Ref.{now}
 use Rattle.sheet.specs.Reading.{romOf}

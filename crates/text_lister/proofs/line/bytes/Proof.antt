@@ -1,5 +1,4 @@
 -- `text::line::bytes` meets its contract.
--- Assumes nothing.
 use native.Mathlib.Omega.{arith}
 use lib.Seq.{take-all}
 use denote.Ref.{now}

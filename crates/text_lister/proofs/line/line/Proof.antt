@@ -1,5 +1,4 @@
 -- `text::line::line` meets its contract.
--- Assumes nothing.
 use native.Mathlib.Omega.{arith}
 use Rattle.laws.proofs.Writing.{wrote-then}
 use Rattle.text_lister.specs.Listing.{lineOf}

@@ -1,5 +1,4 @@
 -- `text::line::listing` meets its contract: the sweep from `at` for the lines that are left is to be written.
--- Assumes nothing.
 use Prim.Native.Nat.{_+_, _*_, _≤_}
 use native.Mathlib.Omega.{arith}
 use denote.Ref.{now}
@@ -7,14 +6,14 @@ use lib.ListN.{length}
 use Rattle.laws.specs.Writing.{Writing}
 use Rattle.laws.proofs.Writing.{writing-all, writing-more, writing-none}
 use Rattle.sheet.specs.Reading.{romOf}
-use Rattle.text_lister.specs.Listing.{listingOf}
+use Rattle.text_lister.specs.Listing.{sweptLines}
 use Rattle.text_lister.proofs.Sweeps.{listing-past, listing-none, listing-more}
 use Rattle.text_lister.proofs.line.listing.Statement.{statement}
 use Rattle.text_lister.proofs.line.listing.Tie as tie
 
 abbrev Inv-loop : tie.InvT-loop
 Inv-loop out₀ image from count end₀ at₀ left₀ out end at left =
-    Writing out₀ out 0 end (listingOf (romOf image) at left) (listingOf (romOf image) from count) × (end + 37 * left + 3 ≤ length out)
+    Writing out₀ out 0 end (sweptLines (romOf image) at left) (sweptLines (romOf image) from count) × (end + 37 * left + 3 ≤ length out)
 
 abbrev μ-loop : tie.MeasureT-loop
 μ-loop out₀ image from count end₀ at₀ left₀ out end at left = left

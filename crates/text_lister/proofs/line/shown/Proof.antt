@@ -1,5 +1,4 @@
 -- `text::line::shown` meets its contract.
--- Assumes nothing.
 use native.Mathlib.Omega.{arith}
 use Rattle.laws.proofs.Writing.{wrote-last, wrote-then}
 use borrow.Author.Needs.{needs}

@@ -1,5 +1,4 @@
 -- `values::asked::begin` meets its contract.
--- Assumes nothing.
 use borrow.Author.Needs.{needs}
 use Prim.Native.Nat.{_-_, _≤_}
 use Rattle.values.proofs.asked.begin.Statement.{statement}

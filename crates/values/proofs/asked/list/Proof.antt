@@ -1,5 +1,4 @@
 -- `values::asked::list` meets its contract.
--- Assumes nothing.
 use borrow.Author.Needs.{needs}
 use Prim.Native.Nat.{_<_}
 use Rattle.values.proofs.asked.list.Statement.{statement}

@@ -1,5 +1,4 @@
 -- `values::asked::stepped` meets its contract.
--- Assumes nothing.
 use borrow.Author.Needs.{needs}
 use Rattle.values.proofs.asked.stepped.Statement.{statement}
 use Rattle.values.proofs.asked.stepped.Tie as tie

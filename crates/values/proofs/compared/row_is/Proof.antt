@@ -1,5 +1,4 @@
 -- `values::compared::row_is` meets its contract.
--- Assumes nothing.
 use borrow.Author.Needs.{needs}
 use Prim.Native.Nat.{_-_, _≤_}
 use Rattle.values.proofs.compared.row_is.Statement.{statement}
