@@ -3,6 +3,7 @@ use mathlib.Core.Path.{_≡_}
 use mathlib.Core.List.{List, [], _∷_, _++_}
 use Prim.Native.Nat.{ℕ, _+_, _*_, _/_, _%_, _≤_, _<_}
 use lib.ListN.{length, drop}
+use Rattle.numbers.specs.Sizes.{addresses, imageBytes, lastAddress}
 use Rattle.numbers.specs.ComesBack.{Paper, answered, refused, refusedWith, image-is-not-8192-bytes, address-over-8191, excluded-instruction-reachable, repetition-reachable, path-buffer-too-short}
 use Rattle.sheet.specs.Reading.{romOf}
 use Rattle.graph.specs.Graph.{Least, Bad, Loops}
@@ -53,6 +54,6 @@ module _ (rom : ℕ → ℕ) (start : ℕ) where
 
 -- refusals in the table's order: 1, 20, 21, 22, 23
 pub data BoundAnswer (image : List ℕ) (start : ℕ) (path path′ : List ℕ) : Paper → Type 0 where
-  gives-1 : (length image ≡ 8192 → ⊥) → path′ ≡ path → BoundAnswer image start path path′ (refused image-is-not-8192-bytes)
-  gives-20 : length image ≡ 8192 → 8191 < start → path′ ≡ path → BoundAnswer image start path path′ (refused address-over-8191)
-  by-flow : {p : Paper} → length image ≡ 8192 → start ≤ 8191 → FlowAnswer (romOf image) start path path′ p → BoundAnswer image start path path′ p
+  gives-1 : (length image ≡ imageBytes → ⊥) → path′ ≡ path → BoundAnswer image start path path′ (refused image-is-not-8192-bytes)
+  gives-20 : length image ≡ imageBytes → lastAddress < start → path′ ≡ path → BoundAnswer image start path path′ (refused address-over-8191)
+  by-flow : {p : Paper} → length image ≡ imageBytes → start ≤ lastAddress → FlowAnswer (romOf image) start path path′ p → BoundAnswer image start path path′ p

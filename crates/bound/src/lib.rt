@@ -1,10 +1,15 @@
 // The handler bound: the most cycles that any path of the flow rules takes from an address to RTI, and the path.
 use bound_explore::explore;
+use graph::PLACES;
 use graph_longest::Found;
 use graph_longest::longest;
+use numbers::IMAGE_BYTES;
+use numbers::LAST_ADDRESS;
 ghost use mathlib.Core.Path.{_≡_};
 ghost use Prim.Native.Nat.{_<_};
 ghost use lib.ListN.{length};
+ghost use Rattle.numbers.specs.Sizes.{imageBytes};
+ghost use Rattle.graph.specs.Laid.{places};
 ghost use Rattle.sheet.specs.Reading.{romOf};
 ghost use Rattle.graph_search.specs.Marks.{Blank};
 ghost use Rattle.bound_flow.specs.Flow.{flowGraph, flowCost};
@@ -34,7 +39,7 @@ fn bound_in(
     marks: &mut [u8],
     queue: &mut [u16],
 ) -> Found
-    requires { ⌜ (length (now image) ≡ 8192) × (s < 16384) × Empty (now kind) (now next) (now other) (now cost) × Blank (now marks) × (length (now marks) ≡ 16384) × (length (now queue) ≡ 16384) ⌝ }
+    requires { ⌜ (length (now image) ≡ imageBytes) × (s < places) × Empty (now kind) (now next) (now other) (now cost) × Blank (now marks) × (length (now marks) ≡ places) × (length (now queue) ≡ places) ⌝ }
     ensures { λ r. ⌜ Means (flowGraph (romOf (now (image .entry)))) (flowCost (romOf (now (image .entry)))) s (now (path .entry)) (now (path .exit)) r ⌝ }
 {
     let count = explore(image, s, kind, next, other, cost, marks, queue);
@@ -57,19 +62,19 @@ fn answer(found: Found) -> Bounded
 pub fn bound(image: &[u8], address: u32, path: &mut [u8]) -> Bounded
     ensures { λ r. ⌜ BoundAnswer (now (image .entry)) address (now (path .entry)) (now (path .exit)) (paperOf r) ⌝ }
 {
-    if image.len() != 8192 {
+    if image.len() != IMAGE_BYTES {
         return Bounded::ImageSize;
     }
-    if 8191 < address {
+    if LAST_ADDRESS < address {
         return Bounded::AddressRange;
     }
     let start = 2 * address as usize + 1;
-    let mut kind = [0u8; 16384];
-    let mut next = [0u16; 16384];
-    let mut other = [0u16; 16384];
-    let mut cost = [0u32; 16384];
-    let mut marks = [0u8; 16384];
-    let mut queue = [0u16; 16384];
+    let mut kind = [0u8; PLACES];
+    let mut next = [0u16; PLACES];
+    let mut other = [0u16; PLACES];
+    let mut cost = [0u32; PLACES];
+    let mut marks = [0u8; PLACES];
+    let mut queue = [0u16; PLACES];
     let found = bound_in(
         image,
         start,

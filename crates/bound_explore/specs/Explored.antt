@@ -3,6 +3,7 @@ use mathlib.Core.Path.{_≡_}
 use mathlib.Core.List.{List}
 use Prim.Native.Nat.{ℕ}
 use lib.ListN.{length, getD, set}
+use Rattle.graph.specs.Laid.{places}
 use Rattle.graph.specs.Laid.{graphOf, Laid, Costs}
 use Rattle.graph_search.specs.Marks.{Marked, Blank, Listed}
 use Rattle.graph_search.specs.Search.{Reached}
@@ -10,10 +11,10 @@ use Rattle.bound_flow.specs.Flow.{nodeOf}
 
 -- a place an index
 pub record Sized (k nx o c : List ℕ) : Type 0 where
-  pub kinds : length k ≡ 16384
-  pub nexts : length nx ≡ 16384
-  pub others : length o ≡ 16384
-  pub costs : length c ≡ 16384
+  pub kinds : length k ≡ places
+  pub nexts : length nx ≡ places
+  pub others : length o ≡ places
+  pub costs : length c ≡ places
 
 pub record Empty (k nx o c : List ℕ) : Type 0 where
   pub sized : Sized k nx o c
@@ -38,8 +39,8 @@ pub record Holds (rom : ℕ → ℕ) (k nx o c : List ℕ) (v : ℕ) : Type 0 wh
 
 -- m marks what is reached from s, q lists it, and the arrays hold its nodes
 pub record Explored (rom : ℕ → ℕ) (s : ℕ) (k nx o c m q : List ℕ) (count : ℕ) : Type 0 where
-  pub laid : Laid k nx o 16384
-  pub costs : Costs k c 16384
+  pub laid : Laid k nx o places
+  pub costs : Costs k c places
   pub reached : Reached (graphOf k nx o) s m
   pub listed : Listed m q count
   pub holds : (v : ℕ) → Marked m v → Holds rom k nx o c v

@@ -4,6 +4,8 @@ use graph_search::mark;
 ghost use mathlib.Core.Path.{_≡_};
 ghost use Prim.Native.Nat.{_<_};
 ghost use lib.ListN.{length};
+ghost use Rattle.numbers.specs.Sizes.{imageBytes};
+ghost use Rattle.graph.specs.Laid.{places};
 ghost use Rattle.graph.specs.Graph.{Edge};
 ghost use Rattle.sheet.specs.Reading.{romOf};
 ghost use Rattle.graph_search.specs.Marks.{Blank, Room, Grown};
@@ -23,7 +25,7 @@ fn visit(
     count: usize,
     v: usize,
 ) -> usize
-    requires { ⌜ (length (now image) ≡ 8192) × Sized (now kind) (now next) (now other) (now cost) × Room (now m) (now q) count × (length (now m) ≡ 16384) × (v < 16384) ⌝ }
+    requires { ⌜ (length (now image) ≡ imageBytes) × Sized (now kind) (now next) (now other) (now cost) × Room (now m) (now q) count × (length (now m) ≡ places) × (v < places) ⌝ }
     ensures { λ r. ⌜ Lays (romOf (now (image .entry))) v (now (kind .entry)) (now (next .entry)) (now (other .entry)) (now (cost .entry)) (now (kind .exit)) (now (next .exit)) (now (other .exit)) (now (cost .exit))
         × Grown (Edge (flowGraph (romOf (now (image .entry)))) v) (now (m .entry)) (now (q .entry)) count (now (m .exit)) (now (q .exit)) r
         × Visited (flowGraph (romOf (now (image .entry)))) v (now (m .exit)) ⌝ }
@@ -51,7 +53,7 @@ pub fn explore(
     m: &mut [u8],
     q: &mut [u16],
 ) -> usize
-    requires { ⌜ (length (now image) ≡ 8192) × (s < 16384) × Empty (now kind) (now next) (now other) (now cost) × Blank (now m) × (length (now m) ≡ 16384) × (length (now q) ≡ 16384) ⌝ }
+    requires { ⌜ (length (now image) ≡ imageBytes) × (s < places) × Empty (now kind) (now next) (now other) (now cost) × Blank (now m) × (length (now m) ≡ places) × (length (now q) ≡ places) ⌝ }
     ensures { λ r. ⌜ Explored (romOf (now (image .entry))) s (now (kind .exit)) (now (next .exit)) (now (other .exit)) (now (cost .exit)) (now (m .exit)) (now (q .exit)) r ⌝ }
 {
     let mut count = mark(m, q, 0, s);

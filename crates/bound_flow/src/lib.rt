@@ -1,4 +1,5 @@
 // The places of an image as a flow graph: document 01, "The handler bound".
+use numbers::ADDRESSES;
 use reader::read_at;
 use sheet::Cost;
 use sheet::Insn;
@@ -6,6 +7,8 @@ use sheet::Read;
 ghost use mathlib.Core.Path.{_≡_};
 ghost use Prim.Native.Nat.{_<_};
 ghost use lib.ListN.{length};
+ghost use Rattle.numbers.specs.Sizes.{addresses, imageBytes};
+ghost use Rattle.graph.specs.Laid.{places};
 ghost use Rattle.sheet.specs.Fields.{InFields};
 ghost use Rattle.sheet.specs.Reading.{romOf};
 ghost use Rattle.bound_flow.specs.Flow.{going, excluded, ending, forked, nodeBy, nodeOf};
@@ -87,7 +90,7 @@ fn onward(next: u16, other: u16, cycles: u8) -> Node
 
 // A branch at a known place has only its target.
 fn fork(known: bool, on: u16, target: u16, cycles: u8) -> Node
-    requires { ⌜ (on < 8192) × (target < 16384) ⌝ }
+    requires { ⌜ (on < addresses) × (target < places) ⌝ }
     ensures { λ r. ⌜ r ≡ forked known on target cycles ⌝ }
 {
     let to = 2 * target + 1;
@@ -98,10 +101,10 @@ fn fork(known: bool, on: u16, target: u16, cycles: u8) -> Node
 }
 
 fn node_by(at: u16, known: bool, i: Insn, cost: Cost, way: u8) -> Node
-    requires { ⌜ (at < 8192) × (i .a < 8192) × (way < 7) ⌝ }
+    requires { ⌜ (at < addresses) × (i .a < addresses) × (way < 7) ⌝ }
     ensures { λ r. ⌜ r ≡ nodeBy at known i (cost .bytes) (cost .cycles) (numbered way) ⌝ }
 {
-    let on = (at + cost.bytes as u16) % 8192;
+    let on = (at + cost.bytes as u16) % ADDRESSES;
     match way {
         0 => nowhere(),
         1 => end(cost.cycles),
@@ -115,7 +118,7 @@ fn node_by(at: u16, known: bool, i: Insn, cost: Cost, way: u8) -> Node
 
 // What stands at a place of an image, and what follows it.
 pub fn node_at(image: &[u8], v: usize) -> Node
-    requires { ⌜ (length (now image) ≡ 8192) × (v < 16384) ⌝ }
+    requires { ⌜ (length (now image) ≡ imageBytes) × (v < places) ⌝ }
     ensures { λ r. ⌜ r ≡ nodeOf (romOf (now (image .entry))) v ⌝ }
 {
     let at = (v / 2) as u16;

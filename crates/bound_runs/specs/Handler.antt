@@ -5,6 +5,7 @@ use mathlib.Core.Bool.{true, false}
 use mathlib.Core.List.{List, [], _∷_, _++_}
 use Prim.Native.Nat.{ℕ, suc, _+_, _*_, _≤_, _<_}
 use lib.ListN.{length, take}
+use Rattle.numbers.specs.Sizes.{addresses, mostFrameBytes}
 use Rattle.sheet.specs.Operation.Operation.{return-FLAG}
 use Rattle.sheet.specs.Table.{lineAt}
 use Rattle.sheet.specs.Reading.{readAt, romOf}
@@ -66,7 +67,7 @@ AllInRange (pins ∷ others) = PinsInRange pins × AllInRange others
 -- "frames enough" means N frames or more, one a step
 abbrev pub Demand3 : Type 0
 Demand3 =
-    (rom : ℕ → ℕ) → ((at : ℕ) → rom at < 256) → (start N : ℕ) → start < 8192 → (path : List ℕ) → HasBound rom start N path
+    (rom : ℕ → ℕ) → ((at : ℕ) → rom at < 256) → (start N : ℕ) → start < addresses → (path : List ℕ) → HasBound rom start N path
     → (o : Options) (m : Machine) → Enters m start
     → (frames : List Pins) → AllInRange frames → N ≤ length frames
     → EndsWithin rom o m frames N
@@ -90,5 +91,5 @@ abbrev pub Demand3OfCalls : Type 0
 Demand3OfCalls =
     (image : List ℕ) → ((at : ℕ) → romOf image at < 256) → (start N : ℕ) (path path′ : List ℕ) → BoundAnswer image start path path′ (answered (N ∷ []))
     → (o : Options) (m : Machine) → Enters m start
-    → (frames : List ℕ) → areFrames frames ≡ true → length frames ≤ 196608 → N ≤ length (framesOf frames)
+    → (frames : List ℕ) → areFrames frames ≡ true → length frames ≤ mostFrameBytes → N ≤ length (framesOf frames)
     → RunEndsWithin image o m frames N

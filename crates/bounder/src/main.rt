@@ -2,18 +2,22 @@
 // The words are judged from the left: the image, the address, and that there are no more.
 use bound::Bounded;
 use bound::bound;
-use text_digits::number;
-use text_digits::put;
-use text_digits::put_text;
+use graph::PLACES;
 use libc::STDERR_FILENO;
 use libc::STDOUT_FILENO;
+use numbers::ADDRESSES;
+use numbers::IMAGE_BYTES;
 use text_bounder::cycles_at;
 use text_bounder::path_line;
 use text_bounder::summary;
+use text_digits::number;
+use text_digits::put;
+use text_digits::put_text;
 use text_words::Address;
 ghost use mathlib.Core.Path.{_≡_};
 ghost use Prim.Native.Nat.{_+_, _*_, _<_, _≤_};
 ghost use lib.ListN.{length, getD};
+ghost use Rattle.numbers.specs.Sizes.{addresses, imageBytes};
 ghost use Rattle.bound.specs.Answer.{paperOf};
 
 fn usage() {
@@ -27,7 +31,7 @@ fn show(out: &[u8], n: usize)
 }
 
 fn show_line(image: &[u8], at: u16, total: u32)
-    requires { ⌜ (length (now image) ≡ 8192) × (at < 8192) × (total < 100000) ⌝ }
+    requires { ⌜ (length (now image) ≡ imageBytes) × (at < addresses) × (total < 100000) ⌝ }
 {
     let mut out = io::buffer();
     let n = path_line(&mut out, 0, image, at, total);
@@ -36,17 +40,17 @@ fn show_line(image: &[u8], at: u16, total: u32)
 
 // The lines of a path of so many cycles, whose addresses stand in the buffer.
 fn list_path(image: &[u8], path: &[u8], most: u32)
-    requires { ⌜ (length (now image) ≡ 8192) × (length (now path) ≡ 32768) ⌝ }
+    requires { ⌜ (length (now image) ≡ imageBytes) × (length (now path) ≡ 32768) ⌝ }
 {
     let mut total = 0;
     let mut i = 0;
-    while i < 16384 {
+    while i < PLACES {
         if most <= total {
             return;
         }
         let low = path[2 * i] as u16;
         let high = path[2 * i + 1] as u16;
-        let at = (256 * high + low) % 8192;
+        let at = (256 * high + low) % ADDRESSES;
         total += cycles_at(image, at);
         show_line(image, at, total);
         i += 1;
@@ -77,7 +81,7 @@ fn explain(answer: Bounded) {
 }
 
 fn bound_at(image: &[u8], at: u16)
-    requires { ⌜ length (now image) ≡ 8192 ⌝ }
+    requires { ⌜ length (now image) ≡ imageBytes ⌝ }
 {
     let mut path = [0u8; 32768];
     let answer = bound(image, at as u32, &mut path);
@@ -91,7 +95,7 @@ fn bound_at(image: &[u8], at: u16)
 }
 
 fn entry(image: &[u8], at: u32, name: &[u8])
-    requires { ⌜ (length (now image) ≡ 8192) × (length (now name) ≤ 4) ⌝ }
+    requires { ⌜ (length (now image) ≡ imageBytes) × (length (now name) ≤ 4) ⌝ }
 {
     let mut path = [0u8; 32768];
     let answer = bound(image, at, &mut path);
@@ -104,7 +108,7 @@ fn entry(image: &[u8], at: u32, name: &[u8])
 }
 
 fn entries(image: &[u8])
-    requires { ⌜ length (now image) ≡ 8192 ⌝ }
+    requires { ⌜ length (now image) ≡ imageBytes ⌝ }
 {
     entry(image, 0x002, b"INT0");
     entry(image, 0x006, b"TRGA");
@@ -114,7 +118,7 @@ fn entries(image: &[u8])
 }
 
 fn bound_image(image: &[u8])
-    requires { ⌜ length (now image) ≡ 8192 ⌝ }
+    requires { ⌜ length (now image) ≡ imageBytes ⌝ }
 {
     if os::arg_count() < 3 {
         entries(image);
@@ -145,7 +149,7 @@ fn main() {
     let mut image = [0u8; 8193];
     let size = io::read_full(file, &mut image);
     libc::close(file);
-    if size != 8192 {
+    if size != IMAGE_BYTES {
         io::write_all(STDOUT_FILENO, b"refused 01\n");
         return;
     }

@@ -5,6 +5,8 @@ use mathlib.Core.List.{List}
 use mathlib.Core.Path.{_≡_}
 use lib.Dec.{eqb}
 use lib.ListN.{length, getD}
+use Rattle.machine_bytes.specs.Layout.{recordSize}
+use Rattle.numbers.specs.Sizes.{imageBytes}
 use Rattle.laws.specs.Choice.{pick}
 use Rattle.numbers.specs.ComesBack.{Paper, image-is-not-8192-bytes, record-outside-the-ranges}
 use Rattle.sheet.specs.declared.Insn.{Insn}
@@ -34,7 +36,7 @@ pub data Judged (bytes : List ℕ) (Refusal : Type 0) (Answer : Machine → Type
 
 -- no record is 2, "record outside the ranges above"; where there is an image, 1 comes before it
 abbrev pub unheld : List ℕ → ℕ
-unheld image = pick (eqb (length image) 8192) record-outside-the-ranges image-is-not-8192-bytes
+unheld image = pick (eqb (length image) imageBytes) record-outside-the-ranges image-is-not-8192-bytes
 
 -- "Options: eight wake-enable bits (P0.0 to P0.3, P8.0 to P8.3) and SOUND enable": sound is enabled where it is not 0
 abbrev pub optionsOf : ℕ → ℕ → Options
@@ -42,8 +44,8 @@ optionsOf wake sound = record { wake = wake; sound = not (eqb sound 0) }
 
 -- em73862_fresh: a buffer of another length is refused, whatever is in it
 pub data FreshCall (bytes : List ℕ) (number : ℕ) (bytes′ : List ℕ) : Type 0 where
-  wrong-length : (length bytes ≡ 409 → ⊥) → number ≡ record-outside-the-ranges → bytes′ ≡ bytes → FreshCall bytes number bytes′
-  fresh : length bytes ≡ 409 → number ≡ 0 → bytes′ ≡ recordBytes freshMachine → FreshCall bytes number bytes′
+  wrong-length : (length bytes ≡ recordSize → ⊥) → number ≡ record-outside-the-ranges → bytes′ ≡ bytes → FreshCall bytes number bytes′
+  fresh : length bytes ≡ recordSize → number ≡ 0 → bytes′ ≡ recordBytes freshMachine → FreshCall bytes number bytes′
 
 -- em73862_reset
 pub record NotReset (bytes : List ℕ) (number : ℕ) (bytes′ : List ℕ) : Type 0 where

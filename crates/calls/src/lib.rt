@@ -5,15 +5,23 @@ use bound::bound;
 use display::display;
 use machine_bytes::pack;
 use machine_bytes::unpack;
+use machine_start::fresh;
+use machine_start::reset;
+use machine_valid::is_valid;
+use numbers::ADDRESS_OVER_8191;
+use numbers::EXCLUDED_INSTRUCTION_REACHABLE;
+use numbers::IMAGE_BYTES;
+use numbers::IMAGE_IS_NOT_8192_BYTES;
+use numbers::NOT_TO_BE_WRITTEN;
+use numbers::PATH_BUFFER_TOO_SHORT;
+use numbers::REPETITION_REACHABLE;
+use numbers::UNASSIGNED_CODE;
 use reader::Answer;
 use reader::read;
 use run::run;
 use sheet::Insn;
-use machine_start::fresh;
-use machine_start::reset;
 use step::Options;
 use step::step;
-use machine_valid::is_valid;
 use writer::Written;
 use writer::write;
 ghost use mathlib.Core.Path.{_≡_};
@@ -48,7 +56,7 @@ pub struct BoundNumbers {
 fn refusal(image: &[u8]) -> u8
     ensures { λ r. ⌜ r ≡ unheld (now (image .entry)) ⌝ }
 {
-    if image.len() == 8192 {
+    if image.len() == IMAGE_BYTES {
         return 2;
     }
     1
@@ -67,7 +75,7 @@ fn options_of(wake: u8, sound: u8) -> Options
 pub extern "C" fn em73862_fresh(bytes: &mut [u8]) -> u8
     ensures { λ r. ⌜ FreshCall (now (bytes .entry)) r (now (bytes .exit)) ⌝ }
 {
-    if bytes.len() != 409 {
+    if bytes.len() != RECORD_BYTES {
         return 2;
     }
     pack(fresh(), bytes);
@@ -180,9 +188,9 @@ fn read_numbers(answer: Answer) -> ReadNumbers
             a: d.insn.a,
             b: d.insn.b,
         },
-        Answer::Unassigned => no_row(30),
-        Answer::ImageSize => no_row(1),
-        Answer::AddressRange => no_row(20),
+        Answer::Unassigned => no_row(UNASSIGNED_CODE),
+        Answer::ImageSize => no_row(IMAGE_IS_NOT_8192_BYTES),
+        Answer::AddressRange => no_row(ADDRESS_OVER_8191),
     }
 }
 
@@ -216,7 +224,7 @@ fn write_numbers(code: Written) -> WriteNumbers
             b2: c.b2,
         },
         Written::Refused => WriteNumbers {
-            number: 11,
+            number: NOT_TO_BE_WRITTEN,
             length: 0,
             b0: 0,
             b1: 0,
@@ -255,23 +263,23 @@ fn bound_numbers(answer: Bounded) -> BoundNumbers
 {
     match answer {
         Bounded::ImageSize => BoundNumbers {
-            number: 1,
+            number: IMAGE_IS_NOT_8192_BYTES,
             value: 0,
         },
         Bounded::AddressRange => BoundNumbers {
-            number: 20,
+            number: ADDRESS_OVER_8191,
             value: 0,
         },
         Bounded::Excluded(address) => BoundNumbers {
-            number: 21,
+            number: EXCLUDED_INSTRUCTION_REACHABLE,
             value: address,
         },
         Bounded::Repeats(address) => BoundNumbers {
-            number: 22,
+            number: REPETITION_REACHABLE,
             value: address,
         },
         Bounded::Short(bytes) => BoundNumbers {
-            number: 23,
+            number: PATH_BUFFER_TOO_SHORT,
             value: bytes,
         },
         Bounded::Longest(cycles) => BoundNumbers {

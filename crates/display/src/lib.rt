@@ -1,5 +1,6 @@
 // Document 01, "Display": the forty bytes that say which dots are on.
 use machine::Machine;
+use machine::Ram;
 use machine::ram::peek;
 use machine_valid::is_valid;
 ghost use mathlib.Core.Path.{_≡_};
@@ -10,7 +11,7 @@ ghost use Rattle.laws.specs.Choice.{pick};
 ghost use Rattle.machine.specs.Valid.{Nibbles, Valid};
 ghost use Rattle.display.specs.Display.{pairAt, shownOf, DisplayOf};
 
-fn pair(ram: &[u8; 372], at: usize) -> u8
+fn pair(ram: &Ram, at: usize) -> u8
     requires { ⌜ (Nibbles (now ram)) × (at < 371) ⌝ }
     ensures { λ r. ⌜ r ≡ pairAt (now (ram .entry)) at ⌝ }
 {
@@ -20,7 +21,7 @@ fn pair(ram: &[u8; 372], at: usize) -> u8
 }
 
 // Byte j of the forty.
-fn byte(on: bool, ram: &[u8; 372], j: usize) -> u8
+fn byte(on: bool, ram: &Ram, j: usize) -> u8
     requires { ⌜ (Nibbles (now ram)) × (j < 40) ⌝ }
     ensures { λ r. ⌜ r ≡ pick on (pairAt (now (ram .entry)) (0x20 + 16 * (j / 5) + 2 * (j % 5))) 0 ⌝ }
 {

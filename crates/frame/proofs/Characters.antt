@@ -1,4 +1,4 @@
--- Laws of one frame: the value of a character, the three characters at a place, and what a frame's pins are.
+-- Laws of one frame: the three characters at a place, and what a frame's pins are.
 use mathlib.Core.Path.{_≡_, refl, ap, _∙_}
 use mathlib.Core.Bool.{Bool, true, false}
 use mathlib.Core.List.{List, [], _∷_}
@@ -9,42 +9,13 @@ use native.Mathlib.Omega.{arith}
 use lib.Dec.{ltb, lit<}
 use lib.ListN.{length, getD}
 use lib.Seq.{drop-cons}
-use borrow.Author.Tests.{ltb-true, le-leb, lt-leb}
+use borrow.Author.Tests.{ltb-true}
 use Rattle.laws.specs.Choice.{both}
 use Rattle.laws.proofs.Choices.{both-false}
-use Rattle.frame.specs.Frame.{digitOf, em73862Digits, isFrame, pinsOf, frameOf, charsAt, PinsInRange}
+use Rattle.hexadecimal.specs.Hexadecimal.{digitOf}
+use Rattle.frame.specs.Frame.{em73862Digits, isFrame, pinsOf, frameOf, charsAt, PinsInRange}
 use Rattle.frame.specs.declared.Pins.{Pins}
 use Rattle.frame.specs.declared.Frame.the-variants.{Seen, NoFrame}
-
--- the value of a character, by the range that it is in
-module _ (c : ℕ) where
-  pub before-digits : c < 48 → digitOf c ≡ 16
-  unfolding digitOf
-  before-digits h = rw (lt-leb 48 c h, lt-leb 65 c (omega arith), lt-leb 97 c (omega arith))
-
-  pub decimal : 48 ≤ c → c ≤ 57 → digitOf c ≡ c - 48
-  unfolding digitOf
-  decimal h k = rw (le-leb 48 c h, le-leb c 57 k)
-
-  pub before-capitals : 57 < c → c < 65 → digitOf c ≡ 16
-  unfolding digitOf
-  before-capitals h k = rw (le-leb 48 c (omega arith), lt-leb c 57 h, lt-leb 65 c k, lt-leb 97 c (omega arith))
-
-  pub capital : 65 ≤ c → c ≤ 70 → digitOf c ≡ c - 65 + 10
-  unfolding digitOf
-  capital h k = rw (le-leb 48 c (omega arith), lt-leb c 57 (omega arith), le-leb 65 c h, le-leb c 70 k) (omega arith)
-
-  pub before-small : 70 < c → c < 97 → digitOf c ≡ 16
-  unfolding digitOf
-  before-small h k = rw (le-leb 48 c (omega arith), lt-leb c 57 (omega arith), le-leb 65 c (omega arith), lt-leb c 70 h, lt-leb 97 c k)
-
-  pub small : 97 ≤ c → c ≤ 102 → digitOf c ≡ c - 97 + 10
-  unfolding digitOf
-  small h k = rw (le-leb 48 c (omega arith), lt-leb c 57 (omega arith), le-leb 65 c (omega arith), lt-leb c 70 (omega arith), le-leb 97 c h, le-leb c 102 k) (omega arith)
-
-  pub past-small : 102 < c → digitOf c ≡ 16
-  unfolding digitOf
-  past-small h = rw (le-leb 48 c (omega arith), lt-leb c 57 (omega arith), le-leb 65 c (omega arith), lt-leb c 70 (omega arith), le-leb 97 c (omega arith), lt-leb c 102 h)
 
 -- the characters at a place are those that stand there
 pub chars-at : (s : List ℕ) (k : ℕ) → k + 3 ≤ length s → charsAt s k ≡ getD s k 0 ∷ getD s (k + 1) 0 ∷ getD s (k + 2) 0 ∷ []

@@ -1,23 +1,14 @@
 -- Document 01, "The record": what three characters, and a buffer of them, say of the pins.
 use Prim.Native.Nat.{ℕ, zero, suc, _+_, _-_, _/_, _<_}
-use Prim.Native.Char.{Char, code}
 use mathlib.Core.Bool.{Bool, true, false}
 use mathlib.Core.List.{List, [], _∷_, map}
-use lib.Dec.{leb, ltb}
+use lib.Dec.{ltb}
 use lib.ListN.{length, getD, take, drop}
 use Rattle.laws.specs.Choice.{pick, both}
+use Rattle.hexadecimal.specs.Hexadecimal.{digitOf}
 use Rattle.frame.specs.declared.Pins.{Pins}
 use Rattle.frame.specs.declared.Frame.{Frame}
 use Rattle.frame.specs.declared.Frame.the-variants.{Seen, NoFrame}
-
--- "hexadecimal digits, either case": the value of a digit's character; 16 for any other character
-abbrev pub between : Char → Char → ℕ → Bool
-between a z c = both (leb (code a) c) (leb c (code z))
-
-unfoldable pub digitOf : ℕ → ℕ
-digitOf c =
-    pick (between "0" "9" c) (c - code "0")
-    (pick (between "A" "F" c) (10 + (c - code "A")) (pick (between "a" "f" c) (10 + (c - code "a")) 16))
 
 -- "A frame is three hexadecimal digits, either case: P0, P8, P4.0 (0 or 1)": what each digit stays below
 abbrev pub em73862Digits : List ℕ

@@ -1,10 +1,11 @@
 // Frames: three characters as pins, and sequences of them.
+use hexadecimal::digit;
 use laws::both;
 ghost use mathlib.Core.Path.{_≡_};
 ghost use Prim.Native.Nat.{_+_, _≤_};
 ghost use lib.ListN.{length};
 ghost use Rattle.frame.specs.Before.{AsBefore, AfterFrame};
-ghost use Rattle.frame.specs.Frame.{digitOf, em73862Digits, isFrame, pinsOf, charsAt, frameOf, frameAt, areFrames};
+ghost use Rattle.frame.specs.Frame.{em73862Digits, isFrame, pinsOf, charsAt, frameOf, frameAt, areFrames};
 
 // What a frame says of the pins: P0 and P8, and P4.0, 0 or 1.
 pub struct Pins {
@@ -16,31 +17,6 @@ pub struct Pins {
 pub enum Frame {
     Seen(Pins),
     NoFrame,
-}
-
-// The value of a hexadecimal digit's character, 16 where it is none.
-fn digit(c: u8) -> u8
-    ensures { λ r. ⌜ r ≡ digitOf c ⌝ }
-{
-    if c < b'0' {
-        return 16;
-    }
-    if c <= b'9' {
-        return c - b'0';
-    }
-    if c < b'A' {
-        return 16;
-    }
-    if c <= b'F' {
-        return c - b'A' + 10;
-    }
-    if c < b'a' {
-        return 16;
-    }
-    if c <= b'f' {
-        return c - b'a' + 10;
-    }
-    16
 }
 
 // The pins at a place of a sequence, whose three characters there are digits.

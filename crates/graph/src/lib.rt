@@ -1,1 +1,2 @@
-// A flow graph, its reachable places and its longest paths: definitions and laws. What follows them on arrays is in the crates search, sums, components, loops, route and longest.
+// Flow graphs: definitions and laws, and the size of the arrays that a graph is laid in.
+pub const PLACES: usize = 16384;

@@ -1,4 +1,5 @@
 // The longest path from a place, or why there is none.
+use graph::PLACES;
 use graph_loops::first_loop;
 use graph_route::path_len;
 use graph_route::write_path;
@@ -7,6 +8,7 @@ use graph_sums::sums;
 ghost use mathlib.Core.Path.{_≡_};
 ghost use Prim.Native.Nat.{_<_};
 ghost use lib.ListN.{length};
+ghost use Rattle.graph.specs.Laid.{places};
 ghost use Rattle.graph.specs.Laid.{graphOf, costOf, Laid, Costs};
 ghost use Rattle.graph_search.specs.Marks.{Blank, Listed};
 ghost use Rattle.graph_search.specs.Search.{Reached};
@@ -34,13 +36,13 @@ fn find(
     stage: &mut [u8],
     back: &mut [u16],
 ) -> Found
-    requires { ⌜ Laid (now kind) (now next) (now other) 16384 × Costs (now kind) (now cost) 16384 × (s < 16384) × (length (now marks) ≡ 16384)
+    requires { ⌜ Laid (now kind) (now next) (now other) places × Costs (now kind) (now cost) places × (s < places) × (length (now marks) ≡ places)
         × Reached (graphOf (now kind) (now next) (now other)) s (now marks) × Listed (now marks) (now queue) count
-        × (length (now d) ≡ 16384) × Blank (now d) × (length (now stage) ≡ 16384) × (length (now back) ≡ 16384) × Blank (now back) ⌝ }
+        × (length (now d) ≡ places) × Blank (now d) × (length (now stage) ≡ places) × (length (now back) ≡ places) × Blank (now back) ⌝ }
     ensures { λ r. ⌜ Means (graphOf (now (kind .entry)) (now (next .entry)) (now (other .entry))) (costOf (now (cost .entry))) s (now (path .entry)) (now (path .exit)) r ⌝ }
 {
     let bad = lowest(kind, queue, count);
-    if bad < 16384 {
+    if bad < PLACES {
         return Found::Excluded(bad);
     }
     sums(kind, next, other, cost, s, queue, count, d, stage, back);
@@ -70,13 +72,13 @@ pub fn longest(
     count: usize,
     path: &mut [u8],
 ) -> Found
-    requires { ⌜ Laid (now kind) (now next) (now other) 16384 × Costs (now kind) (now cost) 16384 × (s < 16384) × (length (now marks) ≡ 16384)
+    requires { ⌜ Laid (now kind) (now next) (now other) places × Costs (now kind) (now cost) places × (s < places) × (length (now marks) ≡ places)
         × Reached (graphOf (now kind) (now next) (now other)) s (now marks) × Listed (now marks) (now queue) count ⌝ }
     ensures { λ r. ⌜ Means (graphOf (now (kind .entry)) (now (next .entry)) (now (other .entry))) (costOf (now (cost .entry))) s (now (path .entry)) (now (path .exit)) r ⌝ }
 {
-    let mut d = [0u32; 16384];
-    let mut stage = [0u8; 16384];
-    let mut back = [0u16; 16384];
+    let mut d = [0u32; PLACES];
+    let mut stage = [0u8; PLACES];
+    let mut back = [0u16; PLACES];
     find(
         kind,
         next,

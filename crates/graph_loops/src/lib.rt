@@ -1,9 +1,11 @@
 // The lowest of the places that are reached from a place that is reached from itself.
+use graph::PLACES;
 use graph_ranks::components;
 use graph_search::reach;
 ghost use mathlib.Core.Path.{_≡_};
 ghost use Prim.Native.Nat.{_<_};
 ghost use lib.ListN.{length};
+ghost use Rattle.graph.specs.Laid.{places};
 ghost use Rattle.graph.specs.Graph.{ReachPlus};
 ghost use Rattle.graph.specs.Laid.{graphOf, Laid};
 ghost use Rattle.graph_search.specs.Marks.{Marked, Queue, Listed};
@@ -143,7 +145,7 @@ fn find(
 ) -> usize
     requires { ⌜ Laid (now kind) (now next) (now other) (length (now marks)) × (s < length (now marks))
         × Reached (graphOf (now kind) (now next) (now other)) s (now marks) × Listed (now marks) (now queue) count
-        × (length (now rank) ≡ length (now marks)) × (length (now m) ≡ length (now marks)) × (length (now q) ≡ length (now marks)) × (length (now marks) ≡ 16384) ⌝ }
+        × (length (now rank) ≡ length (now marks)) × (length (now m) ≡ length (now marks)) × (length (now q) ≡ length (now marks)) × (length (now marks) ≡ places) ⌝ }
     ensures { λ r. ⌜ Scan (λ v. Marked (now (marks .entry)) v × ReachPlus (graphOf (now (kind .entry)) (now (next .entry)) (now (other .entry))) v v) (length (now (marks .entry))) r ⌝ }
 {
     components(kind, next, other, s, rank);
@@ -161,13 +163,13 @@ pub fn first_loop(
     queue: &[u16],
     count: usize,
 ) -> usize
-    requires { ⌜ Laid (now kind) (now next) (now other) 16384 × (s < 16384) × (length (now marks) ≡ 16384)
+    requires { ⌜ Laid (now kind) (now next) (now other) places × (s < places) × (length (now marks) ≡ places)
         × Reached (graphOf (now kind) (now next) (now other)) s (now marks) × Listed (now marks) (now queue) count ⌝ }
-    ensures { λ r. ⌜ Scan (λ v. Marked (now (marks .entry)) v × ReachPlus (graphOf (now (kind .entry)) (now (next .entry)) (now (other .entry))) v v) 16384 r ⌝ }
+    ensures { λ r. ⌜ Scan (λ v. Marked (now (marks .entry)) v × ReachPlus (graphOf (now (kind .entry)) (now (next .entry)) (now (other .entry))) v v) places r ⌝ }
 {
-    let mut rank = [0u16; 16384];
-    let mut m = [0u8; 16384];
-    let mut q = [0u16; 16384];
+    let mut rank = [0u16; PLACES];
+    let mut m = [0u8; PLACES];
+    let mut q = [0u16; PLACES];
     find(
         kind,
         next,

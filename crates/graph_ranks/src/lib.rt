@@ -1,10 +1,12 @@
 // Ranks for the places that are reached from a place: places that reach one another get the same, and along an edge the rank does not rise.
 // That is not promised, and whoever relies on it tests it: what is proved here is that the walk stays among the places and ends.
 // A place that is begun has a high rank, falling from 65,535, and in the end the number of its component, in the order in which they are complete.
+use graph::PLACES;
 use graph_search::successor;
 ghost use mathlib.Core.Path.{_≡_};
 ghost use Prim.Native.Nat.{_<_, _≤_};
 ghost use lib.ListN.{length, getD};
+ghost use Rattle.graph.specs.Laid.{places};
 ghost use Rattle.graph.specs.Laid.{Laid};
 ghost use Rattle.graph_ranks.specs.Moves.{Ready, Moved};
 
@@ -19,7 +21,7 @@ struct Spot {
 
 // The walk goes on from v to w, which is not begun.
 fn begin(rank: &mut [u16], number: &mut [u16], back: &mut [u16], a: Spot, w: usize) -> Spot
-    requires { ⌜ (length (now rank) ≤ 16384) × (length (now number) ≡ length (now rank)) × (length (now back) ≡ length (now rank)) × (w < length (now rank)) × (a .v < length (now rank)) × Ready a ⌝ }
+    requires { ⌜ (length (now rank) ≤ places) × (length (now number) ≡ length (now rank)) × (length (now back) ≡ length (now rank)) × (w < length (now rank)) × (a .v < length (now rank)) × Ready a ⌝ }
     ensures { λ r. ⌜ Moved a r ⌝ }
 {
     let v = a.v;
@@ -36,7 +38,7 @@ fn begin(rank: &mut [u16], number: &mut [u16], back: &mut [u16], a: Spot, w: usi
 }
 
 fn raise(rank: &mut [u16], v: usize, to: u16)
-    requires { ⌜ length (now rank) ≤ 16384 ⌝ }
+    requires { ⌜ length (now rank) ≤ places ⌝ }
 {
     if rank.len() <= v {
         return;
@@ -76,7 +78,7 @@ fn go_on(
 
 // Leaves v, whose successors were tried. Where it reaches back to a place begun before it, it waits on the stack; else those that wait above it are of its component.
 fn leave(rank: &mut [u16], number: &[u16], below: &mut [u16], back: &[u16], a: Spot) -> Spot
-    requires { ⌜ (length (now rank) ≤ 16384) × (length (now number) ≡ length (now rank)) × (length (now below) ≡ length (now rank))
+    requires { ⌜ (length (now rank) ≤ places) × (length (now number) ≡ length (now rank)) × (length (now below) ≡ length (now rank))
         × (length (now back) ≡ length (now rank)) × (a .v < length (now rank)) × Ready a ⌝ }
     ensures { λ r. ⌜ Moved a r ⌝ }
 {
@@ -177,12 +179,12 @@ fn walk(
 
 // Ranks the places that are reached from s, in an array of zeros.
 pub fn components(kind: &[u8], next: &[u16], other: &[u16], s: usize, rank: &mut [u16])
-    requires { ⌜ Laid (now kind) (now next) (now other) 16384 × (s < 16384) × (length (now rank) ≡ 16384) ⌝ }
+    requires { ⌜ Laid (now kind) (now next) (now other) places × (s < places) × (length (now rank) ≡ places) ⌝ }
 {
-    let mut number = [0u16; 16384];
-    let mut below = [0u16; 16384];
-    let mut back = [0u16; 16384];
-    let mut stage = [0u8; 16384];
+    let mut number = [0u16; PLACES];
+    let mut below = [0u16; PLACES];
+    let mut back = [0u16; PLACES];
+    let mut stage = [0u8; PLACES];
     walk(
         kind,
         next,

@@ -2,11 +2,13 @@
 // The words are judged from the left: the image, the address, the number of lines, and that there are no more.
 use libc::STDERR_FILENO;
 use libc::STDOUT_FILENO;
+use numbers::IMAGE_BYTES;
 use text_words::Address;
 use text_words::Number;
 ghost use mathlib.Core.Path.{_≡_};
 ghost use Prim.Native.Nat.{_≤_};
 ghost use lib.ListN.{length};
+ghost use Rattle.numbers.specs.Sizes.{addresses, imageBytes};
 
 fn usage() {
     io::write_all(STDERR_FILENO, b"usage: lister IMAGE [ADDRESS [COUNT]]\n");
@@ -20,7 +22,7 @@ fn room() -> [u8; 303107]
 }
 
 fn list(image: &[u8], at: u16, count: u32)
-    requires { ⌜ (length (now image) ≡ 8192) × (count ≤ 8192) ⌝ }
+    requires { ⌜ (length (now image) ≡ imageBytes) × (count ≤ addresses) ⌝ }
 {
     let mut out = room();
     let n = text_lister::line::listing(&mut out, image, at, count);
@@ -28,7 +30,7 @@ fn list(image: &[u8], at: u16, count: u32)
 }
 
 fn list_from(image: &[u8], at: u16)
-    requires { ⌜ length (now image) ≡ 8192 ⌝ }
+    requires { ⌜ length (now image) ≡ imageBytes ⌝ }
 {
     if os::arg_count() < 4 {
         list(image, at, 8192);
@@ -48,7 +50,7 @@ fn list_from(image: &[u8], at: u16)
 }
 
 fn list_image(image: &[u8])
-    requires { ⌜ length (now image) ≡ 8192 ⌝ }
+    requires { ⌜ length (now image) ≡ imageBytes ⌝ }
 {
     if os::arg_count() < 3 {
         list(image, 0, 8192);
@@ -75,7 +77,7 @@ fn main() {
     let mut image = [0u8; 8193];
     let size = io::read_full(file, &mut image);
     libc::close(file);
-    if size != 8192 {
+    if size != IMAGE_BYTES {
         io::write_all(STDOUT_FILENO, b"refused 01\n");
         return;
     }

@@ -4,6 +4,7 @@ use mathlib.Core.Bool.{Bool, true, false, not}
 use mathlib.Core.List.{List, [], _∷_, _++_}
 use lib.Dec.{eqb}
 use lib.ListN.{length}
+use Rattle.numbers.specs.Sizes.{imageBytes}
 use Rattle.laws.specs.Choice.{pick}
 use Rattle.numbers.specs.ComesBack.{image-is-not-8192-bytes, no-frame}
 use Rattle.sheet.specs.Reading.{romOf}
@@ -52,6 +53,6 @@ toldOver rom m (l ∷ ls) =
 -- "It starts from the fresh record"; "A bad or unreadable image .. prints "refused 01" .. and ends; 01 comes before the header"
 unfoldable pub listingOf : List ℕ → List ℕ → List ℕ
 listingOf image script =
-    pick (eqb (length image) 8192)
+    pick (eqb (length image) imageBytes)
     (header ++ toldOver (romOf image) freshMachine (linesOf script))
     (refusedLine image-is-not-8192-bytes)

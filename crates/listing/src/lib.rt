@@ -2,12 +2,14 @@
 use frame::Frame;
 use frame::frame_of;
 use machine::Core;
-use text_script::line_end;
+use machine::Ram;
 use step::Options;
 use step::advance;
+use text_script::line_end;
 ghost use mathlib.Core.Path.{_≡_};
 ghost use Prim.Native.Nat.{_+_, _≤_};
 ghost use lib.ListN.{length};
+ghost use Rattle.numbers.specs.Sizes.{imageBytes};
 ghost use Rattle.sheet.specs.Reading.{romOf};
 ghost use Rattle.machine.specs.Valid.{ValidCore, Nibbles};
 ghost use Rattle.listing.specs.Listing.{answerOf};
@@ -32,12 +34,12 @@ pub struct Fed {
 pub fn tell(
     image: &[u8],
     m: Core,
-    ram: &mut [u8; 372],
+    ram: &mut Ram,
     text: &[u8],
     out: &mut [u8],
     from: usize,
 ) -> Told
-    requires { ⌜ (length (now image) ≡ 8192) × (ValidCore m) × (Nibbles (now ram)) × (from + 26 ≤ length (now out)) ⌝ }
+    requires { ⌜ (length (now image) ≡ imageBytes) × (ValidCore m) × (Nibbles (now ram)) × (from + 26 ≤ length (now out)) ⌝ }
     ensures { λ r. ⌜ Tells (answerOf (romOf (now (image .entry))) (record { core = m; ram = now (ram .entry) }) (now (text .entry))) (now (out .entry)) (now (out .exit)) from (now (ram .exit)) r ⌝ }
 {
     let Frame::Seen(pins) = frame_of(text) else {
@@ -77,12 +79,12 @@ fn so_far(core: Core, ended: bool, used: usize, at: usize) -> Fed
 pub fn feed(
     image: &[u8],
     m: Core,
-    ram: &mut [u8; 372],
+    ram: &mut Ram,
     part: &[u8],
     out: &mut [u8],
     from: usize,
 ) -> Fed
-    requires { ⌜ (length (now image) ≡ 8192) × (ValidCore m) × (Nibbles (now ram)) × (from ≤ length (now out)) ⌝ }
+    requires { ⌜ (length (now image) ≡ imageBytes) × (ValidCore m) × (Nibbles (now ram)) × (from ≤ length (now out)) ⌝ }
     ensures { λ r. ⌜ Feeds (romOf (now (image .entry))) (record { core = m; ram = now (ram .entry) }) (now (part .entry)) (now (out .entry)) (now (out .exit)) from (now (ram .exit)) r ⌝ }
 {
     let mut core = m;

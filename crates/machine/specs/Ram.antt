@@ -5,13 +5,14 @@ use mathlib.Core.List.{List}
 use lib.Dec.{leb}
 use lib.ListN.{getD}
 use Rattle.laws.specs.Choice.{pick, both}
+use Rattle.numbers.specs.Sizes.{ramNibbles}
 use Rattle.machine.specs.declared.Core.{Core}
 
 -- "RAM: 372 nibbles, 000h to 0F3h and 100h to 17Fh."
 unfoldable pub placeOf : ℕ → ℕ
 placeOf address =
     pick (leb address 0x0F3) address
-    (pick (both (leb 0x100 address) (leb address 0x17F)) (0x0F4 + (address - 0x100)) 372)
+    (pick (both (leb 0x100 address) (leb address 0x17F)) (0x0F4 + (address - 0x100)) ramNibbles)
 
 -- "bank P9.3"
 abbrev pub bankOf : Core → ℕ

@@ -3,6 +3,7 @@ use Prim.Native.Nat.{ℕ, _/_, _%_, _<_}
 use mathlib.Core.Path.{_≡_}
 use mathlib.Core.List.{List}
 use lib.ListN.{getD}
+use Rattle.numbers.specs.Sizes.{addresses, ramNibbles}
 use Rattle.frame.specs.Frame.{PinsInRange}
 use Rattle.machine.specs.declared.Registers.{Registers}
 use Rattle.machine.specs.declared.Pointers.{Pointers}
@@ -61,7 +62,7 @@ ModeFits Mode.Hold p16 = (p16 / 4 % 2 ≡ 1) × (p16 % 4 ≡ 3)
 -- "PC 0 to 8191." "Last frame seen."
 pub record ValidCore (m : Core) : Type 0 where
   pub regs : ValidRegisters (m .regs)
-  pub pc : m .pc < 8192
+  pub pc : m .pc < addresses
   pub ptrs : ValidPointers (m .ptrs)
   pub ints : ValidInterrupts (m .ints)
   pub timers : ValidTimers (m .timers)
@@ -71,7 +72,7 @@ pub record ValidCore (m : Core) : Type 0 where
 
 -- "RAM: 372 nibbles": each is 0 to 15
 pub record Nibbles (ram : List ℕ) : Type 0 where
-  pub each : (i : ℕ) → i < 372 → getD ram i 0 < 16
+  pub each : (i : ℕ) → i < ramNibbles → getD ram i 0 < 16
 
 pub record Valid (m : Machine) : Type 0 where
   pub core : ValidCore (m .core)

@@ -4,6 +4,7 @@ pub mod ram;
 pub mod stack;
 
 use frame::Pins;
+use numbers::RAM_NIBBLES;
 use ports::Mode;
 use ports::Ports;
 
@@ -46,7 +47,10 @@ pub struct Core {
     pub mode: Mode,
 }
 
+// "RAM: 372 nibbles, 000h to 0F3h and 100h to 17Fh", a nibble a place.
+pub type Ram = [u8; RAM_NIBBLES];
+
 pub struct Machine {
     pub core: Core,
-    pub ram: [u8; 372],
+    pub ram: Ram,
 }

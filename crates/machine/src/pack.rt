@@ -1,4 +1,5 @@
 // PC and the flags as the four nibbles of a stack level, by shifts and masks, and a level of RAM.
+use crate::Ram;
 use crate::Registers;
 use crate::ram::peek;
 use crate::ram::poke;
@@ -6,13 +7,14 @@ use bits::bit_of;
 use bits::nibble_at;
 ghost use mathlib.Core.Path.{_≡_};
 ghost use Prim.Native.Nat.{_+_, _*_, _%_, _≤_, _<_};
+ghost use Rattle.numbers.specs.Sizes.{addresses};
 ghost use Rattle.machine.specs.Valid.{Nibbles};
 ghost use Rattle.machine.specs.Ram.{Peeked};
 ghost use Rattle.machine.specs.Stack.{stored, topOf, pcAt, keptTop, level};
 
 // The nibble of PC12, CF, ZF, SF from bit 0 up.
 pub fn top_of(pc: u16, r: Registers) -> u8
-    requires { ⌜ pc < 8192 ⌝ }
+    requires { ⌜ pc < addresses ⌝ }
     ensures { λ x. ⌜ x ≡ topOf pc r ⌝ }
 {
     ((bit_of(r.sf) << 1 | bit_of(r.zf)) << 1 | bit_of(r.cf)) << 1 | nibble_at(pc, 12)
@@ -20,7 +22,7 @@ pub fn top_of(pc: u16, r: Registers) -> u8
 
 // The nibble of PC12, with the flag bits of the one that stands there.
 pub fn kept_top(pc: u16, old: u8) -> u8
-    requires { ⌜ (pc < 8192) × (old < 16) ⌝ }
+    requires { ⌜ (pc < addresses) × (old < 16) ⌝ }
     ensures { λ x. ⌜ x ≡ keptTop pc old ⌝ }
 {
     old & 14 | nibble_at(pc, 12)
@@ -41,7 +43,7 @@ fn place_of(n: u8) -> usize
 }
 
 // The four nibbles of level n.
-pub fn store(ram: &mut [u8; 372], n: u8, pc: u16, top: u8)
+pub fn store(ram: &mut Ram, n: u8, pc: u16, top: u8)
     requires { ⌜ n ≤ 12 ⌝ }
     ensures { λ _. ⌜ now (ram .exit) ≡ stored (now (ram .entry)) n pc top ⌝ }
 {
@@ -52,7 +54,7 @@ pub fn store(ram: &mut [u8; 372], n: u8, pc: u16, top: u8)
     poke(ram, at + 3, top);
 }
 
-pub fn pc_at(ram: &[u8; 372], n: u8) -> u16
+pub fn pc_at(ram: &Ram, n: u8) -> u16
     requires { ⌜ (Nibbles (now ram)) × (n ≤ 12) ⌝ }
     ensures { λ x. ⌜ x ≡ pcAt (now (ram .entry)) n ⌝ }
 {
@@ -65,7 +67,7 @@ pub fn pc_at(ram: &[u8; 372], n: u8) -> u16
     )
 }
 
-pub fn top_at(ram: &[u8; 372], n: u8) -> u8
+pub fn top_at(ram: &Ram, n: u8) -> u8
     requires { ⌜ (Nibbles (now ram)) × (n ≤ 12) ⌝ }
     ensures { λ x. ⌜ Peeked (now (ram .entry)) (level n + 3) x ⌝ }
 {

@@ -1,8 +1,11 @@
 // RAM: the place of an address, and the two functions that touch a nibble.
+use crate::Ram;
 use crate::Core;
+use numbers::RAM_NIBBLES;
 ghost use mathlib.Core.Path.{_≡_};
 ghost use Prim.Native.Nat.{_*_, _+_, _<_, _≤_};
 ghost use lib.ListN.{set};
+ghost use Rattle.numbers.specs.Sizes.{ramNibbles};
 ghost use Rattle.machine.specs.Valid.{Nibbles};
 ghost use Rattle.machine.specs.Ram.{placeOf, bankOf, atHL, atX, atY, Peeked};
 
@@ -14,12 +17,12 @@ fn place(address: u16) -> usize
         return at;
     }
     if at < 0x100 {
-        return 372;
+        return RAM_NIBBLES;
     }
     if at <= 0x17F {
         return 0x0F4 + (at - 0x100);
     }
-    372
+    RAM_NIBBLES
 }
 
 fn bank(m: Core) -> u16
@@ -48,15 +51,15 @@ pub fn at_y(y: u8) -> usize
     place(y as u16)
 }
 
-pub fn peek(ram: &[u8; 372], at: usize) -> u8
-    requires { ⌜ (Nibbles (now ram)) × (at < 372) ⌝ }
+pub fn peek(ram: &Ram, at: usize) -> u8
+    requires { ⌜ (Nibbles (now ram)) × (at < ramNibbles) ⌝ }
     ensures { λ r. ⌜ Peeked (now (ram .entry)) at r ⌝ }
 {
     ram[at]
 }
 
-pub fn poke(ram: &mut [u8; 372], at: usize, v: u8)
-    requires { ⌜ at < 372 ⌝ }
+pub fn poke(ram: &mut Ram, at: usize, v: u8)
+    requires { ⌜ at < ramNibbles ⌝ }
     ensures { λ _. ⌜ now (ram .exit) ≡ set (now (ram .entry)) at v ⌝ }
 {
     ram[at] = v;

@@ -10,6 +10,7 @@ use bits::weight;
 use bits::without_bit;
 ghost use mathlib.Core.Path.{_≡_};
 ghost use Prim.Native.Nat.{_<_};
+ghost use Rattle.numbers.specs.Sizes.{addresses};
 ghost use Rattle.machine.specs.Valid.{Nibbles};
 ghost use Rattle.machine.specs.Stack.{CanPush, CanPop, pushed, popped, called, accepted, flagsReturned, interruptEntry};
 
@@ -53,7 +54,7 @@ impl Machine {
 
     // A call that returns to ret: the flag bits of its nibble stay.
     pub fn call(self, ret: u16, target: u16) -> Machine
-        requires { ⌜ (Nibbles (self .ram)) × (CanPush (self .core)) × (ret < 8192) ⌝ }
+        requires { ⌜ (Nibbles (self .ram)) × (CanPush (self .core)) × (ret < addresses) ⌝ }
         ensures { λ r. ⌜ r ≡ called self ret target ⌝ }
     {
         let old = top_at(&self.ram, self.core.ptrs.sp - 1);
@@ -64,7 +65,7 @@ impl Machine {
 
     // The interrupt of a latch, by its number.
     pub fn accept(self, latch: u8) -> Machine
-        requires { ⌜ (CanPush (self .core)) × (self .core .pc < 8192) × (latch < 6) ⌝ }
+        requires { ⌜ (CanPush (self .core)) × (self .core .pc < addresses) × (latch < 6) ⌝ }
         ensures { λ r. ⌜ r ≡ accepted self latch ⌝ }
     {
         let pc = self.core.pc;

@@ -50,9 +50,12 @@ headOf m = nibblesOf m ++ othersOf m
 abbrev pub recordBytes : Machine → List ℕ
 recordBytes m = headOf (m .core) ++ m .ram
 
--- the buffer holds the record: it is its 409 bytes and no more
+abbrev pub recordSize : ℕ
+recordSize = 409
+
+-- the buffer holds the record: it is its bytes and no more
 pub record Holds (bytes : List ℕ) (m : Machine) : Type 0 where
-  pub size : length bytes ≡ 409
+  pub size : length bytes ≡ recordSize
   pub same : bytes ≡ recordBytes m
 
 abbrev pub HoldsNone : List ℕ → Type 0

@@ -7,11 +7,13 @@ use machine::Core;
 use machine::Interrupts;
 use machine::Machine;
 use machine::Pointers;
+use machine::Ram;
 use machine::Registers;
 use machine::Timers;
+use machine_start::fresh;
+use numbers::RAM_NIBBLES;
 use ports::Mode;
 use ports::Ports;
-use machine_start::fresh;
 ghost use mathlib.Core.Path.{_≡_};
 ghost use mathlib.Core.Bool.{false};
 ghost use mathlib.Core.List.{[], _∷_};
@@ -20,8 +22,11 @@ ghost use lib.ListN.{length, take, drop};
 ghost use Rattle.laws.specs.Decides.{Decides};
 ghost use Rattle.laws.specs.Writing.{Wrote};
 ghost use Rattle.bits.specs.Bits.{bitOf};
-ghost use Rattle.machine_bytes.specs.Layout.{two, four, modeNumber, latchBytes, nibblesOf, othersOf, headOf, Holds};
+ghost use Rattle.machine_bytes.specs.Layout.{recordSize, two, four, modeNumber, latchBytes, nibblesOf, othersOf, headOf, Holds};
 ghost use Rattle.machine_bytes.specs.Unpacked.{FlagsFit, RegistersAt, TimersAt, Unpacks};
+
+// How many bytes a record takes.
+pub const RECORD_BYTES: usize = 409;
 
 // Whether a buffer holds a record, and that record; where it holds none, the fresh one.
 pub struct Unpacked {
@@ -116,7 +121,7 @@ fn put(out: &mut [u8], from: usize, part: &[u8])
 
 // The record's bytes in a buffer of 409.
 pub fn pack(m: Machine, out: &mut [u8])
-    requires { ⌜ length (now out) ≡ 409 ⌝ }
+    requires { ⌜ length (now out) ≡ recordSize ⌝ }
     ensures { λ _. ⌜ Holds (now (out .exit)) m ⌝ }
 {
     let core = m.core;
@@ -249,7 +254,7 @@ fn no_record() -> Unpacked
 }
 
 fn head_at(bytes: &[u8]) -> [u8; 37]
-    requires { ⌜ length (now bytes) ≡ 409 ⌝ }
+    requires { ⌜ length (now bytes) ≡ recordSize ⌝ }
     ensures { λ r. ⌜ r ≡ take 37 (now (bytes .entry)) ⌝ }
 {
     let mut head = [0u8; 37];
@@ -257,11 +262,11 @@ fn head_at(bytes: &[u8]) -> [u8; 37]
     head
 }
 
-fn ram_at(bytes: &[u8]) -> [u8; 372]
-    requires { ⌜ length (now bytes) ≡ 409 ⌝ }
+fn ram_at(bytes: &[u8]) -> Ram
+    requires { ⌜ length (now bytes) ≡ recordSize ⌝ }
     ensures { λ r. ⌜ r ≡ drop 37 (now (bytes .entry)) ⌝ }
 {
-    let mut ram = [0u8; 372];
+    let mut ram = [0u8; RAM_NIBBLES];
     copy(&bytes[37..], &mut ram);
     ram
 }
@@ -270,7 +275,7 @@ fn ram_at(bytes: &[u8]) -> [u8; 372]
 pub fn unpack(bytes: &[u8]) -> Unpacked
     ensures { λ r. ⌜ Unpacks (now (bytes .entry)) r ⌝ }
 {
-    if bytes.len() != 409 {
+    if bytes.len() != RECORD_BYTES {
         return no_record();
     }
     let head = head_at(bytes);

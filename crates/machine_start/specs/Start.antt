@@ -2,6 +2,7 @@
 use mathlib.Core.Path.{_≡_}
 use mathlib.Core.Bool.{true, false}
 use lib.ListN.{replicate}
+use Rattle.numbers.specs.Sizes.{ramNibbles}
 use Rattle.frame.specs.declared.Pins.{Pins}
 use Rattle.numbers.specs.ComesBack.{record-outside-the-ranges}
 use Rattle.machine.specs.Valid.{Valid}
@@ -38,7 +39,7 @@ abbrev pub freshMachine : Machine
 freshMachine = record {
   core =
       freshCore (record { acc = 0; hr = 0; lr = 0; cf = false; zf = false; sf = true }) (record { sp = 0; dp = 0 });
-  ram = replicate 372 0;
+  ram = replicate ramNibbles 0;
 }
 
 -- "Reset gives this but keeps RAM, ACC, HR, LR, SP, DP, CF and ZF."

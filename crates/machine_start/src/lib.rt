@@ -6,9 +6,11 @@ use machine::Machine;
 use machine::Pointers;
 use machine::Registers;
 use machine::Timers;
+use machine_valid::is_valid;
+use numbers::RAM_NIBBLES;
+use numbers::RECORD_OUTSIDE_THE_RANGES;
 use ports::Mode;
 use ports::Ports;
-use machine_valid::is_valid;
 ghost use mathlib.Core.Path.{_≡_};
 ghost use Rattle.machine_start.specs.Start.{freshCore, freshMachine, resetCore, ResetOf};
 
@@ -69,7 +71,7 @@ pub fn fresh() -> Machine
         sf: true,
     };
     let core = fresh_core(regs, Pointers { sp: 0, dp: 0 });
-    let ram = [0u8; 372];
+    let ram = [0u8; RAM_NIBBLES];
     Machine {
         core: core,
         ram: ram,
@@ -99,7 +101,7 @@ pub fn reset(m: Machine) -> AfterReset
         };
     }
     AfterReset {
-        refusal: 2,
+        refusal: RECORD_OUTSIDE_THE_RANGES,
         machine: m,
     }
 }

@@ -5,8 +5,11 @@ use machine::Core;
 use machine::Interrupts;
 use machine::Machine;
 use machine::Pointers;
+use machine::Ram;
 use machine::Registers;
 use machine::Timers;
+use numbers::ADDRESSES;
+use numbers::RAM_NIBBLES;
 use ports::Mode;
 use ports::Ports;
 ghost use Prim.Native.Nat.{_<_};
@@ -73,7 +76,7 @@ pub fn core_is_valid(m: Core) -> bool
     let mode = m.mode;
     let registers = both(
         registers_valid(m.regs),
-        both(m.pc < 8192, pointers_valid(m.ptrs)),
+        both(m.pc < ADDRESSES, pointers_valid(m.ptrs)),
     );
     let clocks = both(interrupts_valid(m.ints), timers_valid(m.timers));
     let outside = both(
@@ -83,11 +86,11 @@ pub fn core_is_valid(m: Core) -> bool
     both(registers, both(clocks, outside))
 }
 
-pub fn are_nibbles(ram: &[u8; 372]) -> bool
+pub fn are_nibbles(ram: &Ram) -> bool
     ensures { λ x. ⌜ Decides x (Nibbles (now (ram .entry))) ⌝ }
 {
     let mut i: usize = 0;
-    while i < 372 {
+    while i < RAM_NIBBLES {
         if 16 <= ram[i] {
             return false;
         }

@@ -1,1 +1,2 @@
 pub mod ComesBack
+pub mod Sizes

@@ -1,5 +1,6 @@
 // The ports: what reading one gives, what writing one leaves in its latch, and what writing P16 does to the mode.
 use frame::Pins;
+use numbers::ABSENT_PORT;
 ghost use mathlib.Core.Path.{_≡_};
 ghost use Prim.Native.Nat.{_<_};
 ghost use Rattle.ports.specs.Ports.{latchOf, withLatch, p4Pins, readAs, readPort, reservedStop, writeStop, p27After, writePort, modeAfter};
@@ -146,7 +147,7 @@ pub fn read_port(sound: bool, pins: Pins, p: Ports, n: u8) -> PortRead
         8 => read_as(pins.p8, with_latch(p, 8, 15)),
         9 => read_as(p.p9, p),
         _ => PortRead {
-            stop: 33,
+            stop: ABSENT_PORT,
             value: 0,
             ports: p,
         },

@@ -3,6 +3,7 @@ use Prim.Native.Nat.{ℕ}
 use mathlib.Core.List.{List, [], _∷_}
 use lib.Dec.{eqb, ltb}
 use lib.ListN.{length}
+use Rattle.numbers.specs.Sizes.{addresses, imageBytes}
 use Rattle.laws.specs.Choice.{pick}
 use Rattle.numbers.specs.ComesBack.{Paper, answered, refused, image-is-not-8192-bytes, address-over-8191, unassigned-code}
 use Rattle.sheet.specs.Reading.{readAt, romOf, bytesOf, cyclesOf}
@@ -30,6 +31,6 @@ paperOfCode Unassigned = refused unassigned-code
 -- what has to come back of an image and an address
 abbrev pub readPaper : List ℕ → ℕ → Paper
 readPaper image at =
-    pick (eqb (length image) 8192)
-    (pick (ltb at 8192) (paperOfCode (readAt (romOf image) at)) (refused address-over-8191))
+    pick (eqb (length image) imageBytes)
+    (pick (ltb at addresses) (paperOfCode (readAt (romOf image) at)) (refused address-over-8191))
     (refused image-is-not-8192-bytes)

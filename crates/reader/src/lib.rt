@@ -1,11 +1,14 @@
 // The reader: what a code is, by its bytes and by an image and an address.
-use sheet_rows::found;
+use numbers::IMAGE_BYTES;
+use numbers::LAST_ADDRESS;
 use sheet::Insn;
 use sheet::Read;
+use sheet_rows::found;
 ghost use mathlib.Core.Path.{_≡_};
 ghost use mathlib.Core.List.{[], _∷_};
 ghost use lib.ListN.{length};
 ghost use Prim.Native.Nat.{_<_};
+ghost use Rattle.numbers.specs.Sizes.{addresses, imageBytes};
 ghost use Rattle.sheet.specs.Reading.{readBytes, readAt, romOf};
 ghost use Rattle.reader.specs.Answer.{paperOf, readPaper};
 
@@ -36,21 +39,21 @@ pub fn decode(b0: u8, b1: u8, b2: u8) -> Read
 
 // What stands at an address of an image; the fetch wraps at the image's end.
 pub fn read_at(image: &[u8], at: u16) -> Read
-    requires { ⌜ (length (now image) ≡ 8192) × (at < 8192) ⌝ }
+    requires { ⌜ (length (now image) ≡ imageBytes) × (at < addresses) ⌝ }
     ensures { λ r. ⌜ r ≡ readAt (romOf (now (image .entry))) at ⌝ }
 {
     let i = at as usize;
-    decode(image[i], image[(i + 1) % 8192], image[(i + 2) % 8192])
+    decode(image[i], image[(i + 1) % IMAGE_BYTES], image[(i + 2) % IMAGE_BYTES])
 }
 
 // The public reader.
 pub fn read(image: &[u8], address: u32) -> Answer
     ensures { λ r. ⌜ paperOf r ≡ readPaper (now (image .entry)) address ⌝ }
 {
-    if image.len() != 8192 {
+    if image.len() != IMAGE_BYTES {
         return Answer::ImageSize;
     }
-    if 8191 < address {
+    if LAST_ADDRESS < address {
         return Answer::AddressRange;
     }
     let at = address as u16;

@@ -4,6 +4,7 @@ use mathlib.Core.Bool.{Bool}
 use mathlib.Core.List.{List}
 use lib.Dec.{eqb, ltb}
 use lib.ListN.{getD, set}
+use Rattle.numbers.specs.Sizes.{ramNibbles}
 use Rattle.laws.specs.Choice.{pick}
 use Rattle.numbers.specs.ComesBack.{absent-ram-address}
 use Rattle.sheet.specs.Operation.{Register, Given, Cell, Port, Part, Pointer, Half, Place}
@@ -130,7 +131,7 @@ portGot m w Port.latch-l = found (latchOf (m .core .ports) (m .core .regs .lr / 
 abbrev pub getOf : Machine → Around → Place → Got
 getOf m w (Place.register r) = found (registerOf (m .core .regs) r)
 getOf m w (Place.given g) = found (givenOf (m .core .regs) (w .insn) g)
-getOf m w (Place.cell c) = pick (ltb (cellOf (m .core) (w .insn) c) 372) (found (getD (m .ram) (cellOf (m .core) (w .insn) c) 0)) (gotStop absent-ram-address)
+getOf m w (Place.cell c) = pick (ltb (cellOf (m .core) (w .insn) c) ramNibbles) (found (getD (m .ram) (cellOf (m .core) (w .insn) c) 0)) (gotStop absent-ram-address)
 getOf m w (Place.port p) = portGot m w p
 getOf m w (Place.pointer p) = inBank0 (m .core) (found (pointerOf (m .core) p)) (gotStop absent-ram-address)
 getOf m w (Place.rom h) = found (halfOf h ((w .rom) (0x1000 + m .core .ptrs .dp)))
@@ -178,7 +179,7 @@ portWritten m n v = record { core = record { regs = m .core .regs; pc = m .core 
 abbrev pub putOf : Machine → Around → Place → ℕ → Put
 putOf m w (Place.register r) v = there (withRegisters m (registerPut (m .core .regs) r v))
 putOf m w (Place.given g) v = there m
-putOf m w (Place.cell c) v = record { stop = pick (ltb (cellOf (m .core) (w .insn) c) 372) 0 absent-ram-address; machine = withRam m (set (m .ram) (cellOf (m .core) (w .insn) c) v) }
+putOf m w (Place.cell c) v = record { stop = pick (ltb (cellOf (m .core) (w .insn) c) ramNibbles) 0 absent-ram-address; machine = withRam m (set (m .ram) (cellOf (m .core) (w .insn) c) v) }
 putOf m w (Place.port p) v = record { stop = writePort (m .core .ports) (portOf (m .core .regs) (w .insn) p) v .stop; machine = portWritten m (portOf (m .core .regs) (w .insn) p) v }
 putOf m w (Place.pointer p) v = record { stop = inBank0 (m .core) 0 absent-ram-address; machine = pointerPut m p v }
 putOf m w (Place.rom h) v = there m

@@ -2,6 +2,7 @@
 use Prim.Native.Nat.{ℕ, _+_, _%_}
 use mathlib.Core.Bool.{Bool, true}
 use lib.Bits.{bitAnd}
+use Rattle.numbers.specs.Sizes.{addresses}
 use Rattle.machine.specs.declared.Interrupts.{Interrupts}
 use Rattle.machine.specs.declared.Core.{Core}
 use Rattle.row_control.specs.declared.Turn.{Turn}
@@ -10,7 +11,7 @@ use Rattle.row_control.specs.declared.Turn.{Turn}
 abbrev pub leaving : Core → ℕ → Interrupts → ℕ → Core
 leaving m acc i n = record {
   regs = record { acc = acc; hr = m .regs .hr; lr = m .regs .lr; cf = m .regs .cf; zf = m .regs .zf; sf = true };
-  pc = (m .pc + n) % 8192;
+  pc = (m .pc + n) % addresses;
   ptrs = m .ptrs;
   ints = i;
   timers = m .timers;

@@ -1,10 +1,12 @@
 // CIL, DICIL, EICIL and EXAE: the latches IL, EI, and the mask.
 use crate::Turn;
 use machine::Core;
+use numbers::ADDRESSES;
 use sheet::rows;
 ghost use mathlib.Core.Path.{_≡_};
 ghost use mathlib.Core.Bool.{true};
 ghost use Prim.Native.Nat.{_<_};
+ghost use Rattle.numbers.specs.Sizes.{addresses};
 ghost use Rattle.laws.specs.Among.{among};
 ghost use Rattle.row_control.specs.Groups.{latches};
 ghost use Rattle.row_control.specs.Latches.{latchesLeft, exchanged};
@@ -12,13 +14,13 @@ ghost use Rattle.row_control.specs.Turns.{Keeps};
 
 // "IL←IL & r", with EI as the row leaves it.
 fn latched(m: Core, ei: bool, r: u8) -> Turn
-    requires { ⌜ m .pc < 8192 ⌝ }
+    requires { ⌜ m .pc < addresses ⌝ }
     ensures { λ x. ⌜ x ≡ latchesLeft m ei r ⌝ }
 {
     let il = m.ints.il & r;
     let mut after = m;
     after.regs.sf = true;
-    after.pc = (m.pc + 2) % 8192;
+    after.pc = (m.pc + 2) % ADDRESSES;
     after.ints.ei = ei;
     after.ints.il = il;
     Turn {
@@ -30,13 +32,13 @@ fn latched(m: Core, ei: bool, r: u8) -> Turn
 
 // EXAE: ACC and the mask change places.
 fn exchanged(m: Core) -> Turn
-    requires { ⌜ m .pc < 8192 ⌝ }
+    requires { ⌜ m .pc < addresses ⌝ }
     ensures { λ x. ⌜ x ≡ exchanged m ⌝ }
 {
     let mut after = m;
     after.regs.acc = m.ints.mask;
     after.regs.sf = true;
-    after.pc = (m.pc + 1) % 8192;
+    after.pc = (m.pc + 1) % ADDRESSES;
     after.ints.mask = m.regs.acc;
     Turn {
         stop: 0,
@@ -46,7 +48,7 @@ fn exchanged(m: Core) -> Turn
 }
 
 pub fn latch(m: Core, row: u8, r: u8) -> Turn
-    requires { ⌜ (m .pc < 8192) × (among latches row ≡ true) ⌝ }
+    requires { ⌜ (m .pc < addresses) × (among latches row ≡ true) ⌝ }
     ensures { λ x. ⌜ Keeps m row r x ⌝ }
 {
     match row {

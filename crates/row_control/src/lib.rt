@@ -4,6 +4,7 @@ pub mod latches;
 pub mod returns;
 
 use machine::Core;
+use numbers::STACK_LEVEL;
 ghost use mathlib.Core.Path.{_≡_};
 ghost use Rattle.row_control.specs.Stack.{stopped};
 
@@ -19,7 +20,7 @@ fn stopped(m: Core) -> Turn
     ensures { λ x. ⌜ x ≡ stopped m ⌝ }
 {
     Turn {
-        stop: 32,
+        stop: STACK_LEVEL,
         cycles: 0,
         core: m,
     }

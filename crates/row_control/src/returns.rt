@@ -1,8 +1,9 @@
 // RET and RTI: PC, and of RTI the flags and EI, from the level of the stack at SP.
+use bits::bit_at;
 use crate::Turn;
 use crate::stopped;
-use bits::bit_at;
 use machine::Core;
+use machine::Ram;
 use machine::pack::pc_at;
 use machine::pack::top_at;
 use sheet::rows;
@@ -16,7 +17,7 @@ ghost use Rattle.row_control.specs.Stack.{popped, flagsReturned};
 ghost use Rattle.row_control.specs.Turns.{Reads};
 
 // RET.
-fn popped(m: Core, ram: &[u8; 372]) -> Turn
+fn popped(m: Core, ram: &Ram) -> Turn
     requires { ⌜ (Nibbles (now ram)) × (m .ptrs .sp ≤ 12) ⌝ }
     ensures { λ x. ⌜ x ≡ popped m (now (ram .entry)) ⌝ }
 {
@@ -34,7 +35,7 @@ fn popped(m: Core, ram: &[u8; 372]) -> Turn
 }
 
 // RTI: "PC12, CF, ZF, SF from bit 0 up", and EI is set.
-fn flags_returned(m: Core, ram: &[u8; 372]) -> Turn
+fn flags_returned(m: Core, ram: &Ram) -> Turn
     requires { ⌜ (Nibbles (now ram)) × (m .ptrs .sp ≤ 12) ⌝ }
     ensures { λ x. ⌜ x ≡ flagsReturned m (now (ram .entry)) ⌝ }
 {
@@ -51,7 +52,7 @@ fn flags_returned(m: Core, ram: &[u8; 372]) -> Turn
 }
 
 // "RET and RTI read level SP, then raise it: 0 to 12."
-pub fn come_back(m: Core, ram: &[u8; 372], row: u8) -> Turn
+pub fn come_back(m: Core, ram: &Ram, row: u8) -> Turn
     requires { ⌜ (Nibbles (now ram)) × (among returns row ≡ true) ⌝ }
     ensures { λ x. ⌜ Reads m row (now (ram .entry)) x ⌝ }
 {

@@ -4,6 +4,7 @@ use mathlib.Core.Bool.{true}
 use mathlib.Core.List.{List, [], _∷_}
 use mathlib.Core.Path.{_≡_}
 use lib.ListN.{getD}
+use Rattle.numbers.specs.Sizes.{addresses}
 use Rattle.laws.specs.Among.{among}
 use Rattle.laws.specs.Choice.{pick}
 use Rattle.sheet.specs.declared.Insn.{Insn}
@@ -53,7 +54,7 @@ groupOf row = groupFrom 0 groups row
 abbrev pub limitA : ℕ → ℕ
 limitA g =
     getD
-    (16 ∷ 16 ∷ 16 ∷ 8192 ∷ 1 ∷ 1 ∷ 16 ∷ 256 ∷ 16 ∷ 256 ∷ 16 ∷ 256 ∷ 16 ∷ 256 ∷ 1 ∷ 1 ∷ 1 ∷ 1 ∷ 64 ∷ 1 ∷ 8192 ∷ 16 ∷ 16 ∷ 1 ∷ 1 ∷ [])
+    (16 ∷ 16 ∷ 16 ∷ addresses ∷ 1 ∷ 1 ∷ 16 ∷ 256 ∷ 16 ∷ 256 ∷ 16 ∷ 256 ∷ 16 ∷ 256 ∷ 1 ∷ 1 ∷ 1 ∷ 1 ∷ 64 ∷ 1 ∷ addresses ∷ 16 ∷ 16 ∷ 1 ∷ 1 ∷ [])
     g 0
 
 abbrev pub limitB : ℕ

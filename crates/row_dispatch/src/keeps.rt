@@ -16,6 +16,7 @@ use sheet::Insn;
 ghost use mathlib.Core.Path.{_≡_};
 ghost use Prim.Native.Nat.{_+_, _<_, _≤_};
 ghost use lib.ListN.{length};
+ghost use Rattle.numbers.specs.Sizes.{imageBytes};
 ghost use Rattle.sheet.specs.Reading.{romOf};
 ghost use Rattle.machine.specs.Valid.{ValidCore};
 ghost use Rattle.row_dispatch.specs.Groups.{InGroup};
@@ -38,7 +39,7 @@ pub fn quiet(m: Core, i: Insn, group: u8) -> Act
 
 // The byte at 1000h + DP.
 fn rom_byte(image: &[u8], m: Core) -> u8
-    requires { ⌜ (length (now image) ≡ 8192) × (m .ptrs .dp < 4096) ⌝ }
+    requires { ⌜ (length (now image) ≡ imageBytes) × (m .ptrs .dp < 4096) ⌝ }
     ensures { λ r. ⌜ r ≡ romOf (now (image .entry)) (0x1000 + m .ptrs .dp) ⌝ }
 {
     let at = 0x1000 + m.ptrs.dp as usize;
@@ -47,7 +48,7 @@ fn rom_byte(image: &[u8], m: Core) -> u8
 
 // The rows that leave another pointer or timer.
 pub fn from_pointer(image: &[u8], m: Core, i: Insn, group: u8) -> Pointed
-    requires { ⌜ (ValidCore m) × (InGroup group i) × (length (now image) ≡ 8192) × (14 ≤ group) × (group < 18) ⌝ }
+    requires { ⌜ (ValidCore m) × (InGroup group i) × (length (now image) ≡ imageBytes) × (14 ≤ group) × (group < 18) ⌝ }
     ensures { λ x. ⌜ Points (romOf (now (image .entry))) m i x ⌝ }
 {
     match group {

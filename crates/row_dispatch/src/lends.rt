@@ -1,30 +1,31 @@
 // The groups that read or write RAM, which is lent, and those that change more of the scalars.
+use machine::Core;
+use machine::Ram;
+use row_control::Turn;
+use row_control::calls::call;
+use row_control::latches::latch;
+use row_control::returns::come_back;
+use row_ends::Act;
+use row_ports::memory::read_to_cell;
+use row_ports::memory::write_from_cell;
+use row_ports::reads::read_row;
+use row_ports::writes::write_row;
 use row_ram::read_hl::read_by_hl;
 use row_ram::read_x::read_by_x;
 use row_ram::read_y::read_by_y;
 use row_ram::write_hl::write_by_hl;
 use row_ram::write_x::write_by_x;
 use row_ram::write_y::write_by_y;
-use machine::Core;
 use row_ram_pair::exchange_pair;
 use row_ram_pair::load_pair;
-use row_ports::memory::read_to_cell;
-use row_ports::memory::write_from_cell;
-use row_ports::reads::read_row;
-use row_ports::writes::write_row;
-use row_ends::Act;
 use sheet::Insn;
-use row_control::Turn;
-use row_control::calls::call;
-use row_control::latches::latch;
-use row_control::returns::come_back;
 ghost use Prim.Native.Nat.{_<_, _≤_};
 ghost use Rattle.machine.specs.Valid.{ValidCore, Nibbles};
 ghost use Rattle.row_ram.specs.Cells.{Does};
 ghost use Rattle.row_dispatch.specs.Groups.{InGroup};
 ghost use Rattle.row_dispatch.specs.Performs.{Shifts};
 
-pub fn read(m: Core, ram: &[u8; 372], i: Insn, group: u8) -> Act
+pub fn read(m: Core, ram: &Ram, i: Insn, group: u8) -> Act
     requires { ⌜ (ValidCore m) × (Nibbles (now ram)) × (InGroup group i) × (6 ≤ group) × (group < 10) ⌝ }
     ensures { λ x. ⌜ Does m (i .row) (i .a) (i .b) (now (ram .entry)) (now (ram .entry)) x ⌝ }
 {
@@ -36,7 +37,7 @@ pub fn read(m: Core, ram: &[u8; 372], i: Insn, group: u8) -> Act
     }
 }
 
-pub fn write(m: Core, ram: &mut [u8; 372], i: Insn, group: u8) -> Act
+pub fn write(m: Core, ram: &mut Ram, i: Insn, group: u8) -> Act
     requires { ⌜ (ValidCore m) × (Nibbles (now ram)) × (InGroup group i) × (10 ≤ group) × (group < 14) ⌝ }
     ensures { λ x. ⌜ Does m (i .row) (i .a) (i .b) (now (ram .entry)) (now (ram .exit)) x ⌝ }
 {
@@ -48,7 +49,7 @@ pub fn write(m: Core, ram: &mut [u8; 372], i: Insn, group: u8) -> Act
     }
 }
 
-pub fn turn(sound: bool, m: Core, ram: &mut [u8; 372], i: Insn, group: u8) -> Turn
+pub fn turn(sound: bool, m: Core, ram: &mut Ram, i: Insn, group: u8) -> Turn
     requires { ⌜ (ValidCore m) × (Nibbles (now ram)) × (InGroup group i) × (18 ≤ group) × (group < 25) ⌝ }
     ensures { λ x. ⌜ Shifts sound m i (now (ram .entry)) (now (ram .exit)) x ⌝ }
 {

@@ -8,13 +8,15 @@ use lends::read;
 use lends::turn;
 use lends::write;
 use machine::Core;
-use row_pointers::Pointed;
-use row_ends::Act;
-use sheet::Insn;
+use machine::Ram;
 use row_control::Turn;
+use row_ends::Act;
+use row_pointers::Pointed;
+use sheet::Insn;
 ghost use mathlib.Core.Path.{_≡_};
 ghost use lib.ListN.{length};
 ghost use Prim.Native.Nat.{_<_};
+ghost use Rattle.numbers.specs.Sizes.{imageBytes};
 ghost use Rattle.sheet.specs.Fields.{InFields};
 ghost use Rattle.sheet.specs.Reading.{romOf};
 ghost use Rattle.row_dispatch.specs.Groups.{InGroup, Packs};
@@ -85,8 +87,8 @@ fn with_pointed(m: Core, x: Pointed) -> Turn
     }
 }
 
-pub fn perform(image: &[u8], sound: bool, m: Core, ram: &mut [u8; 372], i: Insn) -> Turn
-    requires { ⌜ (Ready m (now ram) i) × (length (now image) ≡ 8192) ⌝ }
+pub fn perform(image: &[u8], sound: bool, m: Core, ram: &mut Ram, i: Insn) -> Turn
+    requires { ⌜ (Ready m (now ram) i) × (length (now image) ≡ imageBytes) ⌝ }
     ensures { λ x. ⌜ Performs (romOf (now (image .entry))) sound m i (now (ram .entry)) (now (ram .exit)) x ⌝ }
 {
     let group = group_of(i);

@@ -2,13 +2,14 @@
 use Prim.Native.Nat.{ℕ, _+_, _%_}
 use mathlib.Core.Bool.{Bool, true, not}
 use lib.Dec.{eqb}
+use Rattle.numbers.specs.Sizes.{addresses}
 use Rattle.alu.specs.declared.Made.{Made}
 use Rattle.machine.specs.declared.Registers.{Registers}
 use Rattle.machine.specs.declared.Core.{Core}
 use Rattle.row_ends.specs.declared.Act.{Act}
 
 abbrev pub goesPast : Core → Registers → ℕ → ℕ → Act
-goesPast m r n t = record { stop = 0; cycles = t; pc = (m .pc + n) % 8192; regs = r }
+goesPast m r n t = record { stop = 0; cycles = t; pc = (m .pc + n) % addresses; regs = r }
 
 -- - Z 1
 abbrev pub accLoaded : Core → ℕ → ℕ → ℕ → Act

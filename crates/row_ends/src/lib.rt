@@ -2,8 +2,10 @@
 use alu::Made;
 use machine::Core;
 use machine::Registers;
+use numbers::ADDRESSES;
 ghost use mathlib.Core.Path.{_≡_};
 ghost use Prim.Native.Nat.{_<_};
+ghost use Rattle.numbers.specs.Sizes.{addresses};
 ghost use Rattle.row_ends.specs.Ends.{accLoaded, accHrExchanged, accLrExchanged, accSummed, accLessened, accLogical, accCarried, accBorrowed, hrLoaded, hrSummed, lrLoaded, lrSummed, lrLessened, wentOn, summed, lessened, logical, compared, cfTested, tested, nothing, goesPast, jumped, stopped};
 
 // What a row that touches the registers alone leaves: a stop or 0, its cycles, PC and the registers.
@@ -15,20 +17,20 @@ pub struct Act {
 }
 
 fn past(m: Core, r: Registers, n: u8, t: u8) -> Act
-    requires { ⌜ m .pc < 8192 ⌝ }
+    requires { ⌜ m .pc < addresses ⌝ }
     ensures { λ a. ⌜ a ≡ goesPast m r n t ⌝ }
 {
     Act {
         stop: 0,
         cycles: t,
-        pc: (m.pc + n as u16) % 8192,
+        pc: (m.pc + n as u16) % ADDRESSES,
         regs: r,
     }
 }
 
 // - Z 1
 pub fn acc_loaded(m: Core, v: u8, n: u8, t: u8) -> Act
-    requires { ⌜ m .pc < 8192 ⌝ }
+    requires { ⌜ m .pc < addresses ⌝ }
     ensures { λ a. ⌜ a ≡ accLoaded m v n t ⌝ }
 {
     let zero = v == 0;
@@ -41,7 +43,7 @@ pub fn acc_loaded(m: Core, v: u8, n: u8, t: u8) -> Act
 
 // - Z 1: Z speaks of what ACC receives
 pub fn acc_hr_exchanged(m: Core, n: u8, t: u8) -> Act
-    requires { ⌜ m .pc < 8192 ⌝ }
+    requires { ⌜ m .pc < addresses ⌝ }
     ensures { λ a. ⌜ a ≡ accHrExchanged m n t ⌝ }
 {
     let zero = m.regs.hr == 0;
@@ -54,7 +56,7 @@ pub fn acc_hr_exchanged(m: Core, n: u8, t: u8) -> Act
 }
 
 pub fn acc_lr_exchanged(m: Core, n: u8, t: u8) -> Act
-    requires { ⌜ m .pc < 8192 ⌝ }
+    requires { ⌜ m .pc < addresses ⌝ }
     ensures { λ a. ⌜ a ≡ accLrExchanged m n t ⌝ }
 {
     let zero = m.regs.lr == 0;
@@ -68,7 +70,7 @@ pub fn acc_lr_exchanged(m: Core, n: u8, t: u8) -> Act
 
 // - Z C'
 pub fn acc_summed(m: Core, x: Made, n: u8, t: u8) -> Act
-    requires { ⌜ m .pc < 8192 ⌝ }
+    requires { ⌜ m .pc < addresses ⌝ }
     ensures { λ a. ⌜ a ≡ accSummed m x n t ⌝ }
 {
     let zero = x.value == 0;
@@ -81,7 +83,7 @@ pub fn acc_summed(m: Core, x: Made, n: u8, t: u8) -> Act
 
 // - Z C
 pub fn acc_lessened(m: Core, x: Made, n: u8, t: u8) -> Act
-    requires { ⌜ m .pc < 8192 ⌝ }
+    requires { ⌜ m .pc < addresses ⌝ }
     ensures { λ a. ⌜ a ≡ accLessened m x n t ⌝ }
 {
     let zero = x.value == 0;
@@ -94,7 +96,7 @@ pub fn acc_lessened(m: Core, x: Made, n: u8, t: u8) -> Act
 
 // - Z Z'
 pub fn acc_logical(m: Core, x: Made, n: u8, t: u8) -> Act
-    requires { ⌜ m .pc < 8192 ⌝ }
+    requires { ⌜ m .pc < addresses ⌝ }
     ensures { λ a. ⌜ a ≡ accLogical m x n t ⌝ }
 {
     let zero = x.value == 0;
@@ -107,7 +109,7 @@ pub fn acc_logical(m: Core, x: Made, n: u8, t: u8) -> Act
 
 // C Z C'
 pub fn acc_carried(m: Core, x: Made, n: u8, t: u8) -> Act
-    requires { ⌜ m .pc < 8192 ⌝ }
+    requires { ⌜ m .pc < addresses ⌝ }
     ensures { λ a. ⌜ a ≡ accCarried m x n t ⌝ }
 {
     let zero = x.value == 0;
@@ -121,7 +123,7 @@ pub fn acc_carried(m: Core, x: Made, n: u8, t: u8) -> Act
 
 // C Z C
 pub fn acc_borrowed(m: Core, x: Made, n: u8, t: u8) -> Act
-    requires { ⌜ m .pc < 8192 ⌝ }
+    requires { ⌜ m .pc < addresses ⌝ }
     ensures { λ a. ⌜ a ≡ accBorrowed m x n t ⌝ }
 {
     let zero = x.value == 0;
@@ -135,7 +137,7 @@ pub fn acc_borrowed(m: Core, x: Made, n: u8, t: u8) -> Act
 
 // - - 1
 pub fn hr_loaded(m: Core, v: u8, n: u8, t: u8) -> Act
-    requires { ⌜ m .pc < 8192 ⌝ }
+    requires { ⌜ m .pc < addresses ⌝ }
     ensures { λ a. ⌜ a ≡ hrLoaded m v n t ⌝ }
 {
     let mut r = m.regs;
@@ -146,7 +148,7 @@ pub fn hr_loaded(m: Core, v: u8, n: u8, t: u8) -> Act
 
 // - Z C'
 pub fn hr_summed(m: Core, x: Made, n: u8, t: u8) -> Act
-    requires { ⌜ m .pc < 8192 ⌝ }
+    requires { ⌜ m .pc < addresses ⌝ }
     ensures { λ a. ⌜ a ≡ hrSummed m x n t ⌝ }
 {
     let zero = x.value == 0;
@@ -159,7 +161,7 @@ pub fn hr_summed(m: Core, x: Made, n: u8, t: u8) -> Act
 
 // - - 1
 pub fn lr_loaded(m: Core, v: u8, n: u8, t: u8) -> Act
-    requires { ⌜ m .pc < 8192 ⌝ }
+    requires { ⌜ m .pc < addresses ⌝ }
     ensures { λ a. ⌜ a ≡ lrLoaded m v n t ⌝ }
 {
     let mut r = m.regs;
@@ -170,7 +172,7 @@ pub fn lr_loaded(m: Core, v: u8, n: u8, t: u8) -> Act
 
 // - Z C'
 pub fn lr_summed(m: Core, x: Made, n: u8, t: u8) -> Act
-    requires { ⌜ m .pc < 8192 ⌝ }
+    requires { ⌜ m .pc < addresses ⌝ }
     ensures { λ a. ⌜ a ≡ lrSummed m x n t ⌝ }
 {
     let zero = x.value == 0;
@@ -183,7 +185,7 @@ pub fn lr_summed(m: Core, x: Made, n: u8, t: u8) -> Act
 
 // - Z C
 pub fn lr_lessened(m: Core, x: Made, n: u8, t: u8) -> Act
-    requires { ⌜ m .pc < 8192 ⌝ }
+    requires { ⌜ m .pc < addresses ⌝ }
     ensures { λ a. ⌜ a ≡ lrLessened m x n t ⌝ }
 {
     let zero = x.value == 0;
@@ -196,7 +198,7 @@ pub fn lr_lessened(m: Core, x: Made, n: u8, t: u8) -> Act
 
 // - - 1
 pub fn went_on(m: Core, n: u8, t: u8) -> Act
-    requires { ⌜ m .pc < 8192 ⌝ }
+    requires { ⌜ m .pc < addresses ⌝ }
     ensures { λ a. ⌜ a ≡ wentOn m n t ⌝ }
 {
     let mut r = m.regs;
@@ -206,7 +208,7 @@ pub fn went_on(m: Core, n: u8, t: u8) -> Act
 
 // - Z C'
 pub fn summed(m: Core, x: Made, n: u8, t: u8) -> Act
-    requires { ⌜ m .pc < 8192 ⌝ }
+    requires { ⌜ m .pc < addresses ⌝ }
     ensures { λ a. ⌜ a ≡ summed m x n t ⌝ }
 {
     let zero = x.value == 0;
@@ -218,7 +220,7 @@ pub fn summed(m: Core, x: Made, n: u8, t: u8) -> Act
 
 // - Z C
 pub fn lessened(m: Core, x: Made, n: u8, t: u8) -> Act
-    requires { ⌜ m .pc < 8192 ⌝ }
+    requires { ⌜ m .pc < addresses ⌝ }
     ensures { λ a. ⌜ a ≡ lessened m x n t ⌝ }
 {
     let zero = x.value == 0;
@@ -230,7 +232,7 @@ pub fn lessened(m: Core, x: Made, n: u8, t: u8) -> Act
 
 // - Z Z'
 pub fn logical(m: Core, x: Made, n: u8, t: u8) -> Act
-    requires { ⌜ m .pc < 8192 ⌝ }
+    requires { ⌜ m .pc < addresses ⌝ }
     ensures { λ a. ⌜ a ≡ logical m x n t ⌝ }
 {
     let zero = x.value == 0;
@@ -242,7 +244,7 @@ pub fn logical(m: Core, x: Made, n: u8, t: u8) -> Act
 
 // C Z Z'
 pub fn compared(m: Core, x: Made, n: u8, t: u8) -> Act
-    requires { ⌜ m .pc < 8192 ⌝ }
+    requires { ⌜ m .pc < addresses ⌝ }
     ensures { λ a. ⌜ a ≡ compared m x n t ⌝ }
 {
     let zero = x.value == 0;
@@ -255,7 +257,7 @@ pub fn compared(m: Core, x: Made, n: u8, t: u8) -> Act
 
 // - - *, of a test
 pub fn tested(m: Core, answer: bool, n: u8, t: u8) -> Act
-    requires { ⌜ m .pc < 8192 ⌝ }
+    requires { ⌜ m .pc < addresses ⌝ }
     ensures { λ a. ⌜ a ≡ tested m answer n t ⌝ }
 {
     let mut r = m.regs;
@@ -265,7 +267,7 @@ pub fn tested(m: Core, answer: bool, n: u8, t: u8) -> Act
 
 // 0 - * and 1 - *, of a test of CF
 pub fn cf_tested(m: Core, cf: bool, answer: bool, n: u8, t: u8) -> Act
-    requires { ⌜ m .pc < 8192 ⌝ }
+    requires { ⌜ m .pc < addresses ⌝ }
     ensures { λ a. ⌜ a ≡ cfTested m cf answer n t ⌝ }
 {
     let mut r = m.regs;
@@ -276,7 +278,7 @@ pub fn cf_tested(m: Core, cf: bool, answer: bool, n: u8, t: u8) -> Act
 
 // - - -
 pub fn nothing(m: Core, n: u8, t: u8) -> Act
-    requires { ⌜ m .pc < 8192 ⌝ }
+    requires { ⌜ m .pc < addresses ⌝ }
     ensures { λ a. ⌜ a ≡ nothing m n t ⌝ }
 {
     let r = m.regs;

@@ -3,6 +3,7 @@ use Prim.Native.Nat.{ℕ, _<_}
 use mathlib.Core.Bool.{Bool, true}
 use mathlib.Core.List.{List}
 use mathlib.Core.Path.{_≡_}
+use Rattle.numbers.specs.Sizes.{addresses}
 use Rattle.sheet.specs.Reading.{insn}
 use Rattle.machine.specs.Valid.{ValidRegisters, ValidPointers, ValidTimers}
 use Rattle.machine.specs.declared.Core.{Core}
@@ -27,7 +28,7 @@ pub record Asks (rows : List ℕ) (m : Core) (row : ℕ) : Type 0 where
   pub regs : ValidRegisters (m .regs)
   pub ptrs : ValidPointers (m .ptrs)
   pub timers : ValidTimers (m .timers)
-  pub pc : m .pc < 8192
+  pub pc : m .pc < addresses
   pub listed : among rows row ≡ true
 
 -- a stop leaves the pointers and the timers

@@ -1,6 +1,7 @@
 // The rows that load ACC from DP, SP, TA or TB. "Timer, DP and SP rows need P9.3 = 0, else 31."
 use bits::nibble_at;
 use machine::Core;
+use numbers::ABSENT_RAM_ADDRESS;
 use row_ends::Act;
 use row_ends::acc_loaded;
 use row_ends::stopped;
@@ -47,7 +48,7 @@ pub fn load_pointer(m: Core, row: u8) -> Act
     if m.ports.p9 / 8 % 2 == 0 {
         return from_pointer(m, row);
     }
-    stopped(m, 31)
+    stopped(m, ABSENT_RAM_ADDRESS)
 }
 
 pub fn load_timer(m: Core, row: u8) -> Act
@@ -57,5 +58,5 @@ pub fn load_timer(m: Core, row: u8) -> Act
     if m.ports.p9 / 8 % 2 == 0 {
         return from_timer(m, row);
     }
-    stopped(m, 31)
+    stopped(m, ABSENT_RAM_ADDRESS)
 }

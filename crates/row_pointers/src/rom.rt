@@ -3,10 +3,11 @@ use crate::Pointed;
 use machine::Core;
 use row_ends::acc_loaded;
 ghost use Prim.Native.Nat.{_<_};
+ghost use Rattle.numbers.specs.Sizes.{addresses};
 ghost use Rattle.row_pointers.specs.FromRom.{FromRom};
 
 pub fn load_low(m: Core, byte: u8) -> Pointed
-    requires { ⌜ m .pc < 8192 ⌝ }
+    requires { ⌜ m .pc < addresses ⌝ }
     ensures { λ x. ⌜ FromRom m 3 byte x ⌝ }
 {
     let act = acc_loaded(m, byte % 16, 1, 2);
@@ -21,7 +22,7 @@ pub fn load_low(m: Core, byte: u8) -> Pointed
 
 // "DP + 1 wraps at 4096."
 pub fn load_high(m: Core, byte: u8) -> Pointed
-    requires { ⌜ (m .pc < 8192) × (m .ptrs .dp < 4096) ⌝ }
+    requires { ⌜ (m .pc < addresses) × (m .ptrs .dp < 4096) ⌝ }
     ensures { λ x. ⌜ FromRom m 4 byte x ⌝ }
 {
     let act = acc_loaded(m, byte / 16, 1, 2);

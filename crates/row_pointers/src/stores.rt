@@ -3,6 +3,7 @@ use crate::Pointed;
 use machine::Core;
 use machine::Pointers;
 use machine::Timers;
+use numbers::ABSENT_RAM_ADDRESS;
 use row_ends::stopped;
 use row_ends::went_on;
 use sheet::rows;
@@ -76,7 +77,7 @@ fn left(m: Core) -> Pointed
     let ptrs = m.ptrs;
     let timers = m.timers;
     Pointed {
-        act: stopped(m, 31),
+        act: stopped(m, ABSENT_RAM_ADDRESS),
         ptrs: ptrs,
         timers: timers,
     }

@@ -2,6 +2,7 @@
 use Prim.Native.Nat.{ℕ, _+_, _%_}
 use mathlib.Core.Bool.{Bool, true, false, not}
 use lib.Dec.{eqb}
+use Rattle.numbers.specs.Sizes.{addresses}
 use Rattle.laws.specs.Choice.{pick}
 use Rattle.bits.specs.Bits.{hasBit, withBit, withoutBit}
 use Rattle.alu.specs.Making.{valueAndCarry}
@@ -22,7 +23,7 @@ stopped m number = record { stop = number; cycles = 0; core = m }
 abbrev pub wrote : Core → ℕ → ℕ → ℕ → Core
 wrote m n v bytes = record {
   regs = record { acc = m .regs .acc; hr = m .regs .hr; lr = m .regs .lr; cf = m .regs .cf; zf = m .regs .zf; sf = true };
-  pc = (m .pc + bytes) % 8192;
+  pc = (m .pc + bytes) % addresses;
   ptrs = m .ptrs;
   ints = m .ints;
   timers = record { base = baseAfter (m .timers .base) n v; ta = m .timers .ta; tb = m .timers .tb };

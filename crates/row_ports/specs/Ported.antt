@@ -3,6 +3,7 @@ use Prim.Native.Nat.{ℕ, _<_}
 use mathlib.Core.Bool.{Bool, true}
 use mathlib.Core.List.{List}
 use mathlib.Core.Path.{_≡_}
+use Rattle.numbers.specs.Sizes.{addresses}
 use Rattle.laws.specs.Among.{among}
 use Rattle.sheet.specs.Reading.{insn}
 use Rattle.ports.specs.Ports.{latchOf}
@@ -36,7 +37,7 @@ pub record FromCell (m : Core) (b : ℕ) (l : List ℕ) (x : Turn) : Type 0 wher
 -- what a row that writes a port asks
 pub record WriteFits (m : Core) (row b : ℕ) : Type 0 where
   pub regs : ValidRegisters (m .regs)
-  pub pc : m .pc < 8192
+  pub pc : m .pc < addresses
   pub ports : ValidPorts (m .ports)
   pub port : b < 32
   pub listed : among writing row ≡ true
@@ -44,19 +45,19 @@ pub record WriteFits (m : Core) (row b : ℕ) : Type 0 where
 -- what a row that reads a port asks
 pub record ReadFits (m : Core) (row b : ℕ) : Type 0 where
   pub regs : ValidRegisters (m .regs)
-  pub pc : m .pc < 8192
+  pub pc : m .pc < addresses
   pub pins : m .pins .p4 < 2
   pub port : b < 32
   pub listed : among reading row ≡ true
 
 -- what INM and OUTM ask
 pub record ToCellFits (m : Core) (b : ℕ) : Type 0 where
-  pub pc : m .pc < 8192
+  pub pc : m .pc < addresses
   pub pins : m .pins .p4 < 2
   pub port : b < 32
 
 pub record FromCellFits (m : Core) (b : ℕ) (l : List ℕ) : Type 0 where
-  pub pc : m .pc < 8192
+  pub pc : m .pc < addresses
   pub port : b < 32
   pub ram : Nibbles l
 
@@ -67,7 +68,7 @@ pub record Held (p : Ports) (n r : ℕ) : Type 0 where
 
 -- port n, and the weight of a bit of it
 pub record Names (m : Core) (n w : ℕ) : Type 0 where
-  pub pc : m .pc < 8192
+  pub pc : m .pc < addresses
   pub ports : ValidPorts (m .ports)
   pub port : n < 32
   pub some : 0 < w
@@ -75,6 +76,6 @@ pub record Names (m : Core) (n w : ℕ) : Type 0 where
 
 -- port n, to be read
 pub record Readable (m : Core) (n : ℕ) : Type 0 where
-  pub pc : m .pc < 8192
+  pub pc : m .pc < addresses
   pub pins : m .pins .p4 < 2
   pub port : n < 32

@@ -1,13 +1,15 @@
 // The ends of the rows of ports: a stop, a port written, a port read.
 use machine::Core;
+use numbers::ADDRESSES;
 use ports::PortRead;
 use ports::Ports;
 use ports::mode_after;
 use ports::write_port;
-use row_ends::Act;
 use row_control::Turn;
+use row_ends::Act;
 ghost use mathlib.Core.Path.{_≡_};
 ghost use Prim.Native.Nat.{_<_};
+ghost use Rattle.numbers.specs.Sizes.{addresses};
 ghost use Rattle.ports.specs.Ports.{writePort};
 ghost use Rattle.row.specs.Places.{baseAfter};
 ghost use Rattle.row_ports.specs.Ends.{stopped, wrote, written, left, afterRead};
@@ -38,12 +40,12 @@ fn base_after(base: u32, n: u8, v: u8) -> u32
 
 // v written to port n, which leaves these latches, by a row of so many bytes.
 fn wrote(m: Core, n: u8, v: u8, bytes: u8, ports: Ports) -> Core
-    requires { ⌜ (m .pc < 8192) × (ports ≡ writePort (m .ports) n v .ports) ⌝ }
+    requires { ⌜ (m .pc < addresses) × (ports ≡ writePort (m .ports) n v .ports) ⌝ }
     ensures { λ r. ⌜ r ≡ wrote m n v bytes ⌝ }
 {
     let mut regs = m.regs;
     regs.sf = true;
-    let pc = (m.pc + bytes as u16) % 8192;
+    let pc = (m.pc + bytes as u16) % ADDRESSES;
     let ptrs = m.ptrs;
     let ints = m.ints;
     let mut timers = m.timers;
@@ -65,7 +67,7 @@ fn wrote(m: Core, n: u8, v: u8, bytes: u8, ports: Ports) -> Core
 
 // - - 1: v to port n, or the port's stop, by a row of so many bytes. Every row of ports takes two cycles.
 pub(crate) fn written(m: Core, n: u8, v: u8, bytes: u8) -> Turn
-    requires { ⌜ (m .pc < 8192) × (n < 32) ⌝ }
+    requires { ⌜ (m .pc < addresses) × (n < 32) ⌝ }
     ensures { λ x. ⌜ x ≡ written m n v bytes ⌝ }
 {
     let before = m.ports;

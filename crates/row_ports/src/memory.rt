@@ -3,16 +3,19 @@ use crate::ends::left;
 use crate::ends::stopped;
 use crate::ends::written;
 use machine::Core;
+use machine::Ram;
 use machine::ram::at_hl;
 use machine::ram::peek;
 use machine::ram::poke;
+use numbers::ABSENT_RAM_ADDRESS;
+use numbers::RAM_NIBBLES;
 use ports::read_port;
-use row_ends::tested;
 use row_control::Turn;
+use row_ends::tested;
 ghost use Rattle.row_ports.specs.Ported.{ToCell, FromCell, ToCellFits, FromCellFits};
 
 // INM: - - Z'
-pub fn read_to_cell(sound: bool, m: Core, ram: &mut [u8; 372], b: u8) -> Turn
+pub fn read_to_cell(sound: bool, m: Core, ram: &mut Ram, b: u8) -> Turn
     requires { ⌜ ToCellFits m b ⌝ }
     ensures { λ x. ⌜ ToCell sound m b (now (ram .entry)) (now (ram .exit)) x ⌝ }
 {
@@ -21,8 +24,8 @@ pub fn read_to_cell(sound: bool, m: Core, ram: &mut [u8; 372], b: u8) -> Turn
     let before = m.ports;
     let r = read_port(sound, pins, before, b);
     let stop = r.stop;
-    if at >= 372 {
-        return stopped(m, 31);
+    if at >= RAM_NIBBLES {
+        return stopped(m, ABSENT_RAM_ADDRESS);
     }
     if stop != 0 {
         return stopped(m, stop);
@@ -33,14 +36,14 @@ pub fn read_to_cell(sound: bool, m: Core, ram: &mut [u8; 372], b: u8) -> Turn
 }
 
 // OUTM: - - 1
-pub fn write_from_cell(m: Core, ram: &[u8; 372], b: u8) -> Turn
+pub fn write_from_cell(m: Core, ram: &Ram, b: u8) -> Turn
     requires { ⌜ FromCellFits m b (now ram) ⌝ }
     ensures { λ x. ⌜ FromCell m b (now (ram .entry)) x ⌝ }
 {
     let at = at_hl(m);
-    if at < 372 {
+    if at < RAM_NIBBLES {
         let v = peek(ram, at);
         return written(m, b, v, 2);
     }
-    stopped(m, 31)
+    stopped(m, ABSENT_RAM_ADDRESS)
 }

@@ -5,6 +5,7 @@ use mathlib.Core.List.{List}
 use mathlib.Core.Path.{_≡_}
 use lib.Dec.{ltb}
 use lib.ListN.{getD, set}
+use Rattle.numbers.specs.Sizes.{addresses, ramNibbles}
 use Rattle.sheet.specs.Operation.{Cell}
 use Rattle.sheet.specs.Reading.{insn}
 use Rattle.sheet.specs.declared.Insn.{Insn}
@@ -27,11 +28,11 @@ placeIn c m row a b = cellOf m (insn row a b) c
 
 -- where RAM has the place and v stands there, the row gives what x says and leaves RAM as it was
 pub record Reads (c : Cell) (m : Core) (row a v : ℕ) (x : Act) : Type 0 where
-  pub same : (rom : ℕ → ℕ) (sound : Bool) (b : ℕ) (l : List ℕ) → ltb (placeIn c m row a b) 372 ≡ true → getD l (placeIn c m row a b) 0 ≡ v → doneAs m x l ≡ performedOn m row a b rom sound l
+  pub same : (rom : ℕ → ℕ) (sound : Bool) (b : ℕ) (l : List ℕ) → ltb (placeIn c m row a b) ramNibbles ≡ true → getD l (placeIn c m row a b) 0 ≡ v → doneAs m x l ≡ performedOn m row a b rom sound l
 
 -- and there it gives what s says of the scalars, and stores its nibble
 pub record Stores (c : Cell) (m : Core) (row a v : ℕ) (s : Stored) : Type 0 where
-  pub same : (rom : ℕ → ℕ) (sound : Bool) (b : ℕ) (l : List ℕ) → ltb (placeIn c m row a b) 372 ≡ true → getD l (placeIn c m row a b) 0 ≡ v → doneAs m (s .act) (set l (placeIn c m row a b) (s .value)) ≡ performedOn m row a b rom sound l
+  pub same : (rom : ℕ → ℕ) (sound : Bool) (b : ℕ) (l : List ℕ) → ltb (placeIn c m row a b) ramNibbles ≡ true → getD l (placeIn c m row a b) 0 ≡ v → doneAs m (s .act) (set l (placeIn c m row a b) (s .value)) ≡ performedOn m row a b rom sound l
 
 -- the row takes RAM from l to k and gives what x says
 pub record Does (m : Core) (row a b : ℕ) (l k : List ℕ) (x : Act) : Type 0 where
@@ -40,7 +41,7 @@ pub record Does (m : Core) (row a b : ℕ) (l k : List ℕ) (x : Act) : Type 0 w
 -- what a row on the RAM that is lent asks: its operand is below the limit
 pub record Fits (rows : List ℕ) (limit : ℕ) (m : Core) (i : Insn) (l : List ℕ) : Type 0 where
   pub regs : ValidRegisters (m .regs)
-  pub pc : m .pc < 8192
+  pub pc : m .pc < addresses
   pub operand : i .a < limit
   pub ram : Nibbles l
   pub row : among rows (i .row) ≡ true

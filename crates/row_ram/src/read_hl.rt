@@ -8,9 +8,11 @@ use alu::plus_cf;
 use alu::xor;
 use bits::has_bit;
 use machine::Core;
+use machine::Ram;
 use machine::ram::at_hl;
 use machine::ram::peek;
-use row_registers::weight;
+use numbers::ABSENT_RAM_ADDRESS;
+use numbers::RAM_NIBBLES;
 use row_ends::Act;
 use row_ends::acc_borrowed;
 use row_ends::acc_carried;
@@ -20,6 +22,7 @@ use row_ends::acc_summed;
 use row_ends::compared;
 use row_ends::stopped;
 use row_ends::tested;
+use row_registers::weight;
 use sheet::Insn;
 use sheet::rows;
 ghost use mathlib.Core.Path.{_≡_};
@@ -52,14 +55,14 @@ fn reading(m: Core, row: u8, a: u8, v: u8) -> Act
 }
 
 // The row on the RAM that is lent.
-pub fn read_by_hl(m: Core, ram: &[u8; 372], i: Insn) -> Act
+pub fn read_by_hl(m: Core, ram: &Ram, i: Insn) -> Act
     requires { ⌜ Fits readByHL 16 m i (now ram) ⌝ }
     ensures { λ x. ⌜ Does m (i .row) (i .a) (i .b) (now (ram .entry)) (now (ram .entry)) x ⌝ }
 {
     let at = at_hl(m);
-    if at < 372 {
+    if at < RAM_NIBBLES {
         let v = peek(ram, at);
         return reading(m, i.row, i.a as u8, v);
     }
-    stopped(m, 31)
+    stopped(m, ABSENT_RAM_ADDRESS)
 }

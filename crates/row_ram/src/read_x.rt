@@ -1,8 +1,11 @@
 // The rows that read the nibble by x.
 use alu::minus;
 use machine::Core;
+use machine::Ram;
 use machine::ram::at_x;
 use machine::ram::peek;
+use numbers::ABSENT_RAM_ADDRESS;
+use numbers::RAM_NIBBLES;
 use row_ends::Act;
 use row_ends::acc_loaded;
 use row_ends::compared;
@@ -30,14 +33,14 @@ fn reading(m: Core, row: u8, x: u16, v: u8) -> Act
 }
 
 // The row on the RAM that is lent.
-pub fn read_by_x(m: Core, ram: &[u8; 372], i: Insn) -> Act
+pub fn read_by_x(m: Core, ram: &Ram, i: Insn) -> Act
     requires { ⌜ Fits readByX 256 m i (now ram) ⌝ }
     ensures { λ x. ⌜ Does m (i .row) (i .a) (i .b) (now (ram .entry)) (now (ram .entry)) x ⌝ }
 {
     let at = at_x(m, i.a);
-    if at < 372 {
+    if at < RAM_NIBBLES {
         let v = peek(ram, at);
         return reading(m, i.row, i.a, v);
     }
-    stopped(m, 31)
+    stopped(m, ABSENT_RAM_ADDRESS)
 }

@@ -2,13 +2,16 @@
 use alu::minus;
 use bits::has_bit;
 use machine::Core;
+use machine::Ram;
 use machine::ram::at_y;
 use machine::ram::peek;
-use row_registers::weight;
+use numbers::ABSENT_RAM_ADDRESS;
+use numbers::RAM_NIBBLES;
 use row_ends::Act;
 use row_ends::compared;
 use row_ends::stopped;
 use row_ends::tested;
+use row_registers::weight;
 use sheet::Insn;
 use sheet::rows;
 ghost use mathlib.Core.Path.{_≡_};
@@ -33,14 +36,14 @@ fn reading(m: Core, row: u8, a: u8, v: u8) -> Act
 }
 
 // The row on the RAM that is lent.
-pub fn read_by_y(m: Core, ram: &[u8; 372], i: Insn) -> Act
+pub fn read_by_y(m: Core, ram: &Ram, i: Insn) -> Act
     requires { ⌜ Fits readByY 16 m i (now ram) ⌝ }
     ensures { λ x. ⌜ Does m (i .row) (i .a) (i .b) (now (ram .entry)) (now (ram .entry)) x ⌝ }
 {
     let at = at_y(i.b);
-    if at < 372 {
+    if at < RAM_NIBBLES {
         let v = peek(ram, at);
         return reading(m, i.row, i.a as u8, v);
     }
-    stopped(m, 31)
+    stopped(m, ABSENT_RAM_ADDRESS)
 }

@@ -1,9 +1,12 @@
 // The rows that write the nibble by x.
 use crate::Stored;
 use machine::Core;
+use machine::Ram;
 use machine::ram::at_x;
 use machine::ram::peek;
 use machine::ram::poke;
+use numbers::ABSENT_RAM_ADDRESS;
+use numbers::RAM_NIBBLES;
 use row_ends::Act;
 use row_ends::acc_loaded;
 use row_ends::stopped;
@@ -37,16 +40,16 @@ fn writing(m: Core, row: u8, x: u16, v: u8) -> Stored
 }
 
 // The row on the RAM that is lent.
-pub fn write_by_x(m: Core, ram: &mut [u8; 372], i: Insn) -> Act
+pub fn write_by_x(m: Core, ram: &mut Ram, i: Insn) -> Act
     requires { ⌜ Fits writtenByX 256 m i (now ram) ⌝ }
     ensures { λ x. ⌜ Does m (i .row) (i .a) (i .b) (now (ram .entry)) (now (ram .exit)) x ⌝ }
 {
     let at = at_x(m, i.a);
-    if at < 372 {
+    if at < RAM_NIBBLES {
         let v = peek(ram, at);
         let s = writing(m, i.row, i.a, v);
         poke(ram, at, s.value);
         return s.act;
     }
-    stopped(m, 31)
+    stopped(m, ABSENT_RAM_ADDRESS)
 }

@@ -3,6 +3,7 @@ use Prim.Native.Nat.{ℕ, _<_}
 use mathlib.Core.Bool.{Bool}
 use mathlib.Core.List.{List}
 use mathlib.Core.Path.{_≡_}
+use Rattle.numbers.specs.Sizes.{addresses}
 use Rattle.sheet.specs.Reading.{insn}
 use Rattle.machine.specs.declared.Core.{Core}
 use Rattle.machine.specs.declared.Machine.{Machine}
@@ -28,5 +29,5 @@ pub record Low (m : Core) (k : ℕ) : Type 0 where
   pub acc : m .regs .acc < 16
   pub hr : m .regs .hr < 16
   pub lr : m .regs .lr < 16
-  pub pc : m .pc < 8192
+  pub pc : m .pc < addresses
   pub operand : k < 16

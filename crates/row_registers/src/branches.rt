@@ -5,12 +5,13 @@ use sheet::rows;
 ghost use mathlib.Core.Path.{_≡_};
 ghost use mathlib.Core.Bool.{true, false};
 ghost use Prim.Native.Nat.{_<_};
+ghost use Rattle.numbers.specs.Sizes.{addresses};
 ghost use Rattle.row_registers.specs.Quiet.{Quiet};
 ghost use Rattle.laws.specs.Among.{among};
 ghost use Rattle.row_registers.specs.Groups.{branches};
 
 fn taken(m: Core, row: u8, a: u16) -> Act
-    requires { ⌜ (m .pc < 8192) × (a < 8192) × (among branches row ≡ true) × (m .regs .sf ≡ true) ⌝ }
+    requires { ⌜ (m .pc < addresses) × (a < addresses) × (among branches row ≡ true) × (m .regs .sf ≡ true) ⌝ }
     ensures { λ x. ⌜ Quiet m row a x ⌝ }
 {
     match row {
@@ -21,7 +22,7 @@ fn taken(m: Core, row: u8, a: u16) -> Act
 }
 
 fn passed(m: Core, row: u8, a: u16) -> Act
-    requires { ⌜ (m .pc < 8192) × (among branches row ≡ true) × (m .regs .sf ≡ false) ⌝ }
+    requires { ⌜ (m .pc < addresses) × (among branches row ≡ true) × (m .regs .sf ≡ false) ⌝ }
     ensures { λ x. ⌜ Quiet m row a x ⌝ }
 {
     match row {
@@ -32,7 +33,7 @@ fn passed(m: Core, row: u8, a: u16) -> Act
 }
 
 pub fn branched(m: Core, row: u8, a: u16) -> Act
-    requires { ⌜ (m .pc < 8192) × (a < 8192) × (among branches row ≡ true) ⌝ }
+    requires { ⌜ (m .pc < addresses) × (a < addresses) × (among branches row ≡ true) ⌝ }
     ensures { λ x. ⌜ Quiet m row a x ⌝ }
 {
     if m.regs.sf {

@@ -4,6 +4,7 @@ use mathlib.Core.Bool.{true, false}
 use mathlib.Core.List.{List}
 use mathlib.Core.Path.{_≡_}
 use lib.ListN.{length}
+use Rattle.numbers.specs.Sizes.{imageBytes, mostFrameBytes}
 use Rattle.numbers.specs.ComesBack.{image-is-not-8192-bytes, record-outside-the-ranges, no-frame, more-than-65536-frames}
 use Rattle.sheet.specs.Reading.{romOf}
 use Rattle.frame.specs.Frame.{areFrames, framesOf}
@@ -19,8 +20,8 @@ runRefused number m = record { number = number; steps = 0; cycles = 0; machine =
 
 -- 65,536 frames take 196,608 bytes; "A run checks all frames first"
 pub record RunOf (image : List ℕ) (o : Options) (m : Machine) (frames : List ℕ) (r : Ran) : Type 0 where
-  pub refused-1 : (length image ≡ 8192 → ⊥) → r ≡ runRefused image-is-not-8192-bytes m
-  pub refused-2 : length image ≡ 8192 → (Valid m → ⊥) → r ≡ runRefused record-outside-the-ranges m
-  pub refused-4 : length image ≡ 8192 → Valid m → 196608 < length frames → r ≡ runRefused more-than-65536-frames m
-  pub refused-3 : length image ≡ 8192 → Valid m → length frames ≤ 196608 → areFrames frames ≡ false → r ≡ runRefused no-frame m
-  pub runs : length image ≡ 8192 → Valid m → length frames ≤ 196608 → areFrames frames ≡ true → r ≡ runOf (romOf image) o m (framesOf frames)
+  pub refused-1 : (length image ≡ imageBytes → ⊥) → r ≡ runRefused image-is-not-8192-bytes m
+  pub refused-2 : length image ≡ imageBytes → (Valid m → ⊥) → r ≡ runRefused record-outside-the-ranges m
+  pub refused-4 : length image ≡ imageBytes → Valid m → mostFrameBytes < length frames → r ≡ runRefused more-than-65536-frames m
+  pub refused-3 : length image ≡ imageBytes → Valid m → length frames ≤ mostFrameBytes → areFrames frames ≡ false → r ≡ runRefused no-frame m
+  pub runs : length image ≡ imageBytes → Valid m → length frames ≤ mostFrameBytes → areFrames frames ≡ true → r ≡ runOf (romOf image) o m (framesOf frames)

@@ -2,13 +2,20 @@
 use frame::are_frames;
 use frame::pins_at;
 use machine::Machine;
+use machine_valid::is_valid;
+use numbers::IMAGE_BYTES;
+use numbers::IMAGE_IS_NOT_8192_BYTES;
+use numbers::MORE_THAN_65536_FRAMES;
+use numbers::MOST_FRAME_BYTES;
+use numbers::NO_FRAME;
+use numbers::RECORD_OUTSIDE_THE_RANGES;
 use step::Options;
 use step::advance;
-use machine_valid::is_valid;
 ghost use mathlib.Core.Path.{_≡_};
 ghost use mathlib.Core.Bool.{true};
 ghost use Prim.Native.Nat.{_≤_};
 ghost use lib.ListN.{length};
+ghost use Rattle.numbers.specs.Sizes.{imageBytes, mostFrameBytes};
 ghost use Rattle.sheet.specs.Reading.{romOf};
 ghost use Rattle.frame.specs.Frame.{areFrames, framesOf};
 ghost use Rattle.machine.specs.Valid.{Valid};
@@ -36,7 +43,7 @@ fn run_refused(number: u8, m: Machine) -> Ran
 
 // The steps of all frames, or of those up to a stop.
 fn run_frames(image: &[u8], options: Options, m: Machine, frames: &[u8]) -> Ran
-    requires { ⌜ (Valid m) × (length (now image) ≡ 8192) × (length (now frames) ≤ 196608) × (areFrames (now frames) ≡ true) ⌝ }
+    requires { ⌜ (Valid m) × (length (now image) ≡ imageBytes) × (length (now frames) ≤ mostFrameBytes) × (areFrames (now frames) ≡ true) ⌝ }
     ensures { λ r. ⌜ r ≡ runOf (romOf (now (image .entry))) options m (framesOf (now (frames .entry))) ⌝ }
 {
     let mut core = m.core;
@@ -78,17 +85,17 @@ fn run_frames(image: &[u8], options: Options, m: Machine, frames: &[u8]) -> Ran
 pub fn run(image: &[u8], options: Options, m: Machine, frames: &[u8]) -> Ran
     ensures { λ r. ⌜ RunOf (now (image .entry)) options m (now (frames .entry)) r ⌝ }
 {
-    if image.len() != 8192 {
-        return run_refused(1, m);
+    if image.len() != IMAGE_BYTES {
+        return run_refused(IMAGE_IS_NOT_8192_BYTES, m);
     }
     if !is_valid(m) {
-        return run_refused(2, m);
+        return run_refused(RECORD_OUTSIDE_THE_RANGES, m);
     }
-    if 196608 < frames.len() {
-        return run_refused(4, m);
+    if MOST_FRAME_BYTES < frames.len() {
+        return run_refused(MORE_THAN_65536_FRAMES, m);
     }
     if !are_frames(frames) {
-        return run_refused(3, m);
+        return run_refused(NO_FRAME, m);
     }
     run_frames(image, options, m, frames)
 }

@@ -3,16 +3,19 @@
 use libc::STDERR_FILENO;
 use libc::STDIN_FILENO;
 use libc::STDOUT_FILENO;
-use text_runner::header;
-use text_runner::refused;
 use listing::feed;
 use listing::tell;
 use machine::Core;
+use machine::Ram;
 use machine_start::fresh;
+use numbers::IMAGE_BYTES;
+use text_runner::header;
+use text_runner::refused;
 ghost use mathlib.Core.Path.{_≡_};
 ghost use mathlib.Core.Bool.{true, false};
 ghost use Prim.Native.Nat.{_+_, _≤_};
 ghost use lib.ListN.{length};
+ghost use Rattle.numbers.specs.Sizes.{imageBytes};
 ghost use Rattle.machine.specs.Valid.{ValidCore, Nibbles};
 
 // After a turn: the record but for RAM, and which part of the buffer is still to be told.
@@ -62,8 +65,8 @@ fn read_behind(part: &mut [u8], kept: usize) -> usize
 }
 
 // What no LF ends: the last line, if there is one, or the beginning of a line that is too long.
-fn tell_last(image: &[u8], m: Core, ram: &mut [u8; 372], line: &[u8], out: &mut [u8])
-    requires { ⌜ (length (now image) ≡ 8192) × (ValidCore m) × (Nibbles (now ram)) × (26 ≤ length (now out)) ⌝ }
+fn tell_last(image: &[u8], m: Core, ram: &mut Ram, line: &[u8], out: &mut [u8])
+    requires { ⌜ (length (now image) ≡ imageBytes) × (ValidCore m) × (Nibbles (now ram)) × (26 ≤ length (now out)) ⌝ }
 {
     if line.len() == 0 {
         return;
@@ -88,13 +91,13 @@ fn over(m: Core) -> Rest
 fn more(
     image: &[u8],
     m: Core,
-    ram: &mut [u8; 372],
+    ram: &mut Ram,
     part: &mut [u8],
     from: usize,
     to: usize,
     out: &mut [u8],
 ) -> Rest
-    requires { ⌜ (length (now image) ≡ 8192) × (ValidCore m) × (Nibbles (now ram)) × (from ≤ to) × (to ≤ length (now part)) × (26 ≤ length (now out)) ⌝ }
+    requires { ⌜ (length (now image) ≡ imageBytes) × (ValidCore m) × (Nibbles (now ram)) × (from ≤ to) × (to ≤ length (now part)) × (26 ≤ length (now out)) ⌝ }
     ensures { λ r. ⌜ (r .ended ≡ false → (ValidCore (r .core)) × (Nibbles (now (ram .exit)))) × (r .from ≤ r .to) × (r .to ≤ length (now (part .entry))) ⌝ }
 {
     let kept = to - from;
@@ -120,13 +123,13 @@ fn more(
 fn turn(
     image: &[u8],
     m: Core,
-    ram: &mut [u8; 372],
+    ram: &mut Ram,
     part: &mut [u8],
     from: usize,
     to: usize,
     out: &mut [u8],
 ) -> Rest
-    requires { ⌜ (length (now image) ≡ 8192) × (ValidCore m) × (Nibbles (now ram)) × (from ≤ to) × (to ≤ length (now part)) × (26 ≤ length (now out)) ⌝ }
+    requires { ⌜ (length (now image) ≡ imageBytes) × (ValidCore m) × (Nibbles (now ram)) × (from ≤ to) × (to ≤ length (now part)) × (26 ≤ length (now out)) ⌝ }
     ensures { λ r. ⌜ (r .ended ≡ false → (ValidCore (r .core)) × (Nibbles (now (ram .exit)))) × (r .from ≤ r .to) × (r .to ≤ length (now (part .entry))) ⌝ }
 {
     let fed = feed(image, m, ram, &part[from..to], out, 0);
@@ -153,8 +156,8 @@ fn turn(
 }
 
 // A proved loop has to end, and nothing says that a script does: no run uses up the turns.
-fn session(image: &[u8], m: Core, ram: &mut [u8; 372], part: &mut [u8], out: &mut [u8])
-    requires { ⌜ (length (now image) ≡ 8192) × (ValidCore m) × (Nibbles (now ram)) × (26 ≤ length (now out)) ⌝ }
+fn session(image: &[u8], m: Core, ram: &mut Ram, part: &mut [u8], out: &mut [u8])
+    requires { ⌜ (length (now image) ≡ imageBytes) × (ValidCore m) × (Nibbles (now ram)) × (26 ≤ length (now out)) ⌝ }
 {
     let mut core = m;
     let mut from = 0;
@@ -173,7 +176,7 @@ fn session(image: &[u8], m: Core, ram: &mut [u8; 372], part: &mut [u8], out: &mu
 }
 
 fn run(image: &[u8])
-    requires { ⌜ length (now image) ≡ 8192 ⌝ }
+    requires { ⌜ length (now image) ≡ imageBytes ⌝ }
 {
     let mut part = io::large_buffer();
     let mut out = io::large_buffer();
@@ -197,7 +200,7 @@ fn main() {
     let mut image = [0u8; 8193];
     let size = io::read_full(file, &mut image);
     libc::close(file);
-    if size != 8192 {
+    if size != IMAGE_BYTES {
         refuse_image();
         return;
     }

@@ -3,6 +3,7 @@ use Prim.Native.Nat.{ℕ, zero, suc, _+_, _%_}
 use mathlib.Core.List.{List, [], _∷_}
 use lib.Dec.{ltb}
 use lib.ListN.{getD}
+use Rattle.numbers.specs.Sizes.{addresses}
 use Rattle.laws.specs.Choice.{pick}
 use Rattle.sheet.specs.Code.{fits, fixedBits, absent, valueOf, operandFrom, digits}
 use Rattle.sheet.specs.Table.{Code, Line, lines, lineAt}
@@ -66,7 +67,7 @@ readBytes bs = readDigits (digits bs)
 
 -- "Fetch and PC wrap at 8192."
 abbrev pub wrapped : ℕ → ℕ → ℕ
-wrapped at n = (at + n) % 8192
+wrapped at n = (at + n) % addresses
 
 abbrev pub fetched : (ℕ → ℕ) → ℕ → List ℕ
 fetched rom at = rom at ∷ rom (wrapped at 1) ∷ rom (wrapped at 2) ∷ []

@@ -3,6 +3,7 @@ use Prim.Native.Nat.{ℕ}
 use mathlib.Core.List.{List}
 use mathlib.Core.Path.{_≡_}
 use lib.ListN.{length}
+use Rattle.numbers.specs.Sizes.{imageBytes}
 use Rattle.numbers.specs.ComesBack.{image-is-not-8192-bytes, record-outside-the-ranges, no-frame}
 use Rattle.sheet.specs.Reading.{romOf}
 use Rattle.frame.specs.Frame.{frameOf}
@@ -23,7 +24,7 @@ abbrev pub stepped : Done → Stepped
 stepped x = record { number = x .stop; cycles = x .cycles; machine = x .machine }
 
 pub record StepOf (image : List ℕ) (o : Options) (m : Machine) (frame : List ℕ) (r : Stepped) : Type 0 where
-  pub refused-1 : (length image ≡ 8192 → ⊥) → r ≡ stepRefused image-is-not-8192-bytes m
-  pub refused-2 : length image ≡ 8192 → (Valid m → ⊥) → r ≡ stepRefused record-outside-the-ranges m
-  pub refused-3 : length image ≡ 8192 → Valid m → frameOf frame ≡ Frame.NoFrame → r ≡ stepRefused no-frame m
-  pub steps : length image ≡ 8192 → Valid m → (pins : Pins) → frameOf frame ≡ Frame.Seen pins → r ≡ stepped (stepOf (romOf image) o m pins)
+  pub refused-1 : (length image ≡ imageBytes → ⊥) → r ≡ stepRefused image-is-not-8192-bytes m
+  pub refused-2 : length image ≡ imageBytes → (Valid m → ⊥) → r ≡ stepRefused record-outside-the-ranges m
+  pub refused-3 : length image ≡ imageBytes → Valid m → frameOf frame ≡ Frame.NoFrame → r ≡ stepRefused no-frame m
+  pub steps : length image ≡ imageBytes → Valid m → (pins : Pins) → frameOf frame ≡ Frame.Seen pins → r ≡ stepped (stepOf (romOf image) o m pins)

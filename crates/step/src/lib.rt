@@ -1,16 +1,22 @@
 // One step: for any image, options, record and frame the record, the stop and the cycles that document 01 says, or a refusal by number that changes nothing.
-use step_act::act;
 use frame::Frame;
 use frame::Pins;
 use frame::frame_of;
+use machine::Core;
+use machine::Machine;
+use machine::Ram;
+use machine_valid::is_valid;
+use numbers::IMAGE_BYTES;
+use numbers::IMAGE_IS_NOT_8192_BYTES;
+use numbers::NO_FRAME;
+use numbers::RECORD_OUTSIDE_THE_RANGES;
+use step_act::act;
 use step_look::is_running;
 use step_look::seen;
 use step_look::waited;
-use machine::Core;
-use machine::Machine;
-use machine_valid::is_valid;
 ghost use mathlib.Core.Path.{_≡_};
 ghost use lib.ListN.{length};
+ghost use Rattle.numbers.specs.Sizes.{imageBytes};
 ghost use Rattle.sheet.specs.Reading.{romOf};
 ghost use Rattle.frame.specs.Frame.{PinsInRange};
 ghost use Rattle.machine.specs.Valid.{ValidCore, Nibbles};
@@ -39,8 +45,8 @@ pub struct Stepped {
 }
 
 // A step on the RAM that is lent.
-pub fn advance(image: &[u8], options: Options, m: Core, ram: &mut [u8; 372], pins: Pins) -> Advanced
-    requires { ⌜ (ValidCore m) × (Nibbles (now ram)) × (length (now image) ≡ 8192) × (PinsInRange pins) ⌝ }
+pub fn advance(image: &[u8], options: Options, m: Core, ram: &mut Ram, pins: Pins) -> Advanced
+    requires { ⌜ (ValidCore m) × (Nibbles (now ram)) × (length (now image) ≡ imageBytes) × (PinsInRange pins) ⌝ }
     ensures { λ x. ⌜ Gives (stepOf (romOf (now (image .entry))) options (record { core = m; ram = now (ram .entry) }) pins) (now (ram .exit)) x ⌝ }
 {
     let mode = m.mode;
@@ -84,14 +90,14 @@ fn step_refused(number: u8, m: Machine) -> Stepped
 pub fn step(image: &[u8], options: Options, m: Machine, frame: &[u8]) -> Stepped
     ensures { λ r. ⌜ StepOf (now (image .entry)) options m (now (frame .entry)) r ⌝ }
 {
-    if image.len() != 8192 {
-        return step_refused(1, m);
+    if image.len() != IMAGE_BYTES {
+        return step_refused(IMAGE_IS_NOT_8192_BYTES, m);
     }
     if !is_valid(m) {
-        return step_refused(2, m);
+        return step_refused(RECORD_OUTSIDE_THE_RANGES, m);
     }
     let Frame::Seen(pins) = frame_of(frame) else {
-        return step_refused(3, m);
+        return step_refused(NO_FRAME, m);
     };
     let core = m.core;
     let mut ram = m.ram;

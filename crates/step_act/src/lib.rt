@@ -4,14 +4,18 @@ use clock::Time;
 use due::due_source;
 use machine::Core;
 use machine::Machine;
-use row_dispatch::perform;
+use machine::Ram;
+use numbers::STACK_LEVEL;
+use numbers::UNASSIGNED_CODE;
 use ports::Mode;
 use reader::read_at;
-use sheet::Read;
 use row_control::Turn;
+use row_dispatch::perform;
+use sheet::Read;
 ghost use mathlib.Core.Path.{_≡_};
 ghost use Prim.Native.Nat.{_<_};
 ghost use lib.ListN.{length};
+ghost use Rattle.numbers.specs.Sizes.{imageBytes};
 ghost use Rattle.sheet.specs.Reading.{romOf};
 ghost use Rattle.machine.specs.Valid.{ValidCore, Nibbles};
 ghost use Rattle.step_act.specs.Act.{sourceOf, acceptOf, runOne, acceptOrRun, coreAfter, timed, actOf};
@@ -29,15 +33,15 @@ fn stopped(m: Core, number: u8) -> Turn
 }
 
 // "A call or acceptance lowers SP first, so SP must be 1 to 13."
-fn accept(m: Core, ram: &mut [u8; 372], source: u8) -> Turn
+fn accept(m: Core, ram: &mut Ram, source: u8) -> Turn
     requires { ⌜ (ValidCore m) × (source < 6) ⌝ }
     ensures { λ x. ⌜ Gives (acceptOf (record { core = m; ram = now (ram .entry) }) source) (now (ram .exit)) x ⌝ }
 {
     if m.ptrs.sp < 1 {
-        return stopped(m, 32);
+        return stopped(m, STACK_LEVEL);
     }
     if m.ptrs.sp > 13 {
-        return stopped(m, 32);
+        return stopped(m, STACK_LEVEL);
     }
     let held = *ram;
     let machine = Machine { core: m, ram: held };
@@ -53,12 +57,12 @@ fn accept(m: Core, ram: &mut [u8; 372], source: u8) -> Turn
 }
 
 // The row at PC, or stop 30.
-fn run_one(image: &[u8], sound: bool, m: Core, ram: &mut [u8; 372]) -> Turn
-    requires { ⌜ (ValidCore m) × (Nibbles (now ram)) × (length (now image) ≡ 8192) ⌝ }
+fn run_one(image: &[u8], sound: bool, m: Core, ram: &mut Ram) -> Turn
+    requires { ⌜ (ValidCore m) × (Nibbles (now ram)) × (length (now image) ≡ imageBytes) ⌝ }
     ensures { λ x. ⌜ Gives (runOne (romOf (now (image .entry))) sound (record { core = m; ram = now (ram .entry) })) (now (ram .exit)) x ⌝ }
 {
     let Read::Row(insn) = read_at(image, m.pc) else {
-        return stopped(m, 30);
+        return stopped(m, UNASSIGNED_CODE);
     };
     perform(image, sound, m, ram, insn)
 }
@@ -74,8 +78,8 @@ fn source(m: Core) -> u8
     6
 }
 
-fn turn(image: &[u8], sound: bool, m: Core, ram: &mut [u8; 372]) -> Turn
-    requires { ⌜ (ValidCore m) × (Nibbles (now ram)) × (length (now image) ≡ 8192) ⌝ }
+fn turn(image: &[u8], sound: bool, m: Core, ram: &mut Ram) -> Turn
+    requires { ⌜ (ValidCore m) × (Nibbles (now ram)) × (length (now image) ≡ imageBytes) ⌝ }
     ensures { λ x. ⌜ Gives (acceptOrRun (romOf (now (image .entry))) sound (record { core = m; ram = now (ram .entry) })) (now (ram .exit)) x ⌝ }
 {
     let due = source(m);
@@ -125,8 +129,8 @@ fn after(m: Core, n: u8) -> Core
 }
 
 // A running record acts.
-pub fn act(image: &[u8], sound: bool, m: Core, ram: &mut [u8; 372]) -> Turn
-    requires { ⌜ (Runs m) × (Nibbles (now ram)) × (length (now image) ≡ 8192) ⌝ }
+pub fn act(image: &[u8], sound: bool, m: Core, ram: &mut Ram) -> Turn
+    requires { ⌜ (Runs m) × (Nibbles (now ram)) × (length (now image) ≡ imageBytes) ⌝ }
     ensures { λ x. ⌜ Gives (actOf (romOf (now (image .entry))) sound (record { core = m; ram = now (ram .entry) })) (now (ram .exit)) x ⌝ }
 {
     let x = turn(image, sound, m, ram);

@@ -12,6 +12,8 @@ use text_lister::line::columns;
 ghost use mathlib.Core.Path.{_≡_};
 ghost use Prim.Native.Nat.{_+_, _<_, _≤_};
 ghost use lib.ListN.{length, getD};
+ghost use Rattle.numbers.specs.Sizes.{addresses, imageBytes};
+ghost use Rattle.graph.specs.Laid.{places};
 ghost use Rattle.laws.specs.Writing.{Wrote};
 ghost use Rattle.sheet.specs.Reading.{romOf};
 ghost use Rattle.bound.specs.Answer.{paperOf};
@@ -61,7 +63,7 @@ pub fn summary(out: &mut [u8], from: usize, answer: Bounded) -> usize
 
 // A line of a path, with its end: at most 43 characters.
 pub fn path_line(out: &mut [u8], from: usize, image: &[u8], at: u16, total: u32) -> usize
-    requires { ⌜ (length (now image) ≡ 8192) × (at < 8192) × (total < 100000) × (from + 43 ≤ length (now out)) ⌝ }
+    requires { ⌜ (length (now image) ≡ imageBytes) × (at < addresses) × (total < 100000) × (from + 43 ≤ length (now out)) ⌝ }
     ensures { λ r. ⌜ Wrote (now (out .entry)) (now (out .exit)) from r (pathLineOf (romOf (now (image .entry))) at total) ⌝ }
     ensures { λ r. ⌜ r ≤ from + 43 ⌝ }
 {
@@ -75,7 +77,7 @@ pub fn path_line(out: &mut [u8], from: usize, image: &[u8], at: u16, total: u32)
 
 // The cycles of the row at an address, 0 where there is none.
 pub fn cycles_at(image: &[u8], at: u16) -> u32
-    requires { ⌜ (length (now image) ≡ 8192) × (at < 8192) ⌝ }
+    requires { ⌜ (length (now image) ≡ imageBytes) × (at < addresses) ⌝ }
     ensures { λ r. ⌜ (r ≡ cyclesAt (romOf (now (image .entry))) at) × (r ≤ 3) ⌝ }
 {
     let Read::Row(_) = read_at(image, at) else {

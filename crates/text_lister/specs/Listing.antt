@@ -3,6 +3,7 @@ use Prim.Native.Nat.{ℕ, zero, suc, _+_}
 use mathlib.Core.List.{List, [], _∷_, _++_}
 use lib.Dec.{ltb}
 use lib.ListN.{take}
+use Rattle.numbers.specs.Sizes.{addresses}
 use Rattle.laws.specs.Choice.{pick}
 use Rattle.sheet.specs.Reading.{readAt, fetched, bytesOf, cyclesOf}
 use Rattle.sheet.specs.declared.Insn.{Insn}
@@ -53,4 +54,4 @@ sweepNext at Unassigned = at + 1
 -- "one row a line, as a sweep from ADDRESS (default 0000) for COUNT lines (decimal, default and at most to the end of the image)"; "A row that begins before the end and wraps is shown whole, and is the last line."
 unfoldable pub sweptLines : (ℕ → ℕ) → ℕ → ℕ → List ℕ
 sweptLines rom at zero = []
-sweptLines rom at (suc n) = pick (ltb at 8192) (lineOf rom at ++ sweptLines rom (sweepNext at (readAt rom at)) n) []
+sweptLines rom at (suc n) = pick (ltb at addresses) (lineOf rom at ++ sweptLines rom (sweepNext at (readAt rom at)) n) []

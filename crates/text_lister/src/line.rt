@@ -1,15 +1,18 @@
 // A line of the listing, and the listing.
+use numbers::IMAGE_BYTES;
+use numbers::LAST_ADDRESS;
+use reader::read_at;
+use sheet::Insn;
+use sheet::Read;
 use text_digits::blanks;
 use text_digits::number;
 use text_digits::put;
 use text_digits::put_text;
 use text_notation::row;
-use reader::read_at;
-use sheet::Insn;
-use sheet::Read;
 ghost use mathlib.Core.Path.{_≡_};
 ghost use Prim.Native.Nat.{_+_, _*_, _<_, _≤_};
 ghost use lib.ListN.{length, take};
+ghost use Rattle.numbers.specs.Sizes.{addresses, imageBytes};
 ghost use Rattle.laws.specs.Writing.{Wrote};
 ghost use Rattle.sheet.specs.Reading.{readAt, romOf, fetched};
 ghost use Rattle.text_digits.specs.Digits.{hex, padded};
@@ -25,7 +28,7 @@ fn byte(out: &mut [u8], from: usize, b: u8) -> usize
 }
 
 fn bytes(out: &mut [u8], from: usize, image: &[u8], at: u16, n: u8) -> usize
-    requires { ⌜ (length (now image) ≡ 8192) × (at < 8192) × (from + 8 ≤ length (now out)) ⌝ }
+    requires { ⌜ (length (now image) ≡ imageBytes) × (at < addresses) × (from + 8 ≤ length (now out)) ⌝ }
     ensures { λ r. ⌜ Wrote (now (out .entry)) (now (out .exit)) from r (spaced (take n (fetched (romOf (now (image .entry))) at))) ⌝ }
     ensures { λ r. ⌜ r ≤ from + 8 ⌝ }
 {
@@ -38,16 +41,16 @@ fn bytes(out: &mut [u8], from: usize, image: &[u8], at: u16, n: u8) -> usize
         return one;
     }
     let gap = put(out, one, b' ');
-    let two = byte(out, gap, image[(i + 1) % 8192]);
+    let two = byte(out, gap, image[(i + 1) % IMAGE_BYTES]);
     if n == 2 {
         return two;
     }
     let gap = put(out, two, b' ');
-    byte(out, gap, image[(i + 2) % 8192])
+    byte(out, gap, image[(i + 2) % IMAGE_BYTES])
 }
 
 fn bytes_column(out: &mut [u8], from: usize, image: &[u8], at: u16, n: u8) -> usize
-    requires { ⌜ (length (now image) ≡ 8192) × (at < 8192) × (from + 8 ≤ length (now out)) ⌝ }
+    requires { ⌜ (length (now image) ≡ imageBytes) × (at < addresses) × (from + 8 ≤ length (now out)) ⌝ }
     ensures { λ r. ⌜ Wrote (now (out .entry)) (now (out .exit)) from r (padded 8 (spaced (take n (fetched (romOf (now (image .entry))) at)))) ⌝ }
     ensures { λ r. ⌜ r ≡ from + 8 ⌝ }
 {
@@ -65,7 +68,7 @@ fn row_column(out: &mut [u8], from: usize, at: u16, insn: Insn) -> usize
 }
 
 fn shown(out: &mut [u8], from: usize, image: &[u8], at: u16, insn: Insn, n: u8, t: u8) -> usize
-    requires { ⌜ (length (now image) ≡ 8192) × (at < 8192) × (from + 34 ≤ length (now out)) ⌝ }
+    requires { ⌜ (length (now image) ≡ imageBytes) × (at < addresses) × (from + 34 ≤ length (now out)) ⌝ }
     ensures { λ r. ⌜ Wrote (now (out .entry)) (now (out .exit)) from r (rowColumns (romOf (now (image .entry))) at insn n t) ⌝ }
     ensures { λ r. ⌜ r ≤ from + 30 ⌝ }
 {
@@ -79,7 +82,7 @@ fn shown(out: &mut [u8], from: usize, image: &[u8], at: u16, insn: Insn, n: u8, 
 }
 
 fn refused(out: &mut [u8], from: usize, image: &[u8], at: u16) -> usize
-    requires { ⌜ (length (now image) ≡ 8192) × (at < 8192) × (from + 34 ≤ length (now out)) ⌝ }
+    requires { ⌜ (length (now image) ≡ imageBytes) × (at < addresses) × (from + 34 ≤ length (now out)) ⌝ }
     ensures { λ r. ⌜ Wrote (now (out .entry)) (now (out .exit)) from r (refusedColumns (romOf (now (image .entry)) at)) ⌝ }
     ensures { λ r. ⌜ r ≤ from + 30 ⌝ }
 {
@@ -90,7 +93,7 @@ fn refused(out: &mut [u8], from: usize, image: &[u8], at: u16) -> usize
 
 // A line without its end, for a program that has more to say on it: at most 36 characters, with room for 40.
 pub fn columns(out: &mut [u8], from: usize, image: &[u8], at: u16) -> usize
-    requires { ⌜ (length (now image) ≡ 8192) × (at < 8192) × (from + 40 ≤ length (now out)) ⌝ }
+    requires { ⌜ (length (now image) ≡ imageBytes) × (at < addresses) × (from + 40 ≤ length (now out)) ⌝ }
     ensures { λ r. ⌜ Wrote (now (out .entry)) (now (out .exit)) from r (columnsOf (romOf (now (image .entry))) at) ⌝ }
     ensures { λ r. ⌜ r ≤ from + 36 ⌝ }
 {
@@ -105,7 +108,7 @@ pub fn columns(out: &mut [u8], from: usize, image: &[u8], at: u16) -> usize
 
 // At most 37 characters.
 pub fn line(out: &mut [u8], from: usize, image: &[u8], at: u16) -> usize
-    requires { ⌜ (length (now image) ≡ 8192) × (at < 8192) × (from + 40 ≤ length (now out)) ⌝ }
+    requires { ⌜ (length (now image) ≡ imageBytes) × (at < addresses) × (from + 40 ≤ length (now out)) ⌝ }
     ensures { λ r. ⌜ Wrote (now (out .entry)) (now (out .exit)) from r (lineOf (romOf (now (image .entry))) at) ⌝ }
     ensures { λ r. ⌜ r ≤ from + 37 ⌝ }
 {
@@ -115,7 +118,7 @@ pub fn line(out: &mut [u8], from: usize, image: &[u8], at: u16) -> usize
 
 // Where the sweep goes on after the line at an address.
 pub fn after(image: &[u8], at: u16) -> u16
-    requires { ⌜ (length (now image) ≡ 8192) × (at < 8192) ⌝ }
+    requires { ⌜ (length (now image) ≡ imageBytes) × (at < addresses) ⌝ }
     ensures { λ r. ⌜ r ≡ sweepNext at (readAt (romOf (now (image .entry))) at) ⌝ }
 {
     let Read::Row(_) = read_at(image, at) else {
@@ -127,14 +130,14 @@ pub fn after(image: &[u8], at: u16) -> u16
 
 // The lines from an address on, as many as asked or to the end of the image.
 pub fn listing(out: &mut [u8], image: &[u8], from: u16, count: u32) -> usize
-    requires { ⌜ (length (now image) ≡ 8192) × (37 * count + 3 ≤ length (now out)) ⌝ }
+    requires { ⌜ (length (now image) ≡ imageBytes) × (37 * count + 3 ≤ length (now out)) ⌝ }
     ensures { λ r. ⌜ Wrote (now (out .entry)) (now (out .exit)) 0 r (sweptLines (romOf (now (image .entry))) from count) ⌝ }
 {
     let mut end = 0;
     let mut at = from;
     let mut left = count;
     while left > 0 {
-        if 8191 < at {
+        if LAST_ADDRESS < at {
             return end;
         }
         end = line(out, end, image, at);

@@ -1,4 +1,4 @@
--- The value of digits, a digit at a time and at most 8192.
+-- The value of digits, a digit at a time and at most 8192: no image has more addresses or lines.
 use mathlib.Core.Path.{_≡_, refl, sym, _∙_}
 use mathlib.Core.Bool.{Bool, true, false}
 use mathlib.Core.List.{List, [], _∷_}
@@ -8,19 +8,16 @@ use native.Mathlib.Decide.{decLt}
 use native.Mathlib.Numerals.{add-one}
 use native.Mathlib.Omega.{arith}
 use borrow.Author.Tests.{lt-ltb, le-ltb, le-leb}
-use lib.Dec.{leb, ltb, leb→le}
+use lib.Dec.{ltb}
 use lib.ListN.{length, getD, drop, drop-of-length-le}
 use lib.Seq.{drop-cons}
 use Rattle.laws.specs.Choice.{pick}
-use Rattle.laws.proofs.Computed.{true→T, both-left}
-use Rattle.text_words.specs.Words.{between, digitValue, allDigits, isNumber, valueAfter, wordValue, numberOf, wordAddress}
+use Rattle.hexadecimal.specs.Hexadecimal.{digitOf}
+use Rattle.text_words.specs.Words.{allDigits, isNumber, valueAfter, wordValue, numberOf, wordAddress}
 use Rattle.text_words.specs.declared.Number.{Number}
 use Rattle.text_words.specs.declared.Number.the-variants.{Value, Nothing}
 use Rattle.text_words.specs.declared.Address.{Address}
 use Rattle.text_words.specs.declared.Address.the-variants.{At, Refused}
-
-pub between-from : (first last c : ℕ) {t : Bool} → t ≡ between first last c → t ≡ true → first ≤ c
-between-from first last c e h = leb→le first c (both-left (leb first c) (leb c last) (true→T (sym e ∙ h)))
 
 pub product-small : (v base : ℕ) → v ≤ 8192 → base ≤ 16 → v * base ≤ 131072
 product-small v base g h = mul-le-mul g h
@@ -28,7 +25,7 @@ product-small v base g h = mul-le-mul g h
 -- digits make no value smaller, so the bound may be laid on at each of them
 value-up : (base : ℕ) (l : List ℕ) (v : ℕ) → 0 < base → v ≤ valueAfter base v l
 value-up base [] v h = omega arith
-value-up base (c ∷ l) v h = omega (arith, le-mul-of-pos-right v h, value-up base l (v * base + digitValue c) h)
+value-up base (c ∷ l) v h = omega (arith, le-mul-of-pos-right v h, value-up base l (v * base + digitOf c) h)
 
 bounded : (base : ℕ) (l : List ℕ) (x : ℕ) → 0 < base → Dec (x < 8192) → min 8192 (valueAfter base (min 8192 x) l) ≡ min 8192 (valueAfter base x l)
 bounded base l x h (yes b) = let e : min 8192 x ≡ x = omega arith in rw e
@@ -44,18 +41,18 @@ pub parsed-none : (base : ℕ) (word : List ℕ) → Parsed base word 0 0
 parsed-none base word = record { digits = refl; value = refl; small = omega arith }
 
 module _ {base : ℕ} {word : List ℕ} {v i : ℕ} (p : Parsed base word v i) where
-  pub parsed-more : 0 < base → i < length word → digitValue (getD word i 0) < base → Parsed base word (min 8192 (v * base + digitValue (getD word i 0))) (i + 1)
+  pub parsed-more : 0 < base → i < length word → digitOf (getD word i 0) < base → Parsed base word (min 8192 (v * base + digitOf (getD word i 0))) (i + 1)
   parsed-more h l d =
       record {
-        digits = p .digits ∙ rw (drop-cons word i 0 l, lt-ltb (digitValue (getD word i 0)) base d, add-one);
+        digits = p .digits ∙ rw (drop-cons word i 0 l, lt-ltb (digitOf (getD word i 0)) base d, add-one);
         value =
             p .value
-            ∙ rw (drop-cons word i 0 l, add-one) (sym (bounded base (drop (suc i) word) (v * base + digitValue (getD word i 0)) h (decLt (v * base + digitValue (getD word i 0)) 8192)));
+            ∙ rw (drop-cons word i 0 l, add-one) (sym (bounded base (drop (suc i) word) (v * base + digitOf (getD word i 0)) h (decLt (v * base + digitOf (getD word i 0)) 8192)));
         small = omega arith;
       }
 
-  pub parsed-bad : i < length word → base ≤ digitValue (getD word i 0) → allDigits base word ≡ false
-  parsed-bad l d = p .digits ∙ rw (drop-cons word i 0 l, le-ltb (digitValue (getD word i 0)) base d)
+  pub parsed-bad : i < length word → base ≤ digitOf (getD word i 0) → allDigits base word ≡ false
+  parsed-bad l d = p .digits ∙ rw (drop-cons word i 0 l, le-ltb (digitOf (getD word i 0)) base d)
 
   pub parsed-digits : length word ≤ i → allDigits base word ≡ true
   parsed-digits l = p .digits ∙ rw (drop-of-length-le word l)

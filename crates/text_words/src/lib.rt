@@ -1,8 +1,11 @@
 // The words that a program is given: an address, and a number of lines.
+use hexadecimal::digit;
+use numbers::LAST_ADDRESS;
 ghost use mathlib.Core.Path.{_≡_};
 ghost use Prim.Native.Nat.{_<_, _≤_, min};
-ghost use Rattle.text_words.specs.Words.{digitValue, numberOf, wordAddress};
-ghost use Rattle.text_words.specs.Words.{between as isBetween};
+ghost use Rattle.numbers.specs.Sizes.{addresses};
+ghost use Rattle.hexadecimal.specs.Hexadecimal.{digitOf};
+ghost use Rattle.text_words.specs.Words.{numberOf, wordAddress};
 
 pub enum Number {
     Value(u32),
@@ -14,40 +17,25 @@ pub enum Address {
     Refused,
 }
 
-fn between(first: u8, last: u8, c: u8) -> bool
-    ensures { λ r. ⌜ r ≡ isBetween first last c ⌝ }
-{
-    if c < first {
-        return false;
-    }
-    c <= last
-}
-
 fn digit_value(c: u8) -> u32
-    ensures { λ r. ⌜ r ≡ digitValue c ⌝ }
+    ensures { λ r. ⌜ r ≡ digitOf c ⌝ }
 {
-    if between(b'0', b'9', c) {
-        return (c - b'0') as u32;
-    }
-    if between(b'A', b'F', c) {
-        return (c - b'A' + 10) as u32;
-    }
-    if between(b'a', b'f', c) {
-        return (c - b'a' + 10) as u32;
-    }
-    16
+    digit(c) as u32
 }
 
-fn at_most_8192(v: u32) -> u32
-    ensures { λ r. ⌜ r ≡ min 8192 v ⌝ }
+// No image has more addresses or lines.
+const MOST: u32 = 8192;
+
+fn at_most_addresses(v: u32) -> u32
+    ensures { λ r. ⌜ r ≡ min addresses v ⌝ }
 {
-    if v < 8192 {
+    if v < MOST {
         return v;
     }
-    8192
+    MOST
 }
 
-// A number to a base up to 16; 8192 for each one above it.
+// A number to a base up to 16; and 8192 for each one above it.
 pub fn read_number(word: &[u8], base: u32) -> Number
     requires { ⌜ (0 < base) × (base ≤ 16) ⌝ }
     ensures { λ r. ⌜ r ≡ numberOf base (now (word .entry)) ⌝ }
@@ -62,7 +50,7 @@ pub fn read_number(word: &[u8], base: u32) -> Number
         if base <= d {
             return Number::Nothing;
         }
-        value = at_most_8192(value * base + d);
+        value = at_most_addresses(value * base + d);
         i += 1;
     }
     Number::Value(value)
@@ -77,7 +65,7 @@ pub fn read_address(word: &[u8]) -> Address
     let Number::Value(v) = read_number(word, 16) else {
         return Address::Refused;
     };
-    if 8191 < v {
+    if LAST_ADDRESS < v {
         return Address::Refused;
     }
     Address::At(v as u16)

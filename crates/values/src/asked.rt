@@ -11,14 +11,17 @@ use machine::Core;
 use machine::Machine;
 use machine::ram::at_x;
 use machine::ram::poke;
+use numbers::ADDRESSES;
+use numbers::IMAGE_BYTES;
 use step::Options;
 use step::step;
 ghost use mathlib.Core.Path.{_≡_};
 ghost use Prim.Native.Nat.{_<_, _≤_};
 ghost use lib.ListN.{length};
+ghost use Rattle.numbers.specs.Sizes.{addresses, imageBytes};
 
 // A new value.
-pub fn begin(image: &mut [u8; 8192], b: Bench) -> Bench {
+pub fn begin(image: &mut [u8; IMAGE_BYTES], b: Bench) -> Bench {
     for i in 0..8192 {
         image[i] = 0;
     }
@@ -30,39 +33,39 @@ pub fn begin(image: &mut [u8; 8192], b: Bench) -> Bench {
 }
 
 // An address's byte in the image; addresses wrap.
-fn put(image: &mut [u8; 8192], address: u32, v: u32) {
-    image[(address % 8192) as usize] = (v % 256) as u8;
+fn put(image: &mut [u8; IMAGE_BYTES], address: u32, v: u32) {
+    image[(address % ADDRESSES) as usize] = (v % 256) as u8;
 }
 
 // The words from a place on, put into the image from an address on; the address after them.
-fn put_words(image: &mut [u8; 8192], text: &[u8], from: usize, address: u32) -> u32
-    requires { ⌜ (from ≤ length (now text)) × (address < 8192) ⌝ }
-    ensures { λ r. ⌜ r < 8192 ⌝ }
+fn put_words(image: &mut [u8; IMAGE_BYTES], text: &[u8], from: usize, address: u32) -> u32
+    requires { ⌜ (from ≤ length (now text)) × (address < addresses) ⌝ }
+    ensures { λ r. ⌜ r < addresses ⌝ }
 {
     let mut at = from;
     let mut to = address;
     while at < text.len() {
         put(image, to, hexadecimal_at(text, at));
-        to = (to + 1) % 8192;
+        to = (to + 1) % ADDRESSES;
         at = next_word(text, at);
     }
     to
 }
 
 // The bytes that follow the address of an `at` or a `rom`; the address after them.
-fn put_all(image: &mut [u8; 8192], text: &[u8], from: usize) -> u32
+fn put_all(image: &mut [u8; IMAGE_BYTES], text: &[u8], from: usize) -> u32
     requires { ⌜ from < length (now text) ⌝ }
-    ensures { λ r. ⌜ r < 8192 ⌝ }
+    ensures { λ r. ⌜ r < addresses ⌝ }
 {
     let at = next_word(text, from);
     if at == text.len() {
         return 0;
     }
     let bytes = next_word(text, at);
-    put_words(image, text, bytes, hexadecimal_at(text, at) % 8192)
+    put_words(image, text, bytes, hexadecimal_at(text, at) % ADDRESSES)
 }
 
-pub fn bytes(image: &mut [u8; 8192], b: Bench, text: &[u8], from: usize) -> Bench
+pub fn bytes(image: &mut [u8; IMAGE_BYTES], b: Bench, text: &[u8], from: usize) -> Bench
     requires { ⌜ from < length (now text) ⌝ }
 {
     put_all(image, text, from);
@@ -71,8 +74,8 @@ pub fn bytes(image: &mut [u8; 8192], b: Bench, text: &[u8], from: usize) -> Benc
 
 // The row at an address as the lister prints it, where the address is before the end; the address after it.
 fn list_row(image: &[u8], at: u16, end: u16) -> u16
-    requires { ⌜ (length (now image) ≡ 8192) × (at < 8192) ⌝ }
-    ensures { λ r. ⌜ r < 8192 ⌝ }
+    requires { ⌜ (length (now image) ≡ imageBytes) × (at < addresses) ⌝ }
+    ensures { λ r. ⌜ r < addresses ⌝ }
 {
     if end <= at {
         return at;
@@ -81,12 +84,12 @@ fn list_row(image: &[u8], at: u16, end: u16) -> u16
     let n = text_lister::line::line(&mut out, 0, image, at);
     say(b"  ");
     say(&out[..n]);
-    text_lister::line::after(image, at) % 8192
+    text_lister::line::after(image, at) % ADDRESSES
 }
 
 // The rows from an address up to another, sixteen at most.
 fn list(image: &[u8], from: u16, end: u16)
-    requires { ⌜ (length (now image) ≡ 8192) × (from < 8192) ⌝ }
+    requires { ⌜ (length (now image) ≡ imageBytes) × (from < addresses) ⌝ }
 {
     let mut at = from;
     let mut left: u32 = 16;
@@ -96,13 +99,13 @@ fn list(image: &[u8], from: u16, end: u16)
     }
 }
 
-pub fn rows(image: &mut [u8; 8192], b: Bench, text: &[u8], from: usize) -> Bench
+pub fn rows(image: &mut [u8; IMAGE_BYTES], b: Bench, text: &[u8], from: usize) -> Bench
     requires { ⌜ from < length (now text) ⌝ }
 {
     let end = put_all(image, text, from);
     let at = next_word(text, from);
     if at < text.len() {
-        let start = hexadecimal_at(text, at) % 8192;
+        let start = hexadecimal_at(text, at) % ADDRESSES;
         list(image, start as u16, end as u16);
     }
     b
@@ -198,7 +201,7 @@ fn stepped(image: &[u8], b: Bench, count: u32, frame: &[u8]) -> Bench {
     }
 }
 
-pub fn steps(image: &[u8; 8192], b: Bench, text: &[u8], from: usize) -> Bench
+pub fn steps(image: &[u8; IMAGE_BYTES], b: Bench, text: &[u8], from: usize) -> Bench
     requires { ⌜ from < length (now text) ⌝ }
 {
     let at = next_word(text, from);

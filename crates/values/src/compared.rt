@@ -1,8 +1,8 @@
 // The lines that compare: each says what came out, and whether it is as written.
-use crate::asked::place_of;
-use crate::bench::Bench;
 use bits::bit_at;
 use bound::Bounded;
+use crate::asked::place_of;
+use crate::bench::Bench;
 use fields::cursor::decimal_at;
 use fields::cursor::hexadecimal_at;
 use fields::cursor::next_word;
@@ -12,6 +12,12 @@ use fields::say::say_decimal;
 use fields::say::say_number;
 use laws::both;
 use machine::Core;
+use numbers::ADDRESS_OVER_8191;
+use numbers::EXCLUDED_INSTRUCTION_REACHABLE;
+use numbers::IMAGE_BYTES;
+use numbers::IMAGE_IS_NOT_8192_BYTES;
+use numbers::PATH_BUFFER_TOO_SHORT;
+use numbers::REPETITION_REACHABLE;
 ghost use Prim.Native.Nat.{_<_, _≤_};
 ghost use lib.ListN.{length};
 
@@ -165,23 +171,23 @@ struct Answered {
 fn numbered(found: Bounded) -> Answered {
     match found {
         Bounded::ImageSize => Answered {
-            number: 1,
+            number: IMAGE_IS_NOT_8192_BYTES,
             value: 0,
         },
         Bounded::AddressRange => Answered {
-            number: 20,
+            number: ADDRESS_OVER_8191,
             value: 0,
         },
         Bounded::Excluded(at) => Answered {
-            number: 21,
+            number: EXCLUDED_INSTRUCTION_REACHABLE,
             value: at,
         },
         Bounded::Repeats(at) => Answered {
-            number: 22,
+            number: REPETITION_REACHABLE,
             value: at,
         },
         Bounded::Short(bytes) => Answered {
-            number: 23,
+            number: PATH_BUFFER_TOO_SHORT,
             value: bytes,
         },
         Bounded::Longest(n) => Answered {
@@ -220,7 +226,7 @@ fn path_is(path: &[u8; 64], text: &[u8], from: usize) -> bool
     )
 }
 
-pub fn bound(image: &[u8; 8192], b: Bench, text: &[u8], from: usize) -> Bench
+pub fn bound(image: &[u8; IMAGE_BYTES], b: Bench, text: &[u8], from: usize) -> Bench
     requires { ⌜ from < length (now text) ⌝ }
 {
     let at = next_word(text, from);

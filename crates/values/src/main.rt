@@ -20,11 +20,12 @@ use fields::cursor::next_line;
 use fields::say::say;
 use libc::STDIN_FILENO;
 use libc::STDOUT_FILENO;
+use numbers::IMAGE_BYTES;
 ghost use Prim.Native.Nat.{_<_};
 ghost use lib.ListN.{length};
 
 // One line of a value, which sets something up or compares something.
-fn follow(image: &mut [u8; 8192], b: Bench, text: &[u8], from: usize) -> Bench
+fn follow(image: &mut [u8; IMAGE_BYTES], b: Bench, text: &[u8], from: usize) -> Bench
     requires { ⌜ from < length (now text) ⌝ }
 {
     match text[from] {
@@ -44,7 +45,7 @@ fn follow(image: &mut [u8; 8192], b: Bench, text: &[u8], from: usize) -> Bench
 }
 
 // Whether every comparison was as written.
-fn follow_all(image: &mut [u8; 8192], text: &[u8]) -> bool {
+fn follow_all(image: &mut [u8; IMAGE_BYTES], text: &[u8]) -> bool {
     let mut b = bench::fresh_bench();
     let mut from = 0;
     while from < text.len() {
@@ -59,7 +60,7 @@ fn follow_all(image: &mut [u8; 8192], text: &[u8]) -> bool {
 fn main() {
     let mut text = io::large_buffer();
     let size = io::read_full(STDIN_FILENO, &mut text);
-    let mut image = [0u8; 8192];
+    let mut image = [0u8; IMAGE_BYTES];
     if follow_all(&mut image, &text[..size]) {
         say(b"all as written\n");
         return;

@@ -1,4 +1,4 @@
--- `explore::explore` meets its contract.
+-- `bound_explore::explore` meets its contract.
 use mathlib.Core.Path.{_≡_, _∙_}
 use Prim.Native.Nat.{_-_}
 use native.Mathlib.Omega.{arith}

@@ -1,4 +1,4 @@
--- `explore::visit` meets its contract.
+-- `bound_explore::visit` meets its contract.
 use denote.Ref.{now}
 use Rattle.sheet.specs.Reading.{romOf}
 use Rattle.graph_search.proofs.Grown.{room-grown}

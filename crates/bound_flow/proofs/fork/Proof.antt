@@ -1,4 +1,4 @@
--- `flow::fork` meets its contract.
+-- `bound_flow::fork` meets its contract.
 use borrow.Author.Needs.{needs}
 use Rattle.bound_flow.proofs.fork.Statement.{statement}
 use Rattle.bound_flow.proofs.fork.Tie as tie

@@ -1,4 +1,4 @@
--- `flow::node_at` meets its contract.
+-- `bound_flow::node_at` meets its contract.
 use mathlib.Core.Path.{sym, _∙_}
 use native.Mathlib.Omega.{arith}
 use denote.Ref.{now}

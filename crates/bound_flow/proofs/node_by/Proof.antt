@@ -1,4 +1,4 @@
--- `flow::node_by` meets its contract.
+-- `bound_flow::node_by` meets its contract.
 use Prim.Native.Nat.{_+_, _*_, _%_}
 use native.Mathlib.Nat.{add-zero}
 use Rattle.bound_flow.proofs.Ways.{last-way}

@@ -1,4 +1,4 @@
--- `flow::way_of` meets its contract.
+-- `bound_flow::way_of` meets its contract.
 use Rattle.sheet.specs.Table.{lines, lineAt}
 use mathlib.Core.Path.{refl}
 use native.Mathlib.Omega.{arith}

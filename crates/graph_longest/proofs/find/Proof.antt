@@ -1,4 +1,4 @@
--- `longest::find` meets its contract: what each function ensures, put together as the answer's meaning.
+-- `graph_longest::find` meets its contract: what each function ensures, put together as the answer's meaning.
 use borrow.Author.Needs.{needs}
 use mathlib.Core.Path.{refl, sym, _∙_}
 use native.Mathlib.Omega.{arith}

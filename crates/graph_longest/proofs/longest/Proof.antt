@@ -1,4 +1,4 @@
--- `longest::longest` meets its contract: it lends arrays of zeros, as many as there are places.
+-- `graph_longest::longest` meets its contract: it lends arrays of zeros, as many as there are places.
 use borrow.Author.Needs.{needs}
 use mathlib.Core.Path.{refl}
 use Rattle.graph_search.proofs.Zeros.{blank-zeros}

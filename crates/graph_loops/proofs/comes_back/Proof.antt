@@ -1,4 +1,4 @@
--- `loops::comes_back` meets its contract.
+-- `graph_loops::comes_back` meets its contract.
 use borrow.Author.Needs.{needs}
 use native.Mathlib.Omega.{arith}
 use Rattle.graph.proofs.Reach.{laid-at}

@@ -1,4 +1,4 @@
--- `loops::find` meets its contract: whatever the ranks are, they rule a place out only where none rises.
+-- `graph_loops::find` meets its contract: whatever the ranks are, they rule a place out only where none rises.
 use borrow.Author.Needs.{needs}
 use mathlib.Core.Path.{_∙_, sym}
 use native.Mathlib.Omega.{arith}

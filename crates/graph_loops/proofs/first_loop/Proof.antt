@@ -1,4 +1,4 @@
--- `loops::first_loop` meets its contract: it lends arrays of as many elements as there are places.
+-- `graph_loops::first_loop` meets its contract: it lends arrays of as many elements as there are places.
 use borrow.Author.Needs.{needs}
 use mathlib.Core.Path.{sym}
 use native.Mathlib.Omega.{arith}

@@ -1,4 +1,4 @@
--- `loops::highest_after` meets its contract.
+-- `graph_loops::highest_after` meets its contract.
 use borrow.Author.Needs.{needs}
 use mathlib.Core.Logic.{⊎-elim}
 use native.Mathlib.Omega.{arith}

@@ -1,4 +1,4 @@
--- `loops::loops_at` meets its contract: a place that is skipped does not come back.
+-- `graph_loops::loops_at` meets its contract: a place that is skipped does not come back.
 use borrow.Author.Needs.{needs}
 use native.Mathlib.Omega.{arith}
 use Rattle.graph.proofs.Reach.{laid-at}

@@ -1,4 +1,4 @@
--- `loops::never_rises` meets its contract: no edge of the places that are passed rises.
+-- `graph_loops::never_rises` meets its contract: no edge of the places that are passed rises.
 use Prim.Native.Nat.{_≤_, _-_}
 use native.Mathlib.Omega.{arith}
 use Rattle.graph.specs.Laid.{graphOf}

@@ -1,4 +1,4 @@
--- `loops::scan` meets its contract: no place that is passed is marked and comes back.
+-- `graph_loops::scan` meets its contract: no place that is passed is marked and comes back.
 use Prim.Native.Nat.{_≤_, _-_}
 use lib.ListN.{length}
 use mathlib.Core.Path.{_≡_, refl, _∙_}

@@ -1,4 +1,4 @@
--- `components::components` meets its contract: it lends arrays of as many elements as there are places.
+-- `graph_ranks::components` meets its contract: it lends arrays of as many elements as there are places.
 use borrow.Author.Needs.{needs}
 use mathlib.Core.Path.{sym}
 use native.Mathlib.Omega.{arith}

@@ -1,4 +1,4 @@
--- `components::go_on` meets its contract: what follows a place is one of the places.
+-- `graph_ranks::go_on` meets its contract: what follows a place is one of the places.
 use borrow.Author.Needs.{needs}
 use native.Mathlib.Omega.{arith}
 use Rattle.graph.proofs.Reach.{successor-lt}

@@ -1,4 +1,4 @@
--- `components::leave` meets its contract.
+-- `graph_ranks::leave` meets its contract.
 use borrow.Author.Needs.{needs}
 use native.Mathlib.Omega.{arith}
 use Rattle.graph_search.proofs.Zeros.{wide16}

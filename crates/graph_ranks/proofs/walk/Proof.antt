@@ -1,4 +1,4 @@
--- `components::walk` meets its contract: at most one place is begun in a move, and one component complete.
+-- `graph_ranks::walk` meets its contract: at most one place is begun in a move, and one component complete.
 use Prim.Native.Nat.{_+_, _-_, _≤_, _<_}
 use lib.ListN.{length, length-set}
 use mathlib.Core.Path.{_≡_}

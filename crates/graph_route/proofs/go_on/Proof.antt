@@ -1,4 +1,4 @@
--- `route::go_on` meets its contract: both successors are places, and the test is the turn.
+-- `graph_route::go_on` meets its contract: both successors are places, and the test is the turn.
 use borrow.Author.Needs.{needs}
 use native.Mathlib.Omega.{arith}
 use mathlib.Core.Path.{refl}

@@ -1,4 +1,4 @@
--- `route::path_len` meets its contract: the places that are passed and the way from the present one make up the way; the sums fall, so that it ends.
+-- `graph_route::path_len` meets its contract: the places that are passed and the way from the present one make up the way; the sums fall, so that it ends.
 use native.Mathlib.Omega.{arith}
 use lib.ListN.{getD}
 use Rattle.graph.specs.Laid.{graphOf}

@@ -1,4 +1,4 @@
--- `route::put` meets its contract.
+-- `graph_route::put` meets its contract.
 use borrow.Author.Needs.{needs}
 use native.Mathlib.Omega.{arith}
 use lib.ListN.{length-set}

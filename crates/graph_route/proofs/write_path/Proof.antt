@@ -1,4 +1,4 @@
--- `route::write_path` meets its contract: the bytes of the places that are passed stand in the buffer.
+-- `graph_route::write_path` meets its contract: the bytes of the places that are passed stand in the buffer.
 use mathlib.Core.Path.{_≡_, refl, _∙_}
 use native.Mathlib.Omega.{arith}
 use lib.ListN.{length, getD}

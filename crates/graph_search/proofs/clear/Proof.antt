@@ -1,4 +1,4 @@
--- `search::clear` meets its contract: the elements that are passed are 0.
+-- `graph_search::clear` meets its contract: the elements that are passed are 0.
 use mathlib.Core.Path.{_≡_}
 use Prim.Native.Nat.{_≤_, _-_}
 use borrow.Author.Needs.{needs}

@@ -1,4 +1,4 @@
--- `search::lower` meets its contract.
+-- `graph_search::lower` meets its contract.
 use borrow.Author.Needs.{needs}
 use Rattle.graph_search.proofs.LowestOf.{lower-kept, lower-here}
 use Rattle.graph_search.proofs.lower.Statement.{statement}

@@ -1,4 +1,4 @@
--- `search::lowest` meets its contract: the lowest of the part of the queue that is passed.
+-- `graph_search::lowest` meets its contract: the lowest of the part of the queue that is passed.
 use Prim.Native.Nat.{_≤_, _-_}
 use borrow.Author.Needs.{needs}
 use lib.ListN.{length}

@@ -1,4 +1,4 @@
--- `search::mark` meets its contract: a marked place changes nothing, and another is marked and queued.
+-- `graph_search::mark` meets its contract: a marked place changes nothing, and another is marked and queued.
 use borrow.Author.Needs.{needs}
 use native.Mathlib.Omega.{arith}
 use Rattle.graph_search.proofs.Grown.{grown-none, grown-one, room-lt}

@@ -1,4 +1,4 @@
--- `search::reach` meets its contract: what stands before the head of the queue has its successors marked; the head comes to the end, since no more can be queued than there are places.
+-- `graph_search::reach` meets its contract: what stands before the head of the queue has its successors marked; the head comes to the end, since no more can be queued than there are places.
 use mathlib.Core.Path.{_≡_, refl, _∙_}
 use Prim.Native.Nat.{_-_}
 use native.Mathlib.Omega.{arith}

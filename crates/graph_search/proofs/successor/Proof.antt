@@ -1,4 +1,4 @@
--- `search::successor` meets its contract.
+-- `graph_search::successor` meets its contract.
 use borrow.Author.Needs.{needs}
 use mathlib.Core.Logic.{inl, inr}
 use mathlib.Core.Path.{refl}

@@ -1,4 +1,4 @@
--- `search::visit` meets its contract: the successors are marked, next before other.
+-- `graph_search::visit` meets its contract: the successors are marked, next before other.
 use borrow.Author.Needs.{needs}
 use native.Mathlib.Omega.{arith}
 use Rattle.graph.specs.Laid.{graphOf}

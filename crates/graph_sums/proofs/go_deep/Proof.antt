@@ -1,4 +1,4 @@
--- `sums::go_deep` meets its contract: the walk stays among the places, and the sums stay right.
+-- `graph_sums::go_deep` meets its contract: the walk stays among the places, and the sums stay right.
 use borrow.Author.Needs.{needs}
 use lib.ListN.{length-set}
 use native.Mathlib.Omega.{arith}

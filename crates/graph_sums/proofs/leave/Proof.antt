@@ -1,4 +1,4 @@
--- `sums::leave` meets its contract: the walk goes back to a place, or is over.
+-- `graph_sums::leave` meets its contract: the walk goes back to a place, or is over.
 use borrow.Author.Needs.{needs}
 use native.Mathlib.Omega.{arith}
 use Rattle.graph_search.proofs.Zeros.{wide16}

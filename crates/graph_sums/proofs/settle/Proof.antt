@@ -1,4 +1,4 @@
--- `sums::settle` meets its contract: the sum is stored where those after the place have theirs, and fits 32 bits.
+-- `graph_sums::settle` meets its contract: the sum is stored where those after the place have theirs, and fits 32 bits.
 use borrow.Author.Needs.{needs}
 use mathlib.Core.Path.{refl}
 use native.Mathlib.Omega.{arith}

@@ -1,4 +1,4 @@
--- `sums::sums` meets its contract: each sweep that changes something gives a place its sum, and one that changes nothing leaves the queue idle.
+-- `graph_sums::sums` meets its contract: each sweep that changes something gives a place its sum, and one that changes nothing leaves the queue idle.
 use Prim.Native.Nat.{_+_}
 use borrow.Author.Needs.{needs}
 use lib.ListN.{length}

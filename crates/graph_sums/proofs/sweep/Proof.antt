@@ -1,4 +1,4 @@
--- `sums::sweep` meets its contract: the part of the queue that is passed was settled.
+-- `graph_sums::sweep` meets its contract: the part of the queue that is passed was settled.
 use Prim.Native.Nat.{_≤_, _-_}
 use lib.ListN.{length}
 use mathlib.Core.Path.{_≡_, refl, _∙_}

@@ -1,4 +1,4 @@
--- `sums::walk` meets its contract: whatever the moves, the sums stay right; there are at most four to a place.
+-- `graph_sums::walk` meets its contract: whatever the moves, the sums stay right; there are at most four to a place.
 use Prim.Native.Nat.{_≤_, _-_, _*_}
 use lib.ListN.{length}
 use mathlib.Core.Path.{_≡_, refl, _∙_}

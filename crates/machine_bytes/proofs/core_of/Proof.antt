@@ -1,4 +1,4 @@
--- `layout::core_of` meets its contract.
+-- `machine_bytes::core_of` meets its contract.
 use Rattle.machine_bytes.proofs.Parts.{head-laid}
 use borrow.Author.Needs.{needs}
 use Rattle.machine_bytes.proofs.core_of.Statement.{statement}

@@ -1,4 +1,4 @@
--- `layout::flag` meets its contract.
+-- `machine_bytes::flag` meets its contract.
 use Rattle.machine_bytes.proofs.Numbers.{flag-of}
 use Rattle.machine_bytes.proofs.flag.Statement.{statement}
 use Rattle.machine_bytes.proofs.flag.Tie as tie

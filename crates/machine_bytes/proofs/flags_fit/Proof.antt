@@ -1,4 +1,4 @@
--- `layout::flags_fit` meets its contract.
+-- `machine_bytes::flags_fit` meets its contract.
 use Rattle.machine_bytes.proofs.Numbers.{flagsFit}
 use borrow.Author.Needs.{needs}
 use Rattle.machine_bytes.proofs.flags_fit.Statement.{statement}

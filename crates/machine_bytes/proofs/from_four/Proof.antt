@@ -1,4 +1,4 @@
--- `layout::from_four` meets its contract.
+-- `machine_bytes::from_four` meets its contract.
 use Rattle.machine_bytes.proofs.Numbers.{four-of}
 use borrow.Author.Needs.{needs}
 use Rattle.machine_bytes.proofs.from_four.Statement.{statement}

@@ -1,4 +1,4 @@
--- `layout::from_two` meets its contract.
+-- `machine_bytes::from_two` meets its contract.
 use Rattle.machine_bytes.proofs.Numbers.{two-of}
 use borrow.Author.Needs.{needs}
 use Rattle.machine_bytes.proofs.from_two.Statement.{statement}

@@ -1,4 +1,4 @@
--- `layout::head_at` meets its contract.
+-- `machine_bytes::head_at` meets its contract.
 use mathlib.Core.Path.{sym, _∙_}
 use native.Mathlib.Nat.{le-of-eq}
 use lib.Seq.{length-take-le}

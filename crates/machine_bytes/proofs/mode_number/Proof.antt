@@ -1,4 +1,4 @@
--- `layout::mode_number` meets its contract.
+-- `machine_bytes::mode_number` meets its contract.
 use Rattle.machine_bytes.specs.Layout.{modeNumber}
 use borrow.Author.Needs.{needs}
 use Rattle.machine_bytes.proofs.mode_number.Statement.{statement}

@@ -1,4 +1,4 @@
--- `layout::mode_of` meets its contract.
+-- `machine_bytes::mode_of` meets its contract.
 use borrow.Author.Needs.{needs}
 use Rattle.machine_bytes.specs.Layout.{modeNumber}
 use Rattle.machine_bytes.proofs.mode_of.Statement.{statement}

@@ -1,4 +1,4 @@
--- `layout::nibbles_of` meets its contract.
+-- `machine_bytes::nibbles_of` meets its contract.
 use mathlib.Core.Path.{refl}
 use Rattle.machine_bytes.specs.Layout.{latchBytes, nibblesOf}
 use Rattle.machine_bytes.proofs.nibbles_of.Statement.{statement}

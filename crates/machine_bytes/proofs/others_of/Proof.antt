@@ -1,4 +1,4 @@
--- `layout::others_of` meets its contract.
+-- `machine_bytes::others_of` meets its contract.
 use Rattle.machine_bytes.specs.Layout.{two, four, othersOf}
 use borrow.Author.Needs.{needs}
 use Rattle.machine_bytes.proofs.others_of.Statement.{statement}

@@ -1,4 +1,4 @@
--- `layout::pack` meets its contract.
+-- `machine_bytes::pack` meets its contract.
 use Rattle.machine_bytes.proofs.Parts.{room-for-ram, packed}
 use borrow.Author.Needs.{needs}
 use Rattle.machine_bytes.proofs.pack.Statement.{statement}

@@ -1,4 +1,4 @@
--- `layout::ports_of` meets its contract.
+-- `machine_bytes::ports_of` meets its contract.
 use native.Mathlib.Omega.{arith}
 use Rattle.machine_bytes.proofs.Parts.{listed-part}
 use Rattle.machine_bytes.specs.Layout.{latchBytes}

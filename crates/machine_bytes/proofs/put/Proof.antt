@@ -1,4 +1,4 @@
--- `layout::put` meets its contract.
+-- `machine_bytes::put` meets its contract.
 use Rattle.machine_bytes.proofs.Parts.{put-wrote}
 use borrow.Author.Needs.{needs}
 use Rattle.machine_bytes.proofs.put.Statement.{statement}

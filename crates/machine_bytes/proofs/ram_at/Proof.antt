@@ -1,4 +1,4 @@
--- `layout::ram_at` meets its contract.
+-- `machine_bytes::ram_at` meets its contract.
 use mathlib.Core.Path.{_∙_}
 use Rattle.machine_bytes.proofs.Parts.{copied, ram-rest, ram-length}
 use borrow.Author.Needs.{needs}

@@ -1,4 +1,4 @@
--- `layout::unpack` meets its contract.
+-- `machine_bytes::unpack` meets its contract.
 use mathlib.Core.Path.{ap, _∙_}
 use native.Mathlib.Omega.{arith}
 use lib.ListN.{length}

@@ -1,4 +1,4 @@
--- `start::fresh` meets its contract.
+-- `machine_start::fresh` meets its contract.
 use borrow.Author.Needs.{needs}
 use Rattle.machine_start.proofs.fresh.Statement.{statement}
 use Rattle.machine_start.proofs.fresh.Tie as tie

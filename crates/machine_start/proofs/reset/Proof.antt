@@ -1,4 +1,4 @@
--- `start::reset` meets its contract.
+-- `machine_start::reset` meets its contract.
 use mathlib.Core.Path.{refl}
 use Rattle.laws.proofs.Computed.{true→T}
 use borrow.Author.Needs.{needs}

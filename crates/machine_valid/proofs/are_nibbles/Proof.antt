@@ -1,4 +1,4 @@
--- `valid::are_nibbles` meets its contract. The invariant: every nibble passed is below 16.
+-- `machine_valid::are_nibbles` meets its contract. The invariant: every nibble passed is below 16.
 use Prim.Native.Nat.{ℕ, _-_, _<_, _≤_}
 use native.Mathlib.Omega.{arith}
 use lib.ListN.{getD}

@@ -1,4 +1,4 @@
--- `valid::core_is_valid` meets its contract.
+-- `machine_valid::core_is_valid` meets its contract.
 use Rattle.laws.proofs.Decided.{given}
 use Rattle.machine_valid.proofs.Validity.{core}
 use borrow.Author.Needs.{needs}

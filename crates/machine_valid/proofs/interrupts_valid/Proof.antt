@@ -1,4 +1,4 @@
--- `valid::interrupts_valid` meets its contract.
+-- `machine_valid::interrupts_valid` meets its contract.
 use Rattle.machine_valid.proofs.Validity.{interrupts}
 use borrow.Author.Needs.{needs}
 use Rattle.machine_valid.proofs.interrupts_valid.Statement.{statement}

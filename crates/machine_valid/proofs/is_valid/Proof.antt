@@ -1,4 +1,4 @@
--- `valid::is_valid` meets its contract.
+-- `machine_valid::is_valid` meets its contract.
 use Rattle.laws.proofs.Decided.{given}
 use Rattle.machine_valid.proofs.Validity.{machine}
 use borrow.Author.Needs.{needs}

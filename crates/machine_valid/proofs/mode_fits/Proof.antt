@@ -1,4 +1,4 @@
--- `valid::mode_fits` meets its contract.
+-- `machine_valid::mode_fits` meets its contract.
 use Rattle.ports.specs.declared.Mode.{Mode}
 use Rattle.machine_valid.proofs.Validity.{modeFits}
 use borrow.Author.Needs.{needs}

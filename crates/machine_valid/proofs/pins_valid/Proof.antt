@@ -1,4 +1,4 @@
--- `valid::pins_valid` meets its contract.
+-- `machine_valid::pins_valid` meets its contract.
 use Rattle.machine_valid.proofs.Validity.{pins}
 use borrow.Author.Needs.{needs}
 use Rattle.machine_valid.proofs.pins_valid.Statement.{statement}

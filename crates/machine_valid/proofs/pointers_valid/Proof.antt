@@ -1,4 +1,4 @@
--- `valid::pointers_valid` meets its contract.
+-- `machine_valid::pointers_valid` meets its contract.
 use Rattle.machine_valid.proofs.Validity.{pointers}
 use borrow.Author.Needs.{needs}
 use Rattle.machine_valid.proofs.pointers_valid.Statement.{statement}

@@ -1,4 +1,4 @@
--- `valid::ports_valid` meets its contract.
+-- `machine_valid::ports_valid` meets its contract.
 use Rattle.machine_valid.proofs.Validity.{ports}
 use borrow.Author.Needs.{needs}
 use Rattle.machine_valid.proofs.ports_valid.Statement.{statement}

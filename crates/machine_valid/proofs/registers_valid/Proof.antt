@@ -1,4 +1,4 @@
--- `valid::registers_valid` meets its contract.
+-- `machine_valid::registers_valid` meets its contract.
 use Rattle.machine_valid.proofs.Validity.{registers}
 use borrow.Author.Needs.{needs}
 use Rattle.machine_valid.proofs.registers_valid.Statement.{statement}

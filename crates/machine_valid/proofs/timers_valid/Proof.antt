@@ -1,4 +1,4 @@
--- `valid::timers_valid` meets its contract.
+-- `machine_valid::timers_valid` meets its contract.
 use Rattle.machine_valid.proofs.Validity.{timers}
 use borrow.Author.Needs.{needs}
 use Rattle.machine_valid.proofs.timers_valid.Statement.{statement}

@@ -1,4 +1,4 @@
--- `perform::group_of` meets its contract.
+-- `row_dispatch::group_of` meets its contract.
 use native.Mathlib.Omega.{arith}
 use borrow.Author.Needs.{needs}
 use Rattle.row_dispatch.proofs.Groups.{unpacked}

@@ -1,4 +1,4 @@
--- `perform::groups_from` meets its contract.
+-- `row_dispatch::groups_from` meets its contract.
 use native.Mathlib.Omega.{arith}
 use mathlib.Core.List.{[], _∷_}
 use Rattle.row_dispatch.proofs.Groups.{packed-at, last}

@@ -1,4 +1,4 @@
--- `perform::perform` meets its contract.
+-- `row_dispatch::perform` meets its contract.
 use borrow.Author.Needs.{needs}
 use Rattle.row_dispatch.proofs.Arms.{acted}
 use Rattle.row_dispatch.proofs.perform.Statement.{statement}

@@ -1,4 +1,4 @@
--- `pairs::exchange_pair` meets its contract.
+-- `row_ram_pair::exchange_pair` meets its contract.
 use mathlib.Core.Path.{refl}
 use borrow.Author.Needs.{needs}
 use Rattle.machine.proofs.Places.{set-nibble}

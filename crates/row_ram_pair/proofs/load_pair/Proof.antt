@@ -1,4 +1,4 @@
--- `pairs::load_pair` meets its contract.
+-- `row_ram_pair::load_pair` meets its contract.
 use mathlib.Core.Path.{refl}
 use borrow.Author.Needs.{needs}
 use Rattle.row_ram.proofs.Around.{stopped-there}

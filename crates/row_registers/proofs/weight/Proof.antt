@@ -1,4 +1,4 @@
--- `near::weight` meets its contract.
+-- `row_registers::weight` meets its contract.
 use native.Mathlib.Omega.{arith}
 use borrow.Author.Tests.{ne-eqb}
 use Rattle.row_registers.proofs.weight.Statement.{statement}

@@ -1,4 +1,4 @@
--- `families::by_aligned_x` meets its contract.
+-- `sheet_rows::by_aligned_x` meets its contract.
 use borrow.Author.Tests.{eq-eqb, ne-eqb}
 use borrow.Author.Needs.{needs}
 use Rattle.sheet_rows.proofs.by_aligned_x.Statement.{statement}

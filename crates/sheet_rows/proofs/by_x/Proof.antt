@@ -1,4 +1,4 @@
--- `families::by_x` meets its contract.
+-- `sheet_rows::by_x` meets its contract.
 use borrow.Author.Tests.{lt-ltb, le-ltb}
 use borrow.Author.Needs.{needs}
 use Rattle.sheet_rows.proofs.by_x.Statement.{statement}

@@ -1,4 +1,4 @@
--- `families::family_4` meets its contract.
+-- `sheet_rows::family_4` meets its contract.
 use mathlib.Core.Path.{refl, ap, _∙_}
 use mathlib.Core.List.{[], _∷_}
 use Prim.Native.Nat.{ℕ, _/_, _%_, _<_}

@@ -1,4 +1,4 @@
--- `families::family_5` meets its contract.
+-- `sheet_rows::family_5` meets its contract.
 use mathlib.Core.Path.{refl}
 use mathlib.Core.List.{_∷_}
 use Prim.Native.Nat.{_/_, _%_}

@@ -1,4 +1,4 @@
--- `families::family_6` meets its contract.
+-- `sheet_rows::family_6` meets its contract.
 use mathlib.Core.List.{[], _∷_}
 use Prim.Native.Nat.{_/_, _%_}
 use native.Mathlib.Omega.{arith}

@@ -1,4 +1,4 @@
--- `families::far_branch` meets its contract.
+-- `sheet_rows::far_branch` meets its contract.
 use borrow.Author.Tests.{eq-eqb, ne-eqb}
 use borrow.Author.Needs.{needs}
 use Rattle.sheet_rows.proofs.far_branch.Statement.{statement}

@@ -1,4 +1,4 @@
--- `families::found` meets its contract.
+-- `sheet_rows::found` meets its contract.
 use mathlib.Core.Path.{refl, ap, _∙_}
 use mathlib.Core.List.{[], _∷_}
 use Prim.Native.Nat.{ℕ, _/_, _%_, _<_}

@@ -1,4 +1,4 @@
--- `families::loads` meets its contract.
+-- `sheet_rows::loads` meets its contract.
 use mathlib.Core.Path.{sym, _∙_}
 use mathlib.Core.List.{_∷_}
 use Prim.Native.Nat.{_/_, _%_}

@@ -1,4 +1,4 @@
--- `families::row_5` meets its contract.
+-- `sheet_rows::row_5` meets its contract.
 use mathlib.Core.Path.{_≡_, refl}
 use mathlib.Core.List.{[], _∷_}
 use native.Mathlib.Omega.{arith}

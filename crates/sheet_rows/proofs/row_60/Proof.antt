@@ -1,4 +1,4 @@
--- `families::row_60` meets its contract.
+-- `sheet_rows::row_60` meets its contract.
 use mathlib.Core.Path.{_≡_, refl}
 use mathlib.Core.List.{[], _∷_}
 use native.Mathlib.Omega.{arith}

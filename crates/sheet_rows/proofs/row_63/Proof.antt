@@ -1,4 +1,4 @@
--- `families::row_63` meets its contract.
+-- `sheet_rows::row_63` meets its contract.
 use mathlib.Core.Path.{ap, _∙_}
 use Prim.Native.Nat.{ℕ, _%_}
 use native.Mathlib.Omega.{arith}

@@ -1,4 +1,4 @@
--- `families::row_69` meets its contract.
+-- `sheet_rows::row_69` meets its contract.
 use mathlib.Core.Path.{refl}
 use native.Mathlib.Omega.{arith}
 use Rattle.sheet.specs.Reading.{rowNumber, rowWith}

@@ -1,4 +1,4 @@
--- `families::row_6a` meets its contract.
+-- `sheet_rows::row_6a` meets its contract.
 use mathlib.Core.Path.{refl}
 use native.Mathlib.Omega.{arith}
 use Rattle.sheet.specs.Reading.{rowNumber, rowWith}

@@ -1,4 +1,4 @@
--- `families::row_6c` meets its contract.
+-- `sheet_rows::row_6c` meets its contract.
 use Prim.Native.Nat.{_%_}
 use native.Mathlib.Omega.{arith}
 use Rattle.sheet.specs.Reading.{rowNumber, rowWith}

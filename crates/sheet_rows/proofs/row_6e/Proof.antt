@@ -1,4 +1,4 @@
--- `families::row_6e` meets its contract.
+-- `sheet_rows::row_6e` meets its contract.
 use mathlib.Core.Path.{refl}
 use mathlib.Core.List.{[], _∷_}
 use Prim.Native.Nat.{_%_}

@@ -1,4 +1,4 @@
--- `families::row_6f` meets its contract.
+-- `sheet_rows::row_6f` meets its contract.
 use mathlib.Core.Path.{ap}
 use mathlib.Core.List.{[], _∷_}
 use Prim.Native.Nat.{ℕ, _%_}

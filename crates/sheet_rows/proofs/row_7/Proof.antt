@@ -1,4 +1,4 @@
--- `families::row_7` meets its contract.
+-- `sheet_rows::row_7` meets its contract.
 use mathlib.Core.Path.{refl}
 use mathlib.Core.List.{[], _∷_}
 use native.Mathlib.Omega.{arith}

@@ -1,4 +1,4 @@
--- `families::stores` meets its contract.
+-- `sheet_rows::stores` meets its contract.
 use mathlib.Core.Path.{sym, _∙_}
 use mathlib.Core.List.{_∷_}
 use Prim.Native.Nat.{_/_, _%_}

@@ -1,4 +1,4 @@
--- `act::accept` meets its contract.
+-- `step_act::accept` meets its contract.
 use borrow.Author.Needs.{needs}
 use Rattle.step_act.proofs.Acting.{stop-low, stop-high, accepts}
 use Rattle.step_act.proofs.accept.Statement.{statement}

@@ -1,4 +1,4 @@
--- `act::act` meets its contract.
+-- `step_act::act` meets its contract.
 use borrow.Author.Needs.{needs}
 use Rattle.step_act.proofs.ActValid.{turn-valid}
 use Rattle.step_act.proofs.Acting.{given-valid, time-passes}

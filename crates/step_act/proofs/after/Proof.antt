@@ -1,4 +1,4 @@
--- `act::after` meets its contract.
+-- `step_act::after` meets its contract.
 use mathlib.Core.Path.{_∙_}
 use Rattle.ports.specs.declared.Mode.{Mode}
 use borrow.Author.Needs.{needs}

@@ -1,4 +1,4 @@
--- `act::pass` meets its contract.
+-- `step_act::pass` meets its contract.
 use borrow.Author.Needs.{needs}
 use Rattle.step_act.proofs.ActValid.{time-in-range}
 use Rattle.step_act.proofs.pass.Statement.{statement}

@@ -1,4 +1,4 @@
--- `act::run_one` meets its contract.
+-- `step_act::run_one` meets its contract.
 use mathlib.Core.Path.{sym, _∙_}
 use denote.Ref.{now}
 use Rattle.sheet.specs.Reading.{romOf}

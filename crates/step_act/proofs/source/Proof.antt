@@ -1,4 +1,4 @@
--- `act::source` meets its contract.
+-- `step_act::source` meets its contract.
 use borrow.Author.Needs.{needs}
 use Rattle.step_act.specs.Act.{sourceOf}
 use Rattle.step_act.proofs.source.Statement.{statement}

@@ -1,4 +1,4 @@
--- `act::turn` meets its contract.
+-- `step_act::turn` meets its contract.
 use borrow.Author.Needs.{needs}
 use Rattle.step_act.proofs.Acting.{turn-accepts, turn-runs}
 use Rattle.step_act.proofs.turn.Statement.{statement}

@@ -1,4 +1,4 @@
--- `look::counted` meets its contract.
+-- `step_look::counted` meets its contract.
 use borrow.Author.Needs.{needs}
 use Rattle.step_look.specs.Look.{edgesCounted}
 use Rattle.step_look.proofs.Ranges.{edges-in-range}

@@ -1,4 +1,4 @@
--- `look::edges_latched` meets its contract.
+-- `step_look::edges_latched` meets its contract.
 use native.Mathlib.Omega.{arith}
 use lib.Dec.{lit<}
 use borrow.Author.Needs.{needs}

@@ -1,4 +1,4 @@
--- `look::edges_timed` meets its contract.
+-- `step_look::edges_timed` meets its contract.
 use borrow.Author.Needs.{needs}
 use Rattle.step_look.proofs.edges_timed.Statement.{statement}
 use Rattle.step_look.proofs.edges_timed.Tie as tie

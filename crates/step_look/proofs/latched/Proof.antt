@@ -1,4 +1,4 @@
--- `look::latched` meets its contract.
+-- `step_look::latched` meets its contract.
 use borrow.Author.Needs.{needs}
 use Rattle.step_look.proofs.latched.Statement.{statement}
 use Rattle.step_look.proofs.latched.Tie as tie

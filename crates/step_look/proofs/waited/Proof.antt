@@ -1,4 +1,4 @@
--- `look::waited` meets its contract.
+-- `step_look::waited` meets its contract.
 use borrow.Author.Needs.{needs}
 use Rattle.step_look.specs.Look.{waited}
 use Rattle.step_look.proofs.waited.Statement.{statement}

@@ -1,4 +1,4 @@
--- `look::waking_cycles` meets its contract.
+-- `step_look::waking_cycles` meets its contract.
 use borrow.Author.Needs.{needs}
 use Rattle.step_look.proofs.Looking.{waking-cycles}
 use Rattle.step_look.proofs.waking_cycles.Statement.{statement}

@@ -1,4 +1,4 @@
--- `report::cycles_at` meets its contract.
+-- `text_bounder::cycles_at` meets its contract.
 use mathlib.Core.Path.{refl, sym, _∙_}
 use native.Mathlib.Omega.{arith}
 use denote.Ref.{now}

@@ -1,4 +1,4 @@
--- `report::path_line` meets its contract.
+-- `text_bounder::path_line` meets its contract.
 use native.Mathlib.Omega.{arith}
 use Rattle.laws.proofs.Writing.{wrote-then}
 use Rattle.text_digits.proofs.Numbers.{places-up-to}

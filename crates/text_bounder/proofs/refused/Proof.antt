@@ -1,4 +1,4 @@
--- `report::refused` meets its contract.
+-- `text_bounder::refused` meets its contract.
 use native.Mathlib.Omega.{arith}
 use Rattle.laws.proofs.Writing.{wrote-then}
 use borrow.Author.Needs.{needs}

@@ -1,4 +1,4 @@
--- `report::refused_at` meets its contract.
+-- `text_bounder::refused_at` meets its contract.
 use native.Mathlib.Omega.{arith}
 use Rattle.laws.proofs.Writing.{wrote-then}
 use borrow.Author.Needs.{needs}

@@ -1,4 +1,4 @@
--- `report::summary` meets its contract.
+-- `text_bounder::summary` meets its contract.
 use native.Mathlib.Omega.{arith}
 use Rattle.laws.proofs.Writing.{wrote-then}
 use Rattle.text_bounder.proofs.Values.{excluded-small, repeats-small, short-small, longest-small, few-places}

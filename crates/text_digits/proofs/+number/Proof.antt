@@ -1,4 +1,4 @@
--- `digits::number` meets its contract: the measure is the number of places.
+-- `text_digits::number` meets its contract: the measure is the number of places.
 use Prim.Native.Nat.{ℕ, _<_}
 use native.Mathlib.Nat.{mod-lt}
 use native.Mathlib.Omega.{arith}

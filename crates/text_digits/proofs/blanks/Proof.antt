@@ -1,4 +1,4 @@
--- `digits::blanks` meets its contract.
+-- `text_digits::blanks` meets its contract.
 use mathlib.Core.Path.{sym}
 use native.Mathlib.Omega.{arith}
 use borrow.Author.Needs.{needs}

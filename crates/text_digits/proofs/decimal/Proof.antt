@@ -1,4 +1,4 @@
--- `digits::decimal` meets its contract.
+-- `text_digits::decimal` meets its contract.
 use borrow.Author.Needs.{needs}
 use Rattle.text_digits.proofs.decimal.Statement.{statement}
 use Rattle.text_digits.proofs.decimal.Tie as tie

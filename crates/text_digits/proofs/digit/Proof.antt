@@ -1,4 +1,4 @@
--- `digits::digit` meets its contract.
+-- `text_digits::digit` meets its contract.
 use mathlib.Core.Path.{refl}
 use borrow.Author.Needs.{needs}
 use Rattle.text_digits.specs.Digits.{digit}

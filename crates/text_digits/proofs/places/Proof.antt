@@ -1,4 +1,4 @@
--- `digits::places` meets its contract.
+-- `text_digits::places` meets its contract.
 use mathlib.Core.Path.{sym}
 use borrow.Author.Needs.{needs}
 use Rattle.text_digits.proofs.Numbers.{places-one, places-in}

@@ -1,4 +1,4 @@
--- `digits::put` meets its contract.
+-- `text_digits::put` meets its contract.
 use borrow.Author.Needs.{needs}
 use Rattle.laws.proofs.Writing.{wrote-one}
 use Rattle.text_digits.proofs.put.Statement.{statement}

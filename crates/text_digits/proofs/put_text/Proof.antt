@@ -1,4 +1,4 @@
--- `digits::put_text` meets its contract: from i on the text is left to be written.
+-- `text_digits::put_text` meets its contract: from i on the text is left to be written.
 use Prim.Native.Nat.{_-_, _≤_}
 use native.Mathlib.Omega.{arith}
 use lib.ListN.{length, drop, length-drop}

@@ -1,4 +1,4 @@
--- `notation::entry` meets its contract.
+-- `text_notation::entry` meets its contract.
 use borrow.Author.Tests.{eq-eqb, ne-eqb}
 use borrow.Author.Needs.{needs}
 use Rattle.text_notation.proofs.entry.Statement.{statement}

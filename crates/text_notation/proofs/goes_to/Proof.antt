@@ -1,4 +1,4 @@
--- `notation::goes_to` meets its contract.
+-- `text_notation::goes_to` meets its contract.
 use mathlib.Core.Path.{sym, _∙_}
 use Rattle.sheet.specs.Table.{lineAt}
 use Rattle.text_notation.proofs.Flows.{goes-by, goes-nowhere}

@@ -1,4 +1,4 @@
--- `notation::letter` meets its contract: its table is the one that the rows make.
+-- `text_notation::letter` meets its contract: its table is the one that the rows make.
 use Rattle.sheet.specs.Table.{lineAt}
 use Rattle.text_notation.proofs.Mnemonics.{mnemonics, letter-at, no-mnemonic}
 use borrow.Author.Needs.{needs}

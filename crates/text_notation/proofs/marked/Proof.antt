@@ -1,4 +1,4 @@
--- `notation::marked` meets its contract.
+-- `text_notation::marked` meets its contract.
 use Rattle.laws.proofs.Writing.{wrote-then}
 use borrow.Author.Needs.{needs}
 use Rattle.text_notation.proofs.marked.Statement.{statement}

@@ -1,4 +1,4 @@
--- `notation::row` meets its contract: from i on the mnemonic is left to be spelled.
+-- `text_notation::row` meets its contract: from i on the mnemonic is left to be spelled.
 use mathlib.Core.Path.{sym, _∙_}
 use Prim.Native.Nat.{_-_, _≤_}
 use native.Mathlib.Omega.{arith}

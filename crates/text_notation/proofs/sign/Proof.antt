@@ -1,4 +1,4 @@
--- `notation::sign` meets its contract.
+-- `text_notation::sign` meets its contract.
 use borrow.Author.Tests.{ne-eqb}
 use Rattle.text_notation.specs.Notation.{sign}
 use borrow.Author.Needs.{needs}

@@ -1,4 +1,4 @@
--- `lines::flag` meets its contract.
+-- `text_runner::flag` meets its contract.
 use borrow.Author.Needs.{needs}
 use Rattle.text_runner.proofs.flag.Statement.{statement}
 use Rattle.text_runner.proofs.flag.Tie as tie

@@ -1,4 +1,4 @@
--- `lines::flags` meets its contract.
+-- `text_runner::flags` meets its contract.
 use native.Mathlib.Omega.{arith}
 use borrow.Author.Needs.{needs}
 use Rattle.laws.proofs.Writing.{wrote-then}

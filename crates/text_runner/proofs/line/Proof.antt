@@ -1,4 +1,4 @@
--- `lines::line` meets its contract.
+-- `text_runner::line` meets its contract.
 use native.Mathlib.Omega.{arith}
 use Rattle.laws.proofs.Writing.{wrote-then, wrote-last}
 use Rattle.text_runner.specs.Lines.{stepLine}

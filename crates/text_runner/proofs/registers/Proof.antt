@@ -1,4 +1,4 @@
--- `lines::registers` meets its contract.
+-- `text_runner::registers` meets its contract.
 use native.Mathlib.Omega.{arith}
 use Rattle.laws.proofs.Writing.{wrote-then, wrote-last}
 use borrow.Author.Needs.{needs}

@@ -1,4 +1,4 @@
--- `lines::spent` meets its contract.
+-- `text_runner::spent` meets its contract.
 use native.Mathlib.Omega.{arith}
 use Rattle.laws.proofs.Writing.{wrote-then, wrote-last}
 use Rattle.text_digits.proofs.Numbers.{places-up-to}

@@ -1,4 +1,4 @@
--- `script::line_end` meets its contract: from i on the line's end is still to be found.
+-- `text_script::line_end` meets its contract: from i on the line's end is still to be found.
 use mathlib.Core.Path.{_≡_}
 use Prim.Native.Nat.{_+_, _-_, _≤_}
 use native.Mathlib.Omega.{arith}

@@ -1,4 +1,4 @@
--- `words::read_address` meets its contract.
+-- `text_words::read_address` meets its contract.
 use mathlib.Core.Path.{sym, ap, _∙_}
 use native.Mathlib.Omega.{arith}
 use borrow.Author.Tests.{lt-ltb, le-ltb, lt-leb}

@@ -1,4 +1,4 @@
--- `words::read_number` meets its contract.
+-- `text_words::read_number` meets its contract.
 use Prim.Native.Nat.{_-_, _≤_}
 use native.Mathlib.Omega.{arith}
 use borrow.Author.Needs.{needs}
@@ -33,14 +33,14 @@ returns-2 : tie.Need-returns-2 Inv-loop μ-loop
 unfolding numberOf
 returns-2 c = rw (lt-ltb 0 (length (now (c .before .before .before .before .before .before .before .args .word))) (omega arith), parsed-bad (c .before .before .before .before .loop .inv .0) (c .before .before .before .loop-test .taken) (rw (c .before .digit-value .ensures) at (c .if2 .taken)))
 
-mul-at-most-8192 : tie.Need-mul-at-most-8192 Inv-loop μ-loop
-mul-at-most-8192 c = omega (arith, product-small (c .before .before .before .before .loop .value) (c .before .before .before .before .before .before .before .args .base) (c .before .before .before .before .loop .inv .0 .small) (c .before .before .before .before .before .before .before .pre .1))
+mul-at-most-addresses : tie.Need-mul-at-most-addresses Inv-loop μ-loop
+mul-at-most-addresses c = omega (arith, product-small (c .before .before .before .before .loop .value) (c .before .before .before .before .before .before .before .args .base) (c .before .before .before .before .loop .inv .0 .small) (c .before .before .before .before .before .before .before .pre .1))
 
-add-at-most-8192 : tie.Need-add-at-most-8192 Inv-loop μ-loop
-add-at-most-8192 c = omega (arith, product-small (c .before .before .before .before .loop .value) (c .before .before .before .before .before .before .before .args .base) (c .before .before .before .before .loop .inv .0 .small) (c .before .before .before .before .before .before .before .pre .1))
+add-at-most-addresses : tie.Need-add-at-most-addresses Inv-loop μ-loop
+add-at-most-addresses c = omega (arith, product-small (c .before .before .before .before .loop .value) (c .before .before .before .before .before .before .before .args .base) (c .before .before .before .before .loop .inv .0 .small) (c .before .before .before .before .before .before .before .pre .1))
 
-at-most-8192-requires : tie.Need-at-most-8192-requires Inv-loop μ-loop
-at-most-8192-requires c κs = search needs
+at-most-addresses-requires : tie.Need-at-most-addresses-requires Inv-loop μ-loop
+at-most-addresses-requires c κs = search needs
 
 add-i : tie.Need-add-i Inv-loop μ-loop
 add-i c = omega arith
@@ -49,7 +49,7 @@ loop-less : tie.Need-loop-less Inv-loop μ-loop
 loop-less c = omega arith
 
 loop-again : tie.Need-loop-again Inv-loop μ-loop
-loop-again c = (rw (c .at-most-8192 .ensures, c .before .before .digit-value .ensures) (parsed-more (c .before .before .before .before .before .loop .inv .0) (c .before .before .before .before .before .before .before .before .pre .0) (c .before .before .before .before .loop-test .taken) (rw (c .before .before .digit-value .ensures) at (c .before .if2 .left))), omega arith)
+loop-again c = (rw (c .at-most-addresses .ensures, c .before .before .digit-value .ensures) (parsed-more (c .before .before .before .before .before .loop .inv .0) (c .before .before .before .before .before .before .before .before .pre .0) (c .before .before .before .before .loop-test .taken) (rw (c .before .before .digit-value .ensures) at (c .before .if2 .left))), omega arith)
 
 returns-3 : tie.Need-returns-3 Inv-loop μ-loop
 unfolding numberOf
@@ -66,9 +66,9 @@ read-number-spec =
     shared-slice-read-digit-value
     digit-value-requires
     returns-2
-    mul-at-most-8192
-    add-at-most-8192
-    at-most-8192-requires
+    mul-at-most-addresses
+    add-at-most-addresses
+    at-most-addresses-requires
     add-i
     loop-less
     loop-again

@@ -1,4 +1,4 @@
--- `turns::calls::call` meets its contract.
+-- `row_control::calls::call` meets its contract.
 use mathlib.Core.List.{[], _∷_}
 use Rattle.laws.proofs.Among.{first}
 use Rattle.row_control.proofs.Calling.{lcall, scall, stop-low, stop-high}

@@ -1,4 +1,4 @@
--- `turns::calls::called` meets its contract.
+-- `row_control::calls::called` meets its contract.
 use mathlib.Core.Path.{refl}
 use borrow.Author.Needs.{needs}
 use Rattle.row_control.proofs.calls.called.Statement.{statement}

@@ -1,4 +1,4 @@
--- `turns::calls::short_entry` meets its contract.
+-- `row_control::calls::short_entry` meets its contract.
 use borrow.Author.Tests.{eq-eqb, ne-eqb}
 use borrow.Author.Needs.{needs}
 use Rattle.row_control.proofs.calls.short_entry.Statement.{statement}

@@ -1,4 +1,4 @@
--- `turns::latches::latch` meets its contract.
+-- `row_control::latches::latch` meets its contract.
 use mathlib.Core.List.{[], _∷_}
 use borrow.Author.Needs.{needs}
 use Rattle.laws.proofs.Among.{first}

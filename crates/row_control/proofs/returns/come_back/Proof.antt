@@ -1,4 +1,4 @@
--- `turns::returns::come_back` meets its contract.
+-- `row_control::returns::come_back` meets its contract.
 use mathlib.Core.List.{[], _∷_}
 use Rattle.laws.proofs.Among.{first}
 use Rattle.row_control.proofs.Returning.{ret, rti, stop}

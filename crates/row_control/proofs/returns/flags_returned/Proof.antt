@@ -1,4 +1,4 @@
--- `turns::returns::flags_returned` meets its contract.
+-- `row_control::returns::flags_returned` meets its contract.
 use borrow.Author.Needs.{needs}
 use Rattle.row_control.proofs.returns.flags_returned.Statement.{statement}
 use Rattle.row_control.proofs.returns.flags_returned.Tie as tie

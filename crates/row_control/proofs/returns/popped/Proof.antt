@@ -1,4 +1,4 @@
--- `turns::returns::popped` meets its contract.
+-- `row_control::returns::popped` meets its contract.
 use borrow.Author.Needs.{needs}
 use Rattle.row_control.proofs.returns.popped.Statement.{statement}
 use Rattle.row_control.proofs.returns.popped.Tie as tie

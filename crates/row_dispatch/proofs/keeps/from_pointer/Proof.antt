@@ -1,4 +1,4 @@
--- `perform::keeps::from_pointer` meets its contract.
+-- `row_dispatch::keeps::from_pointer` meets its contract.
 use mathlib.Core.List.{[], _∷_}
 use borrow.Author.Needs.{needs}
 use Rattle.laws.proofs.Among.{first}

@@ -1,4 +1,4 @@
--- `perform::keeps::quiet` meets its contract.
+-- `row_dispatch::keeps::quiet` meets its contract.
 use mathlib.Core.Path.{refl}
 use mathlib.Core.List.{[], _∷_}
 use native.Mathlib.Omega.{arith}

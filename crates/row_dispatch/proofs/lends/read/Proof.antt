@@ -1,4 +1,4 @@
--- `perform::lends::read` meets its contract.
+-- `row_dispatch::lends::read` meets its contract.
 use mathlib.Core.List.{[], _∷_}
 use borrow.Author.Needs.{needs}
 use Rattle.row_dispatch.proofs.Groups.{last}

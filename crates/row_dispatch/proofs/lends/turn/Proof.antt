@@ -1,4 +1,4 @@
--- `perform::lends::turn` meets its contract.
+-- `row_dispatch::lends::turn` meets its contract.
 use mathlib.Core.List.{[], _∷_}
 use native.Mathlib.Omega.{arith}
 use borrow.Author.Needs.{needs}

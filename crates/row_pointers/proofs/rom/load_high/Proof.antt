@@ -1,4 +1,4 @@
--- `pointers::rom::load_high` meets its contract.
+-- `row_pointers::rom::load_high` meets its contract.
 use borrow.Author.Needs.{needs}
 use Rattle.row_pointers.proofs.FromRom.{ldaxi}
 use Rattle.row_pointers.proofs.rom.load_high.Statement.{statement}

@@ -1,4 +1,4 @@
--- `pointers::rom::load_low` meets its contract.
+-- `row_pointers::rom::load_low` meets its contract.
 use borrow.Author.Needs.{needs}
 use Rattle.row_pointers.proofs.FromRom.{ldax}
 use Rattle.row_pointers.proofs.rom.load_low.Statement.{statement}

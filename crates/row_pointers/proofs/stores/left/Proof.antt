@@ -1,4 +1,4 @@
--- `pointers::stores::left` meets its contract.
+-- `row_pointers::stores::left` meets its contract.
 use borrow.Author.Needs.{needs}
 use Rattle.row_pointers.proofs.stores.left.Statement.{statement}
 use Rattle.row_pointers.proofs.stores.left.Tie as tie

@@ -1,4 +1,4 @@
--- `pointers::stores::store_pointer` meets its contract.
+-- `row_pointers::stores::store_pointer` meets its contract.
 use borrow.Author.Needs.{needs}
 use borrow.Author.Tests.{ne-eqb}
 use Rattle.laws.proofs.Among.{at-each}

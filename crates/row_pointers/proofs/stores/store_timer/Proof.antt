@@ -1,4 +1,4 @@
--- `pointers::stores::store_timer` meets its contract.
+-- `row_pointers::stores::store_timer` meets its contract.
 use borrow.Author.Needs.{needs}
 use borrow.Author.Tests.{ne-eqb}
 use Rattle.laws.proofs.Among.{at-each}

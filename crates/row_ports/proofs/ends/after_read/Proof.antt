@@ -1,4 +1,4 @@
--- `port_rows::ends::after_read` meets its contract.
+-- `row_ports::ends::after_read` meets its contract.
 use borrow.Author.Tests.{eq-eqb, ne-eqb}
 use Rattle.row_ports.specs.Ends.{afterRead}
 use borrow.Author.Needs.{needs}

@@ -1,4 +1,4 @@
--- `port_rows::ends::base_after` meets its contract.
+-- `row_ports::ends::base_after` meets its contract.
 use borrow.Author.Tests.{eq-eqb, ne-eqb}
 use Rattle.row_ports.proofs.ends.base_after.Statement.{statement}
 use Rattle.row_ports.proofs.ends.base_after.Tie as tie

@@ -1,4 +1,4 @@
--- `port_rows::ends::written` meets its contract.
+-- `row_ports::ends::written` meets its contract.
 use borrow.Author.Tests.{eq-eqb, ne-eqb}
 use Rattle.row_ports.specs.Ends.{written}
 use borrow.Author.Needs.{needs}

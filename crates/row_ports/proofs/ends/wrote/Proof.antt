@@ -1,4 +1,4 @@
--- `port_rows::ends::wrote` meets its contract.
+-- `row_ports::ends::wrote` meets its contract.
 use borrow.Author.Needs.{needs}
 use Rattle.row_ports.proofs.ends.wrote.Statement.{statement}
 use Rattle.row_ports.proofs.ends.wrote.Tie as tie

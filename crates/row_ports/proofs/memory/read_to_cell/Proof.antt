@@ -1,4 +1,4 @@
--- `port_rows::memory::read_to_cell` meets its contract.
+-- `row_ports::memory::read_to_cell` meets its contract.
 use borrow.Author.Tests.{lt-ltb, le-ltb, eq-eqb, ne-eqb}
 use Rattle.row_ports.proofs.WithCell.{inm, inm-no-port, inm-absent}
 use borrow.Author.Needs.{needs}

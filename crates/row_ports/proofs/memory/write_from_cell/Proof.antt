@@ -1,4 +1,4 @@
--- `port_rows::memory::write_from_cell` meets its contract.
+-- `row_ports::memory::write_from_cell` meets its contract.
 use borrow.Author.Tests.{lt-ltb, le-ltb}
 use Rattle.row_ports.proofs.WithCell.{outm, outm-absent}
 use borrow.Author.Needs.{needs}

@@ -1,4 +1,4 @@
--- `port_rows::reads::answered` meets its contract.
+-- `row_ports::reads::answered` meets its contract.
 use borrow.Author.Needs.{needs}
 use Rattle.row_ports.proofs.reads.answered.Statement.{statement}
 use Rattle.row_ports.proofs.reads.answered.Tie as tie

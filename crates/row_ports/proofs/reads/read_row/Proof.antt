@@ -1,4 +1,4 @@
--- `port_rows::reads::read_row` meets its contract.
+-- `row_ports::reads::read_row` meets its contract.
 use Rattle.laws.proofs.Among.{first}
 use Rattle.row_ports.specs.Groups.{reading}
 use Rattle.row_ports.proofs.Reading.{tfp, tfpl, ttp, ina}

@@ -1,4 +1,4 @@
--- `port_rows::writes::bit_cleared` meets its contract.
+-- `row_ports::writes::bit_cleared` meets its contract.
 use borrow.Author.Needs.{needs}
 use Rattle.row_ports.proofs.writes.bit_cleared.Statement.{statement}
 use Rattle.row_ports.proofs.writes.bit_cleared.Tie as tie

@@ -1,4 +1,4 @@
--- `port_rows::writes::bit_set` meets its contract.
+-- `row_ports::writes::bit_set` meets its contract.
 use borrow.Author.Needs.{needs}
 use Rattle.row_ports.proofs.writes.bit_set.Statement.{statement}
 use Rattle.row_ports.proofs.writes.bit_set.Tie as tie

@@ -1,4 +1,4 @@
--- `port_rows::writes::held` meets its contract.
+-- `row_ports::writes::held` meets its contract.
 use Rattle.row.proofs.PlacesValid.{latch-low}
 use borrow.Author.Needs.{needs}
 use Rattle.row_ports.proofs.writes.held.Statement.{statement}

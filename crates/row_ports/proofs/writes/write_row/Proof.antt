@@ -1,4 +1,4 @@
--- `port_rows::writes::write_row` meets its contract.
+-- `row_ports::writes::write_row` meets its contract.
 use Rattle.laws.proofs.Among.{first}
 use Rattle.row_ports.specs.Groups.{writing}
 use Rattle.row_ports.proofs.Writing.{clp, clpl, sep, sepl, out, outa}

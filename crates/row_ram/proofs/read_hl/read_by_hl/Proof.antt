@@ -1,4 +1,4 @@
--- `cells::read_hl::read_by_hl` meets its contract.
+-- `row_ram::read_hl::read_by_hl` meets its contract.
 use Rattle.sheet.specs.Operation.Cell.{by-hl}
 use borrow.Author.Needs.{needs}
 use Rattle.row_ram.specs.Groups.{readByHL}

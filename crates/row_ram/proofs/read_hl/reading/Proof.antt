@@ -1,4 +1,4 @@
--- `cells::read_hl::reading` meets its contract.
+-- `row_ram::read_hl::reading` meets its contract.
 use borrow.Author.Needs.{needs}
 use Rattle.row_ram.specs.Groups.{readByHL}
 use Rattle.laws.proofs.Among.{first}

@@ -1,4 +1,4 @@
--- `cells::read_x::read_by_x` meets its contract.
+-- `row_ram::read_x::read_by_x` meets its contract.
 use Rattle.sheet.specs.Operation.Cell.{by-x}
 use borrow.Author.Needs.{needs}
 use Rattle.row_ram.specs.Groups.{readByX}

@@ -1,4 +1,4 @@
--- `cells::write_hl::write_by_hl` meets its contract.
+-- `row_ram::write_hl::write_by_hl` meets its contract.
 use Rattle.sheet.specs.Operation.Cell.{by-hl}
 use borrow.Author.Needs.{needs}
 use Rattle.row_ram.specs.Groups.{writtenByHL}

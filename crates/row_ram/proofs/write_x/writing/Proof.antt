@@ -1,4 +1,4 @@
--- `cells::write_x::writing` meets its contract.
+-- `row_ram::write_x::writing` meets its contract.
 use borrow.Author.Needs.{needs}
 use Rattle.row_ram.specs.Groups.{writtenByX}
 use Rattle.laws.proofs.Among.{first}

@@ -1,4 +1,4 @@
--- `near::asks::asked` meets its contract.
+-- `row_registers::asks::asked` meets its contract.
 use mathlib.Core.List.{[], _∷_}
 use borrow.Author.Needs.{needs}
 use Rattle.laws.proofs.Among.{first}

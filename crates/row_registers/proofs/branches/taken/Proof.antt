@@ -1,4 +1,4 @@
--- `near::branches::taken` meets its contract.
+-- `row_registers::branches::taken` meets its contract.
 use mathlib.Core.List.{[], _∷_}
 use borrow.Author.Needs.{needs}
 use Rattle.laws.proofs.Among.{first}

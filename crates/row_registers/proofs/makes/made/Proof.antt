@@ -1,4 +1,4 @@
--- `near::makes::made` meets its contract.
+-- `row_registers::makes::made` meets its contract.
 use mathlib.Core.List.{[], _∷_}
 use borrow.Author.Needs.{needs}
 use Rattle.laws.proofs.Among.{first}

@@ -1,4 +1,4 @@
--- `near::moves::moved` meets its contract.
+-- `row_registers::moves::moved` meets its contract.
 use mathlib.Core.List.{[], _∷_}
 use borrow.Author.Needs.{needs}
 use Rattle.laws.proofs.Among.{first}

@@ -1,4 +1,4 @@
--- `text::line::after` meets its contract.
+-- `text_lister::line::after` meets its contract.
 use mathlib.Core.Path.{sym, _∙_}
 use denote.Ref.{now}
 use Rattle.sheet.specs.Reading.{romOf}

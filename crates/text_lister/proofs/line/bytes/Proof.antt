@@ -1,4 +1,4 @@
--- `text::line::bytes` meets its contract.
+-- `text_lister::line::bytes` meets its contract.
 use native.Mathlib.Omega.{arith}
 use lib.Seq.{take-all}
 use denote.Ref.{now}

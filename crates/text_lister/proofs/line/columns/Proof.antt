@@ -1,4 +1,4 @@
--- `text::line::columns` meets its contract.
+-- `text_lister::line::columns` meets its contract.
 use mathlib.Core.Path.{sym, _∙_}
 use native.Mathlib.Omega.{arith}
 use denote.Ref.{now}

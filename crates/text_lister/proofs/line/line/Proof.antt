@@ -1,4 +1,4 @@
--- `text::line::line` meets its contract.
+-- `text_lister::line::line` meets its contract.
 use native.Mathlib.Omega.{arith}
 use Rattle.laws.proofs.Writing.{wrote-then}
 use Rattle.text_lister.specs.Listing.{lineOf}

@@ -1,4 +1,4 @@
--- `text::line::listing` meets its contract: the sweep from `at` for the lines that are left is to be written.
+-- `text_lister::line::listing` meets its contract: the sweep from `at` for the lines that are left is to be written.
 use Prim.Native.Nat.{_+_, _*_, _≤_}
 use native.Mathlib.Omega.{arith}
 use denote.Ref.{now}

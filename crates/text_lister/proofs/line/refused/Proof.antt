@@ -1,4 +1,4 @@
--- `text::line::refused` meets its contract.
+-- `text_lister::line::refused` meets its contract.
 use native.Mathlib.Omega.{arith}
 use Rattle.laws.proofs.Writing.{wrote-last, wrote-then}
 use borrow.Author.Needs.{needs}

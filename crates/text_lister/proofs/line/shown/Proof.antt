@@ -1,4 +1,4 @@
--- `text::line::shown` meets its contract.
+-- `text_lister::line::shown` meets its contract.
 use native.Mathlib.Omega.{arith}
 use Rattle.laws.proofs.Writing.{wrote-last, wrote-then}
 use borrow.Author.Needs.{needs}

@@ -1,9 +1,9 @@
--- `frame::digit` meets its contract.
+-- `hexadecimal::digit` meets its contract.
 use mathlib.Core.Path.{sym}
 use borrow.Author.Needs.{needs}
-use Rattle.frame.proofs.Characters.{before-digits, decimal, before-capitals, capital, before-small, small, past-small}
-use Rattle.frame.proofs.digit.Statement.{statement}
-use Rattle.frame.proofs.digit.Tie as tie
+use Rattle.hexadecimal.proofs.Values.{before-digits, decimal, before-capitals, capital, before-small, small, past-small}
+use Rattle.hexadecimal.proofs.digit.Statement.{statement}
+use Rattle.hexadecimal.proofs.digit.Tie as tie
 
 returns : tie.Need-returns
 returns c = sym (before-digits _ (c .if1 .taken))
