@@ -129,7 +129,7 @@ pub fn tick(t: Time, r: Rates) -> Time
     s
 }
 
-fn ticks(t: Time, r: Rates, n: u8) -> Time
+fn ticks(t: Time, r: Rates, n: u16) -> Time
     requires { ⌜ (InRange t) × (r .p25 < 16) ⌝ }
     ensures { λ s. ⌜ s ≡ passed n r t ⌝ }
 {
@@ -141,7 +141,7 @@ fn ticks(t: Time, r: Rates, n: u8) -> Time
 }
 
 // n cycles, at once where no multiple of 256 is met.
-pub fn pass(t: Time, r: Rates, n: u8) -> Time
+pub fn pass(t: Time, r: Rates, n: u16) -> Time
     requires { ⌜ (InRange t) × (r .p25 < 16) ⌝ }
     ensures { λ s. ⌜ s ≡ passed n r t ⌝ }
 {

@@ -4,7 +4,7 @@ use fields::say::say;
 use fields::say::say_decimal;
 use fields::say::say_number;
 use machine::Core;
-use row_control::Turn;
+use row::Turn;
 ghost use Prim.Native.Nat.{_<_};
 
 fn say_field(before: Core, after: Core, f: usize)

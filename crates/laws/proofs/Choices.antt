@@ -17,6 +17,10 @@ pub both-false : (t : Bool) → both t false ≡ false
 both-false true = refl
 both-false false = refl
 
+pub refuted : (a : Bool) → T (not a) → T a → ⊥
+refuted true h t = h
+refuted false h t = t
+
 pub either-left : (a b : Bool) → T a → T (either a b)
 either-left true b t = tt
 either-left false b t = absurd t

@@ -13,7 +13,7 @@ use Rattle.laws.proofs.Computed.{true→T}
 use Rattle.machine.specs.Valid.{Valid}
 use Rattle.machine.specs.declared.Core.{Core}
 use Rattle.machine.specs.declared.Machine.{Machine}
-use Rattle.row_registers.specs.Quiet.{assembled}
+use Rattle.machine.specs.With.{assembled}
 use Rattle.text_script.specs.Script.{linesOf, upTo}
 use Rattle.listing.specs.Listing.{answerOf, toldOver}
 use Rattle.listing.specs.Tells.{Tells, Feeds}

@@ -13,7 +13,7 @@ use Rattle.frame.specs.declared.Frame.the-variants.{NoFrame}
 use Rattle.frame.proofs.Characters.{no-frame, not-seen}
 use Rattle.machine_start.specs.Start.{freshMachine}
 use Rattle.machine.specs.declared.Machine.{Machine}
-use Rattle.row_registers.specs.Quiet.{assembled}
+use Rattle.machine.specs.With.{assembled}
 use Rattle.text_runner.specs.Lines.{header, refusedLine}
 use Rattle.text_script.specs.Script.{linesOf, upTo}
 use Rattle.listing.specs.Listing.{answerOf, toldOver, listingOf}

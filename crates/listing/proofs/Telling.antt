@@ -13,9 +13,9 @@ use Rattle.machine.specs.Valid.{Valid}
 use Rattle.machine.specs.declared.Core.{Core}
 use Rattle.machine.specs.declared.Machine.{Machine}
 use Rattle.row.specs.Rows.{Done}
-use Rattle.row_registers.specs.Quiet.{assembled}
+use Rattle.machine.specs.With.{assembled}
 use Rattle.step.specs.Step.{stepOf}
-use Rattle.step.specs.Gives.{Gives}
+use Rattle.row.specs.Turns.{Gives}
 use Rattle.step.specs.declared.Advanced.{Advanced}
 use Rattle.step.proofs.StepValid.{step-valid}
 use Rattle.text_runner.specs.Lines.{stepLine, refusedLine}

@@ -8,7 +8,7 @@ use Rattle.laws.specs.Choice.{pick}
 use Rattle.laws.specs.Writing.{Wrote}
 use Rattle.machine.specs.Valid.{Valid}
 use Rattle.machine.specs.declared.Machine.{Machine}
-use Rattle.row_registers.specs.Quiet.{assembled}
+use Rattle.machine.specs.With.{assembled}
 use Rattle.text_script.specs.Script.{linesOf, upTo}
 use Rattle.listing.specs.Listing.{Answer, toldOver}
 use Rattle.listing.specs.declared.Told.{Told}

@@ -8,14 +8,9 @@ use lib.Seq.{getD-set-same, getD-set-other}
 use Rattle.bits.specs.Bits.{hasBit}
 use Rattle.bits.proofs.Laws.{bit-of-lt, has-bit-is}
 use Rattle.machine.specs.Valid.{Nibbles}
-use Rattle.machine.specs.Ram.{placeOf}
 use Rattle.machine.specs.Stack.{level, stored, topOf, topAt, pcAt, keptTop}
 use Rattle.machine.specs.declared.Registers.{Registers}
-use Rattle.machine.proofs.Places.{place-low, set-nibble}
-
--- the places of a level are its addresses
-pub level-place : (n k : ℕ) → n ≤ 12 → k ≤ 3 → placeOf (level n + k) ≡ level n + k
-level-place n k h l = place-low (level n + k) (omega arith)
+use Rattle.machine.proofs.Places.{set-nibble}
 
 pub stored-nibbles : (ram : List ℕ) (n pc top : ℕ) → Nibbles ram → top < 16 → Nibbles (stored ram n pc top)
 stored-nibbles ram n pc top h t =

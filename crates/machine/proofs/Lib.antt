@@ -1,3 +1,5 @@
+pub mod WithValid
+pub mod Range
 pub mod Places
 pub mod Levels
 pub mod StackValid

@@ -1,10 +1,10 @@
--- Laws of RAM: a place is at most 372, and a nibble that is set leaves nibbles.
+-- Laws of RAM: where an address stands, and that a nibble that is set leaves nibbles.
 use Prim.Native.Nat.{ℕ, _+_, _-_, _<_, _≤_}
-use mathlib.Core.Path.{_≡_}
+use mathlib.Core.Path.{_≡_, _∙_}
 use mathlib.Core.List.{List}
 use native.Mathlib.Omega.{arith}
 use native.Mathlib.Decide.{decLt, ℕ-discrete}
-use lib.ListN.{length, getD, set}
+use lib.ListN.{length, getD, set, length-set}
 use lib.Seq.{getD-set-same, getD-set-other, set-out}
 use borrow.Author.Tests.{lt-leb, le-leb}
 use Rattle.machine.specs.Valid.{Nibbles}
@@ -27,19 +27,14 @@ pub place-above : (a : ℕ) → 0x17F < a → placeOf a ≡ 372
 unfolding placeOf
 place-above a h = rw (lt-leb a 0x0F3 (omega arith), le-leb 0x100 a (omega arith), lt-leb a 0x17F h)
 
-by-range : (a : ℕ) → Dec (0x0F3 < a) → Dec (a < 0x100) → Dec (0x17F < a) → placeOf a ≤ 372
-by-range a (no h) k l = rw (place-low a (omega arith)) (omega arith)
-by-range a (yes h) (yes k) l = rw (place-between a h k) (omega arith)
-by-range a (yes h) (no k) (no l) = rw (place-high a (omega arith) (omega arith)) (omega arith)
-by-range a (yes h) (no k) (yes l) = rw (place-above a l) (omega arith)
-
-pub place-le : (a : ℕ) → placeOf a ≤ 372
-place-le a = by-range a (decLt 0x0F3 a) (decLt a 0x100) (decLt 0x17F a)
-
 at-place : (l : List ℕ) (i k v : ℕ) → Nibbles l → v < 16 → k < 372 → Dec (k ≡ i) → Dec (i < length l) → getD (set l i v) k 0 < 16
 at-place l i k v n h b (yes e) (yes g) = rw (e, getD-set-same l i v 0 g) h
 at-place l i k v n h b (yes e) (no g) = rw (set-out l i v (omega arith)) (n .each k b)
 at-place l i k v n h b (no e) g = rw (getD-set-other l i k v 0 e) (n .each k b)
 
 pub set-nibble : (l : List ℕ) (i v : ℕ) → Nibbles l → v < 16 → Nibbles (set l i v)
-set-nibble l i v n h = record { each = λ k b. at-place l i k v n h b (ℕ-discrete k i) (decLt i (length l)) }
+set-nibble l i v n h =
+    record {
+      size = length-set l i v ∙ n .size;
+      each = λ k b. at-place l i k v n h b (ℕ-discrete k i) (decLt i (length l));
+    }

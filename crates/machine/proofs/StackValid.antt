@@ -13,20 +13,12 @@ use Rattle.machine.specs.declared.Registers.{Registers}
 use Rattle.machine.specs.declared.Interrupts.{Interrupts}
 use Rattle.machine.specs.declared.Core.{Core}
 use Rattle.machine.specs.declared.Machine.{Machine}
+use Rattle.machine.proofs.WithValid.{with-regs, with-pc, with-ptrs, with-ints}
 use Rattle.machine.proofs.Levels.{stored-nibbles, pc-at-lt, top-lt, kept-lt}
 
 -- other registers, PC, SP and interrupt bits in a valid record
 pub moved-valid : {m : Core} {r : Registers} {pc sp : ℕ} {i : Interrupts} → ValidCore m → ValidRegisters r → pc < 8192 → sp < 16 → ValidInterrupts i → ValidCore (moved m r pc sp i)
-moved-valid v hr hp hs hi = record {
-  regs = hr;
-  pc = hp;
-  ptrs = record { sp = hs; dp = v .ptrs .dp };
-  ints = hi;
-  timers = v .timers;
-  ports = v .ports;
-  pins = v .pins;
-  mode = v .mode;
-}
+moved-valid v hr hp hs hi = with-ints (with-ptrs (with-pc (with-regs v hr) hp) (record { sp = hs; dp = v .ptrs .dp })) hi
 
 pub pushed-valid : (m : Machine) (ret top : ℕ) → Valid m → CanPush (m .core) → top < 16 → Valid (pushed m ret top)
 pushed-valid m ret top v c h = record {

@@ -1,3 +1,4 @@
+pub mod With
 pub mod Valid
 pub mod Ram
 pub mod Stack

@@ -2,8 +2,11 @@
 use Prim.Native.Nat.{ℕ, _+_, _-_, _*_, _/_, _%_, _^_, _≤_}
 use mathlib.Core.Bool.{Bool, true, false}
 use mathlib.Core.List.{List, [], _∷_}
+use lib.Dec.{leb}
 use lib.ListN.{getD, set}
+use Rattle.laws.specs.Choice.{both}
 use Rattle.bits.specs.Bits.{hasBit, withoutBit, bitOf}
+use Rattle.machine.specs.With.{coreWithRegs, coreWithPc, coreWithPtrs, coreWithInts, interruptsOf}
 use Rattle.machine.specs.declared.Registers.{Registers}
 use Rattle.machine.specs.declared.Interrupts.{Interrupts}
 use Rattle.machine.specs.declared.Core.{Core}
@@ -32,6 +35,13 @@ abbrev pub keptTop : ℕ → ℕ → ℕ
 keptTop pc old = pc / 4096 + 2 * (old / 2)
 
 -- "A call or acceptance lowers SP first, so SP must be 1 to 13. RET and RTI read level SP, then raise it: 0 to 12."
+abbrev pub canPush : Core → Bool
+canPush m = both (leb 1 (m .ptrs .sp)) (leb (m .ptrs .sp) 13)
+
+abbrev pub canPop : Core → Bool
+canPop m = leb (m .ptrs .sp) 12
+
+-- the same as numbers
 pub record CanPush (m : Core) : Type 0 where
   pub above : 1 ≤ m .ptrs .sp
   pub below : m .ptrs .sp ≤ 13
@@ -41,16 +51,8 @@ pub record CanPop (m : Core) : Type 0 where
 
 -- the scalars with other registers, PC, SP and interrupt bits
 abbrev pub moved : Core → Registers → ℕ → ℕ → Interrupts → Core
-moved m regs pc sp ints = record {
-  regs = regs;
-  pc = pc;
-  ptrs = record { sp = sp; dp = m .ptrs .dp };
-  ints = ints;
-  timers = m .timers;
-  ports = m .ports;
-  pins = m .pins;
-  mode = m .mode;
-}
+moved m regs pc sp ints =
+    coreWithInts (coreWithPtrs (coreWithPc (coreWithRegs m regs) pc) (record { sp = sp; dp = m .ptrs .dp })) ints
 
 abbrev pub pushed : Machine → ℕ → ℕ → Machine
 pushed m ret top =
@@ -84,7 +86,7 @@ accepted m latch =
     record {
       core =
           moved (n .core) (withFlags r (r .cf) (r .zf) true) (interruptEntry latch) (n .core .ptrs .sp)
-          (record { ei = false; il = withoutBit (i .il) (2 ^ latch); mask = i .mask });
+          (interruptsOf false (withoutBit (i .il) (2 ^ latch)) (i .mask));
       ram = n .ram;
     }
 
@@ -97,6 +99,6 @@ flagsReturned m =
     record {
       core =
           moved (n .core) (withFlags (m .core .regs) (hasBit top 2) (hasBit top 4) (hasBit top 8)) (n .core .pc) (n .core .ptrs .sp)
-          (record { ei = true; il = i .il; mask = i .mask });
+          (interruptsOf true (i .il) (i .mask));
       ram = n .ram;
     }

@@ -2,7 +2,7 @@
 use Prim.Native.Nat.{ℕ, _/_, _%_, _<_}
 use mathlib.Core.Path.{_≡_}
 use mathlib.Core.List.{List}
-use lib.ListN.{getD}
+use lib.ListN.{length, getD}
 use Rattle.numbers.specs.Sizes.{addresses, ramNibbles}
 use Rattle.frame.specs.Frame.{PinsInRange}
 use Rattle.machine.specs.declared.Registers.{Registers}
@@ -70,8 +70,9 @@ pub record ValidCore (m : Core) : Type 0 where
   pub pins : PinsInRange (m .pins)
   pub mode : ModeFits (m .mode) (m .ports .p16)
 
--- "RAM: 372 nibbles": each is 0 to 15
+-- "RAM: 372 nibbles": so many, and each is 0 to 15
 pub record Nibbles (ram : List ℕ) : Type 0 where
+  pub size : length ram ≡ ramNibbles
   pub each : (i : ℕ) → i < ramNibbles → getD ram i 0 < 16
 
 pub record Valid (m : Machine) : Type 0 where

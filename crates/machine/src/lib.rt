@@ -7,6 +7,8 @@ use frame::Pins;
 use numbers::RAM_NIBBLES;
 use ports::Mode;
 use ports::Ports;
+ghost use mathlib.Core.Path.{_≡_};
+ghost use Rattle.machine.specs.With.{interruptsOf};
 
 pub struct Registers {
     pub acc: u8,
@@ -53,4 +55,15 @@ pub type Ram = [u8; RAM_NIBBLES];
 pub struct Machine {
     pub core: Core,
     pub ram: Ram,
+}
+
+// EI, the latches and the mask: every place that changes one of them makes all three by this.
+pub fn interrupts_of(ei: bool, il: u8, mask: u8) -> Interrupts
+    ensures { λ r. ⌜ r ≡ interruptsOf ei il mask ⌝ }
+{
+    Interrupts {
+        ei: ei,
+        il: il,
+        mask: mask,
+    }
 }

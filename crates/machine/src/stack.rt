@@ -1,5 +1,7 @@
 // The stack: a call, an acceptance, RET and RTI, each on the record by value.
+use crate::Core;
 use crate::Machine;
+use crate::interrupts_of;
 use crate::pack::kept_top;
 use crate::pack::pc_at;
 use crate::pack::store;
@@ -8,11 +10,12 @@ use crate::pack::top_of;
 use bits::bit_at;
 use bits::weight;
 use bits::without_bit;
+use laws::both;
 ghost use mathlib.Core.Path.{_≡_};
 ghost use Prim.Native.Nat.{_<_};
 ghost use Rattle.numbers.specs.Sizes.{addresses};
 ghost use Rattle.machine.specs.Valid.{Nibbles};
-ghost use Rattle.machine.specs.Stack.{CanPush, CanPop, pushed, popped, called, accepted, flagsReturned, interruptEntry};
+ghost use Rattle.machine.specs.Stack.{canPush, canPop, CanPush, CanPop, pushed, popped, called, accepted, flagsReturned, interruptEntry};
 
 // Where an interrupt goes, by its latch's number from IL0 up.
 const ENTRIES: [u16; 6] = [0x00C, 0x00A, 0x008, 0x006, 0x004, 0x002];
@@ -23,6 +26,20 @@ fn entry_of(latch: u8) -> u16
 {
     let at = latch as usize;
     ENTRIES[at]
+}
+
+// "SP must be 1 to 13" for a call or an acceptance.
+pub fn can_push(m: Core) -> bool
+    ensures { λ r. ⌜ r ≡ canPush m ⌝ }
+{
+    both(1 <= m.ptrs.sp, m.ptrs.sp <= 13)
+}
+
+// For a return: "0 to 12".
+pub fn can_pop(m: Core) -> bool
+    ensures { λ r. ⌜ r ≡ canPop m ⌝ }
+{
+    m.ptrs.sp <= 12
 }
 
 impl Machine {
@@ -70,13 +87,18 @@ impl Machine {
     {
         let pc = self.core.pc;
         let entry = entry_of(latch);
-        let il = without_bit(self.core.ints.il, weight(latch));
-        let mut n = self.push(pc, top_of(pc, self.core.regs));
-        n.core.pc = entry;
-        n.core.regs.sf = true;
-        n.core.ints.ei = false;
-        n.core.ints.il = il;
-        n
+        let mask = self.core.ints.mask;
+        let ints = interrupts_of(false, without_bit(self.core.ints.il, weight(latch)), mask);
+        let n = self.push(pc, top_of(pc, self.core.regs));
+        let ram = n.ram;
+        let mut core = n.core;
+        core.pc = entry;
+        core.regs.sf = true;
+        core.ints = ints;
+        Machine {
+            core: core,
+            ram: ram,
+        }
     }
 
     // RTI: PC, the flags and EI.
@@ -88,11 +110,17 @@ impl Machine {
         let cf = bit_at(top, 1);
         let zf = bit_at(top, 2);
         let sf = bit_at(top, 3);
-        let mut n = self.pop();
-        n.core.regs.cf = cf;
-        n.core.regs.zf = zf;
-        n.core.regs.sf = sf;
-        n.core.ints.ei = true;
-        n
+        let ints = interrupts_of(true, self.core.ints.il, self.core.ints.mask);
+        let n = self.pop();
+        let ram = n.ram;
+        let mut core = n.core;
+        core.regs.cf = cf;
+        core.regs.zf = zf;
+        core.regs.sf = sf;
+        core.ints = ints;
+        Machine {
+            core: core,
+            ram: ram,
+        }
     }
 }

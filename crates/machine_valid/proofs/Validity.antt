@@ -1,7 +1,7 @@
 -- Validity is decided, part by part.
 use Prim.Native.Nat.{ℕ, _/_, _%_, _<_}
 use mathlib.Core.List.{List}
-use lib.ListN.{getD}
+use lib.ListN.{length, getD}
 use Rattle.laws.proofs.Decided.{Decision, always, less, equal, negated, _and_, restated, each, decided}
 use Rattle.frame.specs.declared.Pins.{Pins}
 use Rattle.frame.specs.Frame.{PinsInRange}
@@ -68,7 +68,8 @@ machine m c r = restated (λ h. record { core = h .0; ram = h .1 }) (λ v. (v .c
 
 abbrev pub nibbles : (ram : List ℕ) → Decision (Nibbles ram)
 nibbles ram =
-    restated (λ h. record { each = h }) (λ v. v .each) (each 372 {P = λ k. getD ram k 0 < 16} (λ k. less (getD ram k 0) 16))
+    restated (λ h. record { size = h .0; each = h .1 }) (λ v. (v .size, v .each))
+    (equal (length ram) 372 and each 372 {P = λ k. getD ram k 0 < 16} (λ k. less (getD ram k 0) 16))
 
 pub core? : (m : Core) → Dec (ValidCore m)
 core? m =

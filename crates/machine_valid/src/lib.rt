@@ -12,9 +12,12 @@ use numbers::ADDRESSES;
 use numbers::RAM_NIBBLES;
 use ports::Mode;
 use ports::Ports;
+ghost use mathlib.Core.Path.{_≡_};
 ghost use Prim.Native.Nat.{_<_};
 ghost use Rattle.laws.specs.Decides.{Decides};
 ghost use Rattle.frame.specs.Frame.{PinsInRange};
+ghost use lib.ListN.{length};
+ghost use Rattle.numbers.specs.Sizes.{ramNibbles};
 ghost use Rattle.machine.specs.Valid.{ValidRegisters, ValidPointers, ValidInterrupts, ValidTimers, ValidPorts, ModeFits, ValidCore, Nibbles, Valid};
 
 fn registers_valid(r: Registers) -> bool
@@ -86,7 +89,8 @@ pub fn core_is_valid(m: Core) -> bool
     both(registers, both(clocks, outside))
 }
 
-pub fn are_nibbles(ram: &Ram) -> bool
+fn are_nibbles(ram: &Ram) -> bool
+    requires { ⌜ length (now ram) ≡ ramNibbles ⌝ }
     ensures { λ x. ⌜ Decides x (Nibbles (now (ram .entry))) ⌝ }
 {
     let mut i: usize = 0;

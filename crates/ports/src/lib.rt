@@ -1,9 +1,12 @@
 // The ports: what reading one gives, what writing one leaves in its latch, and what writing P16 does to the mode.
 use frame::Pins;
+use bits::has_bit;
+use laws::both;
 use numbers::ABSENT_PORT;
+use numbers::RESERVED_10XX;
 ghost use mathlib.Core.Path.{_≡_};
 ghost use Prim.Native.Nat.{_<_};
-ghost use Rattle.ports.specs.Ports.{latchOf, withLatch, p4Pins, readAs, readPort, reservedStop, writeStop, p27After, writePort, modeAfter};
+ghost use Rattle.ports.specs.Ports.{enters, latchOf, withLatch, p4Pins, readAs, readPort, reservedStop, writeStop, p27After, writePort, modeAfter};
 
 // The latches. P0 has none.
 pub struct Ports {
@@ -159,7 +162,7 @@ fn reserved_stop(v: u8) -> u8
     ensures { λ r. ⌜ r ≡ reservedStop v ⌝ }
 {
     if v / 4 == 2 {
-        return 34;
+        return RESERVED_10XX;
     }
     0
 }
@@ -180,22 +183,26 @@ fn write_stop(n: u8, v: u8) -> u8
         28 => 0,
         29 => 0,
         30 => 0,
-        _ => 33,
+        _ => ABSENT_PORT,
     }
+}
+
+// "Writing P16 with bit 2 set enters hold .. or sleep"
+pub fn enters(n: u8, v: u8) -> bool
+    ensures { λ r. ⌜ r ≡ enters n v ⌝ }
+{
+    both(n == 16, has_bit(v, 4))
 }
 
 // What writing a port puts into P27: sleep clears it.
 fn p27_after(p27: u8, n: u8, v: u8) -> u8
     ensures { λ r. ⌜ r ≡ p27After p27 n v ⌝ }
 {
-    if n == 16 {
-        if v / 4 % 2 == 1 {
-            if v % 4 == 3 {
-                return p27;
-            }
-            return 0;
+    if enters(n, v) {
+        if v % 4 == 3 {
+            return p27;
         }
-        return p27;
+        return 0;
     }
     p27
 }
@@ -224,14 +231,11 @@ pub fn write_port(p: Ports, n: u8, v: u8) -> PortWrite
 pub fn mode_after(mode: Mode, n: u8, v: u8) -> Mode
     ensures { λ r. ⌜ r ≡ modeAfter mode n v ⌝ }
 {
-    if n == 16 {
-        if v / 4 % 2 == 1 {
-            if v % 4 == 3 {
-                return Mode::Hold;
-            }
-            return Mode::Sleep;
+    if enters(n, v) {
+        if v % 4 == 3 {
+            return Mode::Hold;
         }
-        return mode;
+        return Mode::Sleep;
     }
     mode
 }

@@ -1,99 +1,45 @@
 -- What the columns of a line tell of its row: one proof over the shapes of the operation column.
 use Prim.Native.Nat.{ℕ}
 use mathlib.Core.Bool.{Bool, true, false}
-use mathlib.Core.Path.{_≡_, refl, sym, subst, _∙_}
+use mathlib.Core.Path.{_≡_, refl, sym, subst, ap, _∙_}
 use lib.Dec.{T, eqb, leb}
 use borrow.Author.Tests.{eq-eqb}
 use Rattle.numbers.specs.ComesBack.{stack-level}
-use Rattle.laws.specs.Choice.{pick, both, either}
-use Rattle.laws.proofs.Choices.{neither-left, neither-right}
-use Rattle.sheet.specs.Operation.{Register, Port, Pointer, Place, Step, After, Enable, Operation}
+use Rattle.laws.specs.Choice.{pick, both}
+use Rattle.sheet.specs.Operation.{Step, After, Enable, Operation}
 use Rattle.sheet.specs.Table.{Line, Mark, set}
 use Rattle.alu.specs.Making.{valueAndCarry}
 use Rattle.alu.specs.Flags.{flagAfter}
 use Rattle.alu.specs.declared.Made.{Made}
 use Rattle.machine.specs.declared.Machine.{Machine}
-use Rattle.row.specs.Places.{Around, putOf, afterReading, withPc}
-use Rattle.row.specs.Steps.{Did, putStep, exchangeStep, operationStep}
+use Rattle.row.specs.Places.{Around, withPc}
+use Rattle.row.specs.Steps.{Did}
 use Rattle.row.specs.Rows.{Done, spent, stops, withMarks, workOf, branchOf, callOf, worked, ended, latchesOf, performed, pcPast}
-use Rattle.row.specs.Columns.{isPort, stepWrites, afterWrites, isOrdinary, Ordinary}
+use Rattle.row.specs.Columns.{isPort, stepPuts, workPuts, isOrdinary, Ordinary}
+use Rattle.row.proofs.Keeps.{putting, work-keeps-but}
 
--- putting a value leaves EI; and the mode, unless it goes to a port
-put-ei : (m : Machine) (w : Around) (p : Place) (v : ℕ) → putOf m w p v .machine .core .ints .ei ≡ m .core .ints .ei
-put-ei m w (Place.register Register.acc) v = refl
-put-ei m w (Place.register Register.hr) v = refl
-put-ei m w (Place.register Register.lr) v = refl
-put-ei m w (Place.given g) v = refl
-put-ei m w (Place.cell c) v = refl
-put-ei m w (Place.port p) v = refl
-put-ei m w (Place.pointer Pointer.sp) v = refl
-put-ei m w (Place.pointer (Pointer.dp p)) v = refl
-put-ei m w (Place.pointer (Pointer.ta p)) v = refl
-put-ei m w (Place.pointer (Pointer.tb p)) v = refl
-put-ei m w (Place.rom h) v = refl
-put-ei m w Place.mask v = refl
+-- every work leaves EI; and the mode, unless it puts a nibble to a port
+work-ei : (m : Machine) (w : Around) (l : Line) (s : Step) (a : After) → workOf m w l s a .machine .core .ints .ei ≡ m .core .ints .ei
+work-ei m w l s a =
+    work-keeps-but (λ n. n .core .ints .ei) w (λ n q. refl) (λ n q. refl) (λ n r pc. refl) (λ p. false)
+    (λ n p v e. putting {P = λ k. k .core .ints .ei ≡ n .core .ints .ei} p (record { same = refl; regs = λ r. refl; ram = λ r. refl; ports = λ q e. refl; ptrs = λ q. refl; timers = λ t. refl; ints = λ i e. e }))
+    m l s a (puts-none s a)
+  where
+    step-none : (s : Step) → stepPuts (λ p. false) s ≡ false
+    step-none (Step.put d o x y) = refl
+    step-none (Step.exchange d x) = refl
+    step-none Step.DP+1 = refl
 
-put-mode : (m : Machine) (w : Around) (p : Place) (v : ℕ) → isPort p ≡ false → putOf m w p v .machine .core .mode ≡ m .core .mode
-put-mode m w (Place.register Register.acc) v e = refl
-put-mode m w (Place.register Register.hr) v e = refl
-put-mode m w (Place.register Register.lr) v e = refl
-put-mode m w (Place.given g) v e = refl
-put-mode m w (Place.cell c) v e = refl
-put-mode m w (Place.port p) v e = absurd (subst T e tt)
-put-mode m w (Place.pointer Pointer.sp) v e = refl
-put-mode m w (Place.pointer (Pointer.dp p)) v e = refl
-put-mode m w (Place.pointer (Pointer.ta p)) v e = refl
-put-mode m w (Place.pointer (Pointer.tb p)) v e = refl
-put-mode m w (Place.rom h) v e = refl
-put-mode m w Place.mask v e = refl
+    puts-none : (s : Step) (a : After) → workPuts (λ p. false) s a ≡ false
+    puts-none s After.alone = rw (step-none s)
+    puts-none s (After.flags-of t) = rw (step-none s, step-none t)
+    puts-none s (After.flags-before t) = rw (step-none s, step-none t)
 
--- so does reading
-touched-ei : (m : Machine) (w : Around) (p : Place) → afterReading m w p .core .ints .ei ≡ m .core .ints .ei
-touched-ei m w (Place.register r) = refl
-touched-ei m w (Place.given g) = refl
-touched-ei m w (Place.cell c) = refl
-touched-ei m w (Place.port Port.pins-p) = refl
-touched-ei m w (Place.port Port.pins-l) = refl
-touched-ei m w (Place.port Port.latch-p) = refl
-touched-ei m w (Place.port Port.latch-l) = refl
-touched-ei m w (Place.pointer p) = refl
-touched-ei m w (Place.rom h) = refl
-touched-ei m w Place.mask = refl
-
-pub touched-mode : (m : Machine) (w : Around) (p : Place) → afterReading m w p .core .mode ≡ m .core .mode
-touched-mode m w (Place.register r) = refl
-touched-mode m w (Place.given g) = refl
-touched-mode m w (Place.cell c) = refl
-touched-mode m w (Place.port Port.pins-p) = refl
-touched-mode m w (Place.port Port.pins-l) = refl
-touched-mode m w (Place.port Port.latch-p) = refl
-touched-mode m w (Place.port Port.latch-l) = refl
-touched-mode m w (Place.pointer p) = refl
-touched-mode m w (Place.rom h) = refl
-touched-mode m w Place.mask = refl
-
--- a step
-step-ei : (m : Machine) (w : Around) (s : Step) → operationStep m w s .machine .core .ints .ei ≡ m .core .ints .ei
-unfolding putStep exchangeStep
-step-ei m w (Step.put d o x y) = put-ei (afterReading m w x) w d _ ∙ touched-ei m w x
-step-ei m w (Step.exchange d x) = put-ei _ w x _ ∙ put-ei m w d _
-step-ei m w Step.DP+1 = refl
-
-step-mode : (m : Machine) (w : Around) (s : Step) → stepWrites s ≡ false → operationStep m w s .machine .core .mode ≡ m .core .mode
-unfolding putStep exchangeStep
-step-mode m w (Step.put d o x y) e = put-mode (afterReading m w x) w d _ e ∙ touched-mode m w x
-step-mode m w (Step.exchange d x) e = put-mode _ w x _ (neither-right (isPort d) (isPort x) e) ∙ put-mode m w d _ (neither-left (isPort d) (isPort x) e)
-step-mode m w Step.DP+1 e = refl
-
-worked-ei : (m : Machine) (w : Around) (s : Step) (a : After) → worked m w s a .machine .core .ints .ei ≡ m .core .ints .ei
-worked-ei m w s After.alone = step-ei m w s
-worked-ei m w s (After.flags-of t) = step-ei (operationStep m w s .machine) w t ∙ step-ei m w s
-worked-ei m w s (After.flags-before t) = step-ei (operationStep m w s .machine) w t ∙ step-ei m w s
-
-worked-mode : (m : Machine) (w : Around) (s : Step) (a : After) → either (stepWrites s) (afterWrites a) ≡ false → worked m w s a .machine .core .mode ≡ m .core .mode
-worked-mode m w s After.alone e = step-mode m w s (neither-left (stepWrites s) false e)
-worked-mode m w s (After.flags-of t) e = step-mode (operationStep m w s .machine) w t (neither-right (stepWrites s) (stepWrites t) e) ∙ step-mode m w s (neither-left (stepWrites s) (stepWrites t) e)
-worked-mode m w s (After.flags-before t) e = step-mode (operationStep m w s .machine) w t (neither-right (stepWrites s) (stepWrites t) e) ∙ step-mode m w s (neither-left (stepWrites s) (stepWrites t) e)
+work-mode : (m : Machine) (w : Around) (l : Line) (s : Step) (a : After) → workPuts isPort s a ≡ false → workOf m w l s a .machine .core .mode ≡ m .core .mode
+work-mode m w l s a =
+    work-keeps-but (λ n. n .core .mode) w (λ n q. refl) (λ n q. refl) (λ n r pc. refl) isPort
+    (λ n p v e. putting {P = λ k. k .core .mode ≡ n .core .mode} p (record { same = refl; regs = λ r. refl; ram = λ r. refl; ports = λ q is. absurd (subst T (sym (ap isPort is) ∙ e) tt); ptrs = λ q. refl; timers = λ t. refl; ints = λ i e. refl }))
+    m l s a
 
 set-flag : (k : Mark) (old : Bool) (x : Made) → k ≡ set → flagAfter k old x ≡ true
 unfolding flagAfter
@@ -116,8 +62,8 @@ work-row m w l s a z =
       pc = rw e;
       cycles = rw e;
       sf = λ q. rw e (set-flag (l .s) (x .machine .core .regs .sf) (x .made) q);
-      ei = λ q off. rw e (worked-ei m w s a ∙ off);
-      mode = λ q. rw e (worked-mode m w s a q);
+      ei = λ q off. work-ei m w l s a ∙ off;
+      mode = λ q. work-mode m w l s a q;
     }
 
 latch-row : (m : Machine) (w : Around) (l : Line) (e : Enable) → Ordinary m l (Operation.IL⟵IL-and-r e) (latchesOf m w l e)

@@ -1,3 +1,4 @@
+pub mod Keeps
 pub mod Frame
 pub mod PortsValid
 pub mod PlacesValid
@@ -6,3 +7,4 @@ pub mod StepsValid
 pub mod RowsValid
 pub mod RowStops
 pub mod RowMode
+pub mod Turns

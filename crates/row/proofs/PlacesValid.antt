@@ -1,10 +1,11 @@
 -- What stands at a place of a valid record is a nibble, and a nibble put there leaves the record valid.
-use Prim.Native.Nat.{ℕ, _+_, _/_, _%_, _<_}
+use Prim.Native.Nat.{ℕ, _+_, _/_, _%_, _^_, _<_}
 use mathlib.Core.Bool.{Bool, true, false}
 use native.Mathlib.Omega.{arith}
 use lib.Dec.{T, eqb, ltb, ltb→lt}
 use lib.ListN.{getD}
 use Rattle.laws.specs.Choice.{pick}
+use Rattle.laws.proofs.Computed.{at}
 use Rattle.bits.specs.Bits.{bitOf}
 use Rattle.frame.specs.declared.Pins.{Pins}
 use Rattle.frame.specs.Frame.{PinsInRange}
@@ -42,7 +43,7 @@ bit-low true = omega arith
 bit-low false = omega arith
 
 weight-low : (n : ℕ) → weightOf n < 16
-weight-low n = chosen-lt (eqb n 0) 1 _ (omega arith) (chosen-lt (eqb n 1) 2 _ (omega arith) (chosen-lt (eqb n 2) 4 8 (omega arith) (omega arith)))
+weight-low n = ltb→lt (2 ^ (n % 4)) 16 (at (λ k. ltb (2 ^ k) 16) 4 tt (n % 4) (omega arith))
 
 part-low : (p : Part) (n : ℕ) → partOf p n < 16
 part-low Part.low n = omega arith
@@ -89,7 +90,7 @@ module _ (m : Machine) (w : Around) (valid : Valid m) (bytes : (at : ℕ) → (w
   given-low Given.operand-k h = h
   given-low Given.unit h = omega arith
   given-low Given.bit-b h = weight-low (w .insn .a)
-  given-low Given.bit-l h = weight-low (m .core .regs .lr % 4)
+  given-low Given.bit-l h = weight-low (m .core .regs .lr)
   given-low Given.cf h = bit-low (m .core .regs .cf)
   given-low Given.zf h = bit-low (m .core .regs .zf)
 

@@ -18,6 +18,7 @@ use Rattle.machine.specs.declared.Pointers.{Pointers}
 use Rattle.machine.specs.declared.Timers.{Timers}
 use Rattle.machine.specs.declared.Machine.{Machine}
 use Rattle.machine.proofs.Places.{set-nibble}
+use Rattle.machine.proofs.WithValid.{with-regs, with-pc, with-ptrs, with-ints, with-timers, with-ports-and-mode}
 use Rattle.row.specs.Places.{Around, withRegisters, withPc, withPointers, withTimers, cellOf, portOf, portWritten, putOf}
 use Rattle.row.specs.Columns.{isPort}
 use Rattle.row.proofs.PortsValid.{chosen-lt, written-valid}
@@ -25,16 +26,16 @@ use Rattle.row.proofs.PlacesValid.{part-put}
 
 -- the record with one part anew
 pub regs-valid : {m : Machine} {r : Registers} → Valid m → ValidRegisters r → Valid (withRegisters m r)
-regs-valid v h = record { core = record { regs = h; pc = v .core .pc; ptrs = v .core .ptrs; ints = v .core .ints; timers = v .core .timers; ports = v .core .ports; pins = v .core .pins; mode = v .core .mode }; ram = v .ram }
+regs-valid v h = record { core = with-regs (v .core) h; ram = v .ram }
 
 pub pc-valid : {m : Machine} {pc : ℕ} → Valid m → pc < 8192 → Valid (withPc m pc)
-pc-valid v h = record { core = record { regs = v .core .regs; pc = h; ptrs = v .core .ptrs; ints = v .core .ints; timers = v .core .timers; ports = v .core .ports; pins = v .core .pins; mode = v .core .mode }; ram = v .ram }
+pc-valid v h = record { core = with-pc (v .core) h; ram = v .ram }
 
 pub pointers-valid : {m : Machine} {p : Pointers} → Valid m → ValidPointers p → Valid (withPointers m p)
-pointers-valid v h = record { core = record { regs = v .core .regs; pc = v .core .pc; ptrs = h; ints = v .core .ints; timers = v .core .timers; ports = v .core .ports; pins = v .core .pins; mode = v .core .mode }; ram = v .ram }
+pointers-valid v h = record { core = with-ptrs (v .core) h; ram = v .ram }
 
 timers-valid : {m : Machine} {t : Timers} → Valid m → ValidTimers t → Valid (withTimers m t)
-timers-valid v h = record { core = record { regs = v .core .regs; pc = v .core .pc; ptrs = v .core .ptrs; ints = v .core .ints; timers = h; ports = v .core .ports; pins = v .core .pins; mode = v .core .mode }; ram = v .ram }
+timers-valid v h = record { core = with-timers (v .core) h; ram = v .ram }
 
 -- the mode after a write to P16 is one that P16 fits
 p16-after : (p : Ports) (v : ℕ) → writePort p 16 v .ports .p16 ≡ v
@@ -56,21 +57,17 @@ base-eights false base h = h
 
 port-valid : (m : Machine) (n v : ℕ) → Valid m → m .core .mode ≡ Running → v < 16 → Valid (portWritten m n v)
 port-valid m n v h e hv = record {
-  core = record {
-    regs = h .core .regs;
-    pc = h .core .pc;
-    ptrs = h .core .ptrs;
-    ints = h .core .ints;
-    timers = record {
-      base = chosen-lt (enters n v) 0 (m .core .timers .base) (omega arith) (h .core .timers .base);
-      eights = base-eights (enters n v) (m .core .timers .base) (h .core .timers .eights);
-      ta = h .core .timers .ta;
-      tb = h .core .timers .tb;
-    };
-    ports = written-valid (m .core .ports) n v (h .core .ports) hv;
-    pins = h .core .pins;
-    mode = running-fits (m .core .mode) (m .core .ports) n v e;
-  };
+  core =
+      with-ports-and-mode
+      (with-timers (h .core)
+      (record {
+        base = chosen-lt (enters n v) 0 (m .core .timers .base) (omega arith) (h .core .timers .base);
+        eights = base-eights (enters n v) (m .core .timers .base) (h .core .timers .eights);
+        ta = h .core .timers .ta;
+        tb = h .core .timers .tb;
+      }))
+      (written-valid (m .core .ports) n v (h .core .ports) hv)
+      (running-fits (m .core .mode) (m .core .ports) n v e);
   ram = h .ram;
 }
 
@@ -86,4 +83,4 @@ put-valid m w (Place.pointer (Pointer.dp p)) v h e hv = pointers-valid h (record
 put-valid m w (Place.pointer (Pointer.ta p)) v h e hv = timers-valid h (record { base = h .core .timers .base; eights = h .core .timers .eights; ta = part-put p (m .core .timers .ta) v (h .core .timers .ta) hv; tb = h .core .timers .tb })
 put-valid m w (Place.pointer (Pointer.tb p)) v h e hv = timers-valid h (record { base = h .core .timers .base; eights = h .core .timers .eights; ta = h .core .timers .ta; tb = part-put p (m .core .timers .tb) v (h .core .timers .tb) hv })
 put-valid m w (Place.rom g) v h e hv = h
-put-valid m w Place.mask v h e hv = record { core = record { regs = h .core .regs; pc = h .core .pc; ptrs = h .core .ptrs; ints = record { il = h .core .ints .il; il4 = h .core .ints .il4; mask = hv }; timers = h .core .timers; ports = h .core .ports; pins = h .core .pins; mode = h .core .mode }; ram = h .ram }
+put-valid m w Place.mask v h e hv = record { core = with-ints (h .core) (record { il = h .core .ints .il; il4 = h .core .ints .il4; mask = hv }); ram = h .ram }

@@ -1,28 +1,28 @@
 -- What the lines of the sheet have in common, and with it: each step of the operation column makes a valid record of a valid one.
-use Prim.Native.Nat.{ℕ, _+_, _/_, _%_, _<_}
+use Prim.Native.Nat.{ℕ, _%_, _^_, _<_}
 use mathlib.Core.Bool.{Bool, true, false, not}
-use mathlib.Core.Path.{_≡_, _∙_}
+use mathlib.Core.Path.{_≡_}
 use native.Mathlib.Omega.{arith}
-use lib.Dec.{T, eqb, leb, leb→le}
-use Rattle.laws.specs.Choice.{pick, both, either}
-use Rattle.laws.proofs.Computed.{both-left, both-right}
-use Rattle.laws.proofs.Choices.{either-left, either-right, not-left, not-right}
+use lib.Dec.{T, leb, leb→le}
+use Rattle.laws.specs.Choice.{both, either}
+use Rattle.laws.proofs.Computed.{at, both-left, both-right}
+use Rattle.laws.proofs.Choices.{refuted, either-left, either-right, not-left, not-right}
 use Rattle.sheet.specs.Operation.{Given, Port, Place, Op, Step, After}
 use Rattle.sheet.specs.Operation.Op.{Move, Plus, PlusCF, Minus, MinusCF', And, Or, Xor, Clear, Set, Has, Lacks, RotateLeft, RotateRight}
 use Rattle.sheet.specs.declared.Insn.{Insn}
 use Rattle.alu.proofs.Low.{isWeight, Second, made-low}
-use Rattle.ports.specs.Ports.{readPort}
 use Rattle.ports.specs.declared.Mode.the-variants.{Running}
 use Rattle.machine.specs.Valid.{Valid}
 use Rattle.machine.specs.declared.Machine.{Machine}
-use Rattle.row.specs.Places.{Around, getOf, afterReading, putOf, withPorts}
+use Rattle.machine.proofs.WithValid.{with-ports-and-mode}
+use Rattle.row.specs.Places.{Around, getOf, afterReading, putOf, withPorts, portRead, portOf}
 use Rattle.row.specs.Steps.{putStep, exchangeStep, operationStep}
 use Rattle.row.specs.Rows.{worked}
 use Rattle.row.specs.Columns.{isPort}
 use Rattle.row.proofs.PortsValid.{read-valid}
 use Rattle.row.proofs.PlacesValid.{LowPlace, get-low}
 use Rattle.row.proofs.PutValid.{pointers-valid, put-valid}
-use Rattle.row.proofs.Frame.{touched-mode}
+use Rattle.row.proofs.Keeps.{reading}
 
 -- where k is named its field has no more than 16 values
 abbrev pub lowPlace : ℕ → Place → Bool
@@ -88,15 +88,8 @@ fitsAfter n After.alone = true
 fitsAfter n (After.flags-of t) = both (fitsStep n t) (not (usesPort t))
 fitsAfter n (After.flags-before t) = both (fitsStep n t) (not (usesPort t))
 
-weight-is : (t u v : Bool) → T (isWeight (pick t 1 (pick u 2 (pick v 4 8))))
-weight-is true u v = tt
-weight-is false true v = tt
-weight-is false false true = tt
-weight-is false false false = tt
-
-refuted : (a : Bool) → T (not a) → T a → ⊥
-refuted true h t = h
-refuted false h t = t
+weight-is : (n : ℕ) → T (isWeight (2 ^ (n % 4)))
+weight-is n = at (λ k. isWeight (2 ^ k)) 4 tt (n % 4) (omega arith)
 
 low-place : (n : ℕ) (p : Place) (i : Insn) → i .a < n → T (lowPlace n p) → LowPlace p i
 low-place n (Place.register r) i h t = tt
@@ -115,8 +108,8 @@ low-place n Place.mask i h t = tt
 
 module _ (w : Around) (bytes : (at : ℕ) → (w .rom) at < 256) (n : ℕ) (field : w .insn .a < n) where
   bit-second : (m : Machine) (y : Place) → T (namesBit y) → T (isWeight (getOf m w y .value))
-  bit-second m (Place.given Given.bit-b) t = weight-is (eqb (w .insn .a) 0) (eqb (w .insn .a) 1) (eqb (w .insn .a) 2)
-  bit-second m (Place.given Given.bit-l) t = weight-is (eqb (m .core .regs .lr % 4) 0) (eqb (m .core .regs .lr % 4) 1) (eqb (m .core .regs .lr % 4) 2)
+  bit-second m (Place.given Given.bit-b) t = weight-is (w .insn .a)
+  bit-second m (Place.given Given.bit-l) t = weight-is (m .core .regs .lr)
   bit-second m (Place.given Given.nothing) t = absurd t
   bit-second m (Place.given Given.operand-k) t = absurd t
   bit-second m (Place.given Given.unit) t = tt
@@ -145,20 +138,18 @@ module _ (w : Around) (bytes : (at : ℕ) → (w .rom) at < 256) (n : ℕ) (fiel
   second m RotateLeft y t = tt
   second m RotateRight y t = tt
 
-  read-touched : (m : Machine) (k : ℕ) → Valid m → m .core .mode ≡ Running → Valid (withPorts m (readPort (w .sound) (m .core .pins) (m .core .ports) k .ports))
-  read-touched m k h e = record { core = record { regs = h .core .regs; pc = h .core .pc; ptrs = h .core .ptrs; ints = h .core .ints; timers = h .core .timers; ports = read-valid (w .sound) (m .core .pins) (m .core .ports) k (h .core .ports); pins = h .core .pins; mode = rw e tt }; ram = h .ram }
-
-  port-touched : (m : Machine) (p : Port) → Valid m → m .core .mode ≡ Running → Valid (afterReading m w (Place.port p))
-  port-touched m Port.pins-p h e = read-touched m (w .insn .b) h e
-  port-touched m Port.pins-l h e = read-touched m (m .core .regs .lr / 4 + 4) h e
-  port-touched m Port.latch-p h e = h
-  port-touched m Port.latch-l h e = h
+  -- a port is read only while the record is running, so that no mode is tied to P16
+  read-ports : (m : Machine) (p : Port) → Valid m → m .core .mode ≡ Running → Valid (withPorts m (portRead m w p .ports))
+  read-ports m p h e = record { core = with-ports-and-mode (h .core) (read-valid (w .sound) (m .core .pins) (m .core .ports) (portOf (m .core .regs) (w .insn) p) (h .core .ports)) (rw e tt); ram = h .ram }
 
   touched-valid : (m : Machine) (p : Place) → Valid m → (T (isPort p) → m .core .mode ≡ Running) → Valid (afterReading m w p)
   touched-valid m (Place.register r) h e = h
   touched-valid m (Place.given g) h e = h
   touched-valid m (Place.cell c) h e = h
-  touched-valid m (Place.port p) h e = port-touched m p h (e tt)
+  touched-valid m (Place.port Port.pins-p) h e = read-ports m Port.pins-p h (e tt)
+  touched-valid m (Place.port Port.pins-l) h e = read-ports m Port.pins-l h (e tt)
+  touched-valid m (Place.port Port.latch-p) h e = h
+  touched-valid m (Place.port Port.latch-l) h e = h
   touched-valid m (Place.pointer p) h e = h
   touched-valid m (Place.rom g) h e = h
   touched-valid m Place.mask h e = h
@@ -174,7 +165,7 @@ module _ (w : Around) (bytes : (at : ℕ) → (w .rom) at < 256) (n : ℕ) (fiel
       let a = nibble m h x x-fits in
       let b = nibble m h y (both-left (lowPlace n y) (secondFits o y) rest) in
       let v = made-low (getOf m w x .value) (getOf m w y .value) (m .core .regs .cf) a b o (second m o y (both-right (lowPlace n y) (secondFits o y) rest)) in
-      put-valid (afterReading m w x) w d _ (touched-valid m x h (λ q. e (either-right (isPort d) (isPort x) q))) (λ q. touched-mode m w x ∙ e (either-left (isPort d) (isPort x) q)) v
+      put-valid (afterReading m w x) w d _ (touched-valid m x h (λ q. e (either-right (isPort d) (isPort x) q))) (λ q. reading (λ n. n .core .mode ≡ Running) m w x (e (either-left (isPort d) (isPort x) q)) (λ k. e (either-left (isPort d) (isPort x) q))) v
 
   exchange-step : (m : Machine) (d x : Place) → Valid m → T (fitsStep n (Step.exchange d x)) → Valid (exchangeStep m w d x .machine)
   unfolding exchangeStep

@@ -17,15 +17,19 @@ isPort (Place.pointer p) = false
 isPort (Place.rom h) = false
 isPort Place.mask = false
 
-abbrev pub stepWrites : Step → Bool
-stepWrites (Step.put d o x y) = isPort d
-stepWrites (Step.exchange d x) = either (isPort d) (isPort x)
-stepWrites Step.DP+1 = false
+-- whether a step puts a nibble at such a place, and whether one of a row's steps does
+abbrev pub stepPuts : (Place → Bool) → Step → Bool
+stepPuts f (Step.put d o x y) = f d
+stepPuts f (Step.exchange d x) = either (f d) (f x)
+stepPuts f Step.DP+1 = false
 
-abbrev pub afterWrites : After → Bool
-afterWrites After.alone = false
-afterWrites (After.flags-of t) = stepWrites t
-afterWrites (After.flags-before t) = stepWrites t
+abbrev pub afterPuts : (Place → Bool) → After → Bool
+afterPuts f After.alone = false
+afterPuts f (After.flags-of t) = stepPuts f t
+afterPuts f (After.flags-before t) = stepPuts f t
+
+abbrev pub workPuts : (Place → Bool) → Step → After → Bool
+workPuts f s a = either (stepPuts f s) (afterPuts f a)
 
 -- the row sets EI: EICIL and RTI
 abbrev pub setsEi : Operation → Bool
@@ -40,7 +44,7 @@ setsEi (Operation.IL⟵IL-and-r Enable.EI⟵1) = true
 setsEi Operation.no-operation = false
 
 abbrev pub writesPort : Operation → Bool
-writesPort (Operation.work s a) = either (stepWrites s) (afterWrites a)
+writesPort (Operation.work s a) = workPuts isPort s a
 writesPort (Operation.branch t) = false
 writesPort (Operation.call e) = false
 writesPort Operation.return = false

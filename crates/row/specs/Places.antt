@@ -1,5 +1,5 @@
 -- What stands at a place that the operation column names, what reading it does besides, and what putting a nibble there does.
-use Prim.Native.Nat.{ℕ, _+_, _*_, _/_, _%_}
+use Prim.Native.Nat.{ℕ, _+_, _*_, _/_, _%_, _^_}
 use mathlib.Core.Bool.{Bool}
 use mathlib.Core.List.{List}
 use lib.Dec.{eqb, ltb}
@@ -12,7 +12,8 @@ use Rattle.sheet.specs.declared.Insn.{Insn}
 use Rattle.bits.specs.Bits.{bitOf}
 use Rattle.ports.specs.Ports.{latchOf, readPort, writePort, enters, modeAfter}
 use Rattle.ports.specs.declared.Ports.{Ports}
-use Rattle.ports.specs.declared.Mode.{Mode}
+use Rattle.ports.specs.declared.PortRead.{PortRead}
+use Rattle.machine.specs.With.{assembled, coreWithRegs, coreWithPc, coreWithPtrs, coreWithInts, coreWithTimers, coreWithPorts, coreWithMode, interruptsOf}
 use Rattle.machine.specs.Ram.{bankOf, atHL, atX, besideX, atY}
 use Rattle.machine.specs.declared.Registers.{Registers}
 use Rattle.machine.specs.declared.Pointers.{Pointers}
@@ -23,28 +24,25 @@ use Rattle.machine.specs.declared.Machine.{Machine}
 
 -- the record with one part anew
 abbrev pub withRegisters : Machine → Registers → Machine
-withRegisters m r = record { core = record { regs = r; pc = m .core .pc; ptrs = m .core .ptrs; ints = m .core .ints; timers = m .core .timers; ports = m .core .ports; pins = m .core .pins; mode = m .core .mode }; ram = m .ram }
+withRegisters m r = assembled (coreWithRegs (m .core) r) (m .ram)
 
 abbrev pub withPc : Machine → ℕ → Machine
-withPc m pc = record { core = record { regs = m .core .regs; pc = pc; ptrs = m .core .ptrs; ints = m .core .ints; timers = m .core .timers; ports = m .core .ports; pins = m .core .pins; mode = m .core .mode }; ram = m .ram }
+withPc m pc = assembled (coreWithPc (m .core) pc) (m .ram)
 
 abbrev pub withPointers : Machine → Pointers → Machine
-withPointers m p = record { core = record { regs = m .core .regs; pc = m .core .pc; ptrs = p; ints = m .core .ints; timers = m .core .timers; ports = m .core .ports; pins = m .core .pins; mode = m .core .mode }; ram = m .ram }
+withPointers m p = assembled (coreWithPtrs (m .core) p) (m .ram)
 
 abbrev pub withInterrupts : Machine → Interrupts → Machine
-withInterrupts m i = record { core = record { regs = m .core .regs; pc = m .core .pc; ptrs = m .core .ptrs; ints = i; timers = m .core .timers; ports = m .core .ports; pins = m .core .pins; mode = m .core .mode }; ram = m .ram }
+withInterrupts m i = assembled (coreWithInts (m .core) i) (m .ram)
 
 abbrev pub withTimers : Machine → Timers → Machine
-withTimers m t = record { core = record { regs = m .core .regs; pc = m .core .pc; ptrs = m .core .ptrs; ints = m .core .ints; timers = t; ports = m .core .ports; pins = m .core .pins; mode = m .core .mode }; ram = m .ram }
+withTimers m t = assembled (coreWithTimers (m .core) t) (m .ram)
 
 abbrev pub withPorts : Machine → Ports → Machine
-withPorts m p = record { core = record { regs = m .core .regs; pc = m .core .pc; ptrs = m .core .ptrs; ints = m .core .ints; timers = m .core .timers; ports = p; pins = m .core .pins; mode = m .core .mode }; ram = m .ram }
-
-abbrev pub withMode : Machine → Mode → Machine
-withMode m o = record { core = record { regs = m .core .regs; pc = m .core .pc; ptrs = m .core .ptrs; ints = m .core .ints; timers = m .core .timers; ports = m .core .ports; pins = m .core .pins; mode = o }; ram = m .ram }
+withPorts m p = assembled (coreWithPorts (m .core) p) (m .ram)
 
 abbrev pub withRam : Machine → List ℕ → Machine
-withRam m l = record { core = m .core; ram = l }
+withRam m l = assembled (m .core) l
 
 -- what is around a row: the ROM by address, the option SOUND, and the instruction with its operands
 pub record Around : Type 0 where
@@ -75,16 +73,16 @@ registerOf r Register.acc = r .acc
 registerOf r Register.hr = r .hr
 registerOf r Register.lr = r .lr
 
--- a bit is named by its weight
+-- a bit of a nibble is named by its weight
 abbrev pub weightOf : ℕ → ℕ
-weightOf n = pick (eqb n 0) 1 (pick (eqb n 1) 2 (pick (eqb n 2) 4 8))
+weightOf n = 2 ^ (n % 4)
 
 abbrev pub givenOf : Registers → Insn → Given → ℕ
 givenOf r i Given.nothing = 0
 givenOf r i Given.operand-k = i .a
 givenOf r i Given.unit = 1
 givenOf r i Given.bit-b = weightOf (i .a)
-givenOf r i Given.bit-l = weightOf (r .lr % 4)
+givenOf r i Given.bit-l = weightOf (r .lr)
 givenOf r i Given.cf = bitOf (r .cf)
 givenOf r i Given.zf = bitOf (r .zf)
 
@@ -120,10 +118,16 @@ abbrev pub halfOf : Half → ℕ → ℕ
 halfOf Half.low-half b = b % 16
 halfOf Half.high-half b = b / 16
 
--- what reading a port gives: its pins, or its latch
+-- what reading a port does, and what it gives: its pins, or its latch
+abbrev pub portRead : Machine → Around → Port → PortRead
+portRead m w p = readPort (w .sound) (m .core .pins) (m .core .ports) (portOf (m .core .regs) (w .insn) p)
+
+abbrev pub pinsGot : PortRead → Got
+pinsGot r = record { stop = r .stop; value = r .value }
+
 abbrev pub portGot : Machine → Around → Port → Got
-portGot m w Port.pins-p = record { stop = readPort (w .sound) (m .core .pins) (m .core .ports) (w .insn .b) .stop; value = readPort (w .sound) (m .core .pins) (m .core .ports) (w .insn .b) .value }
-portGot m w Port.pins-l = record { stop = readPort (w .sound) (m .core .pins) (m .core .ports) (m .core .regs .lr / 4 + 4) .stop; value = readPort (w .sound) (m .core .pins) (m .core .ports) (m .core .regs .lr / 4 + 4) .value }
+portGot m w Port.pins-p = pinsGot (portRead m w Port.pins-p)
+portGot m w Port.pins-l = pinsGot (portRead m w Port.pins-l)
 portGot m w Port.latch-p = found (latchOf (m .core .ports) (w .insn .b))
 portGot m w Port.latch-l = found (latchOf (m .core .ports) (m .core .regs .lr / 4 + 4))
 
@@ -139,8 +143,8 @@ getOf m w Place.mask = found (m .core .ints .mask)
 
 -- "Reading or testing P4 or P8 .. sets the latch to 15"
 abbrev pub afterPortRead : Machine → Around → Port → Machine
-afterPortRead m w Port.pins-p = withPorts m (readPort (w .sound) (m .core .pins) (m .core .ports) (w .insn .b) .ports)
-afterPortRead m w Port.pins-l = withPorts m (readPort (w .sound) (m .core .pins) (m .core .ports) (m .core .regs .lr / 4 + 4) .ports)
+afterPortRead m w Port.pins-p = withPorts m (portRead m w Port.pins-p .ports)
+afterPortRead m w Port.pins-l = withPorts m (portRead m w Port.pins-l .ports)
 afterPortRead m w Port.latch-p = m
 afterPortRead m w Port.latch-l = m
 
@@ -173,8 +177,13 @@ pointerPut m (Pointer.tb p) v = withTimers m (record { base = m .core .timers .b
 abbrev pub baseAfter : ℕ → ℕ → ℕ → ℕ
 baseAfter base n v = pick (enters n v) 0 base
 
+abbrev pub timersAfter : Timers → ℕ → ℕ → Timers
+timersAfter t n v = record { base = baseAfter (t .base) n v; ta = t .ta; tb = t .tb }
+
 abbrev pub portWritten : Machine → ℕ → ℕ → Machine
-portWritten m n v = record { core = record { regs = m .core .regs; pc = m .core .pc; ptrs = m .core .ptrs; ints = m .core .ints; timers = record { base = baseAfter (m .core .timers .base) n v; ta = m .core .timers .ta; tb = m .core .timers .tb }; ports = writePort (m .core .ports) n v .ports; pins = m .core .pins; mode = modeAfter (m .core .mode) n v }; ram = m .ram }
+portWritten m n v =
+    let timed = coreWithTimers (m .core) (timersAfter (m .core .timers) n v) in
+    assembled (coreWithMode (coreWithPorts timed (writePort (m .core .ports) n v .ports)) (modeAfter (m .core .mode) n v)) (m .ram)
 
 abbrev pub putOf : Machine → Around → Place → ℕ → Put
 putOf m w (Place.register r) v = there (withRegisters m (registerPut (m .core .regs) r v))
@@ -183,4 +192,4 @@ putOf m w (Place.cell c) v = record { stop = pick (ltb (cellOf (m .core) (w .ins
 putOf m w (Place.port p) v = record { stop = writePort (m .core .ports) (portOf (m .core .regs) (w .insn) p) v .stop; machine = portWritten m (portOf (m .core .regs) (w .insn) p) v }
 putOf m w (Place.pointer p) v = record { stop = inBank0 (m .core) 0 absent-ram-address; machine = pointerPut m p v }
 putOf m w (Place.rom h) v = there m
-putOf m w Place.mask v = there (withInterrupts m (record { ei = m .core .ints .ei; il = m .core .ints .il; mask = v }))
+putOf m w Place.mask v = there (withInterrupts m (interruptsOf (m .core .ints .ei) (m .core .ints .il) v))

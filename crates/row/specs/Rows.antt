@@ -1,9 +1,9 @@
 -- What a row does to the record: the operation column interpreted, a definition for each of its shapes; then the flags by the three marks, PC past the row, and its cycles. A stop gives the record as it was, and no cycles.
 use Prim.Native.Nat.{ℕ}
 use mathlib.Core.Bool.{Bool, true, false}
-use lib.Dec.{eqb, leb}
+use lib.Dec.{eqb}
 use lib.Bits.{bitAnd}
-use Rattle.laws.specs.Choice.{pick, both}
+use Rattle.laws.specs.Choice.{pick}
 use Rattle.numbers.specs.ComesBack.{stack-level}
 use Rattle.sheet.specs.Operation.{Step, After, Target, Entry, Enable, Operation}
 use Rattle.sheet.specs.Table.{Line, lineAt}
@@ -12,7 +12,8 @@ use Rattle.sheet.specs.Flow.{targetOf, callEntry}
 use Rattle.alu.specs.Making.{valueAndCarry}
 use Rattle.alu.specs.Flags.{flagAfter}
 use Rattle.alu.specs.declared.Made.{Made}
-use Rattle.machine.specs.Stack.{called, popped, flagsReturned}
+use Rattle.machine.specs.With.{interruptsOf}
+use Rattle.machine.specs.Stack.{canPush, canPop, called, popped, flagsReturned}
 use Rattle.machine.specs.declared.Registers.{Registers}
 use Rattle.machine.specs.declared.Machine.{Machine}
 use Rattle.row.specs.Places.{Around, withRegisters, withPc, withInterrupts}
@@ -73,13 +74,13 @@ branchOf m w l t =
 -- "A call or acceptance lowers SP first, so SP must be 1 to 13."
 unfoldable pub callOf : Machine → Around → Line → Entry → Done
 callOf m w l e =
-    pick (both (leb 1 (m .core .ptrs .sp)) (leb (m .core .ptrs .sp) 13))
+    pick (canPush (m .core))
     (spent (l .cycles) (called m (pcPast m l) (callEntry e (w .insn .a))))
     (stops stack-level m)
 
 -- "RET and RTI read level SP, then raise it: 0 to 12."
 abbrev pub returned : Machine → Line → Machine → Done
-returned m l n = pick (leb (m .core .ptrs .sp) 12) (spent (l .cycles) n) (stops stack-level m)
+returned m l n = pick (canPop (m .core)) (spent (l .cycles) n) (stops stack-level m)
 
 abbrev pub enabled : Enable → Bool → Bool
 enabled Enable.EI⟵EI ei = ei
@@ -91,7 +92,7 @@ unfoldable pub latchesOf : Machine → Around → Line → Enable → Done
 latchesOf m w l e =
     spent (l .cycles)
     (withPc
-    (withInterrupts (withMarks m l (valueAndCarry 0 false)) (record { ei = enabled e (m .core .ints .ei); il = bitAnd (m .core .ints .il) (w .insn .a); mask = m .core .ints .mask }))
+    (withInterrupts (withMarks m l (valueAndCarry 0 false)) (interruptsOf (enabled e (m .core .ints .ei)) (bitAnd (m .core .ints .il) (w .insn .a)) (m .core .ints .mask)))
     (pcPast m l))
 
 abbrev pub performed : Machine → Around → Line → Operation → Done

@@ -1,41 +1,38 @@
 -- RET and RTI, and their stop, are their lines of the table: by the test of SP, then by computation.
-use mathlib.Core.Path.{_≡_}
+use mathlib.Core.Path.{_≡_, _∙_}
 use mathlib.Core.List.{List}
 use mathlib.Core.Bool.{true, false}
-use Prim.Native.Nat.{ℕ, _≤_, _<_}
-use lib.Dec.{leb}
-use borrow.Author.Tests.{le-leb, lt-leb}
-use Rattle.sheet.specs.Table.{lines, lineAt}
-use Rattle.machine.specs.Stack as stack
-use Rattle.machine.specs.declared.Core.{Core}
+use Prim.Native.Nat.{ℕ}
 use Rattle.laws.specs.Among.{among}
+use Rattle.numbers.specs.ComesBack.{stack-level}
+use Rattle.sheet.specs.Table.{lines, lineAt}
+use Rattle.machine.specs.With.{assembled}
+use Rattle.machine.specs.Stack.{canPop, popped, flagsReturned}
+use Rattle.machine.specs.declared.Core.{Core}
+use Rattle.row.specs.Rows.{spent}
+use Rattle.row.specs.Turns.{stoppedTurn, Gives}
+use Rattle.row.specs.declared.Turn.{Turn}
 use Rattle.row_control.specs.Groups.{returns}
-use Rattle.row_control.specs.Stack.{stopped, popped, flagsReturned}
-use Rattle.row_control.specs.Turns.{Reads}
+use Rattle.row_control.specs.Turns.{Comes}
 use Rattle.row_control.proofs.Pairs.{at-both}
 
-module _ (m : Core) (l : List ℕ) where
-  ret-where : leb (m .ptrs .sp) 12 ≡ true → Reads m 73 l (popped m l)
+module _ (m : Core) (l k : List ℕ) (x : Turn) where
+  pub ret : canPop m ≡ true → Gives (spent 2 (popped (assembled m l))) k x → Comes m 73 l k x
   unfolding lineAt lines
-  ret-where h = record { turns = λ a. record { same = λ rom sound b. rw h } }
+  ret h g = record { turns = λ a. record { same = λ rom sound b. g .same ∙ rw h } }
 
-  pub ret : m .ptrs .sp ≤ 12 → Reads m 73 l (popped m l)
-  ret h = ret-where (le-leb _ _ h)
+  pub rti : canPop m ≡ true → Gives (spent 2 (flagsReturned (assembled m l))) k x → Comes m 86 l k x
+  unfolding lineAt lines
+  rti h g = record { turns = λ a. record { same = λ rom sound b. g .same ∙ rw h } }
 
-  rti-where : leb (m .ptrs .sp) 12 ≡ true → Reads m 86 l (flagsReturned m l)
-  unfolding lineAt lines stack.flagsReturned
-  rti-where h = record { turns = λ a. record { same = λ rom sound b. rw h } }
-
-  pub rti : m .ptrs .sp ≤ 12 → Reads m 86 l (flagsReturned m l)
-  rti h = rti-where (le-leb _ _ h)
-
-  ret-stop : leb (m .ptrs .sp) 12 ≡ false → Reads m 73 l (stopped m)
+module _ (m : Core) (l : List ℕ) where
+  ret-stop : canPop m ≡ false → Comes m 73 l l (stoppedTurn m stack-level)
   unfolding lineAt lines
   ret-stop h = record { turns = λ a. record { same = λ rom sound b. rw h } }
 
-  rti-stop : leb (m .ptrs .sp) 12 ≡ false → Reads m 86 l (stopped m)
+  rti-stop : canPop m ≡ false → Comes m 86 l l (stoppedTurn m stack-level)
   unfolding lineAt lines
   rti-stop h = record { turns = λ a. record { same = λ rom sound b. rw h } }
 
-  pub stop : (row : ℕ) → 12 < m .ptrs .sp → among returns row ≡ true → Reads m row l (stopped m)
-  stop row h g = at-both (λ (n : ℕ). Reads m n l (stopped m)) 86 73 row (rti-stop (lt-leb _ _ h)) (ret-stop (lt-leb _ _ h)) g
+  pub stop : (row : ℕ) → canPop m ≡ false → among returns row ≡ true → Comes m row l l (stoppedTurn m stack-level)
+  stop row h g = at-both (λ (n : ℕ). Comes m n l l (stoppedTurn m stack-level)) 86 73 row (rti-stop h) (ret-stop h) g

@@ -1,4 +1,3 @@
 pub mod Groups
 pub mod Latches
-pub mod Stack
 pub mod Turns

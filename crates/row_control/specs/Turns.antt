@@ -5,12 +5,10 @@ use mathlib.Core.List.{List}
 use mathlib.Core.Path.{_≡_}
 use Rattle.sheet.specs.Reading.{insn}
 use Rattle.machine.specs.declared.Core.{Core}
-use Rattle.row.specs.Rows.{Done, executed}
-use Rattle.row_registers.specs.Quiet.{assembled}
-use Rattle.row_control.specs.declared.Turn.{Turn}
-
-abbrev pub doneAs : Turn → List ℕ → Done
-doneAs x k = record { stop = x .stop; cycles = x .cycles; machine = assembled (x .core) k }
+use Rattle.row.specs.Rows.{executed}
+use Rattle.row.specs.Turns.{doneAs}
+use Rattle.machine.specs.With.{assembled}
+use Rattle.row.specs.declared.Turn.{Turn}
 
 -- the row with its operand takes RAM from l to k and gives what x says, whatever ROM, SOUND and the other operand are
 pub record Turns (m : Core) (row a : ℕ) (l k : List ℕ) (x : Turn) : Type 0 where
@@ -20,6 +18,6 @@ pub record Turns (m : Core) (row a : ℕ) (l k : List ℕ) (x : Turn) : Type 0 w
 pub record Keeps (m : Core) (row a : ℕ) (x : Turn) : Type 0 where
   pub turns : (l : List ℕ) → Turns m row a l l x
 
--- the row on RAM l has no operand, and leaves RAM as it was
-pub record Reads (m : Core) (row : ℕ) (l : List ℕ) (x : Turn) : Type 0 where
-  pub turns : (a : ℕ) → Turns m row a l l x
+-- the row has no operand
+pub record Comes (m : Core) (row : ℕ) (l k : List ℕ) (x : Turn) : Type 0 where
+  pub turns : (a : ℕ) → Turns m row a l k x

@@ -1,7 +1,8 @@
 // CIL, DICIL, EICIL and EXAE: the latches IL, EI, and the mask.
-use crate::Turn;
 use machine::Core;
+use machine::interrupts_of;
 use numbers::ADDRESSES;
+use row::Turn;
 use sheet::rows;
 ghost use mathlib.Core.Path.{_≡_};
 ghost use mathlib.Core.Bool.{true};
@@ -17,12 +18,11 @@ fn latched(m: Core, ei: bool, r: u8) -> Turn
     requires { ⌜ m .pc < addresses ⌝ }
     ensures { λ x. ⌜ x ≡ latchesLeft m ei r ⌝ }
 {
-    let il = m.ints.il & r;
+    let ints = interrupts_of(ei, m.ints.il & r, m.ints.mask);
     let mut after = m;
     after.regs.sf = true;
     after.pc = (m.pc + 2) % ADDRESSES;
-    after.ints.ei = ei;
-    after.ints.il = il;
+    after.ints = ints;
     Turn {
         stop: 0,
         cycles: 2,
@@ -35,11 +35,12 @@ fn exchanged(m: Core) -> Turn
     requires { ⌜ m .pc < addresses ⌝ }
     ensures { λ x. ⌜ x ≡ exchanged m ⌝ }
 {
+    let ints = interrupts_of(m.ints.ei, m.ints.il, m.regs.acc);
     let mut after = m;
     after.regs.acc = m.ints.mask;
     after.regs.sf = true;
     after.pc = (m.pc + 1) % ADDRESSES;
-    after.ints.mask = m.regs.acc;
+    after.ints = ints;
     Turn {
         stop: 0,
         cycles: 1,

@@ -14,7 +14,7 @@ use Rattle.row_pointers.specs.Pointed.{Leaves, Asks}
 use Rattle.row_pointers.specs.FromRom.{FromRom}
 use Rattle.row_pointers.specs.declared.Pointed.{Pointed}
 use Rattle.row_control.specs.Turns.{Turns}
-use Rattle.row_control.specs.declared.Turn.{Turn}
+use Rattle.row.specs.declared.Turn.{Turn}
 use Rattle.row_ports.specs.Ported.{Ported}
 use Rattle.row_dispatch.specs.Groups.{rowsOf, limitA, InGroup}
 use Rattle.row_dispatch.specs.Performs.{Performs, Shifts, Settles, Points, turnOf}

@@ -8,13 +8,14 @@ use Rattle.sheet.specs.declared.Insn.{Insn}
 use Rattle.machine.specs.Valid.{ValidCore, Nibbles}
 use Rattle.machine.specs.declared.Core.{Core}
 use Rattle.row.specs.Rows.{executed}
-use Rattle.row_registers.specs.Quiet.{assembled, afterAct}
+use Rattle.row_registers.specs.Quiet.{afterAct}
+use Rattle.machine.specs.With.{assembled}
 use Rattle.row_ends.specs.declared.Act.{Act}
 use Rattle.row_ram.specs.Cells.{Does}
 use Rattle.row_pointers.specs.Pointed.{afterPointer}
 use Rattle.row_pointers.specs.declared.Pointed.{Pointed}
-use Rattle.row_control.specs.Turns.{doneAs}
-use Rattle.row_control.specs.declared.Turn.{Turn}
+use Rattle.row.specs.Turns.{doneAs}
+use Rattle.row.specs.declared.Turn.{Turn}
 
 -- what executing a row asks: a valid record with RAM l, and an instruction of the sheet
 pub record Ready (m : Core) (l : List ℕ) (i : Insn) : Type 0 where

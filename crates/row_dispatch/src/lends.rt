@@ -1,7 +1,7 @@
 // The groups that read or write RAM, which is lent, and those that change more of the scalars.
 use machine::Core;
 use machine::Ram;
-use row_control::Turn;
+use row::Turn;
 use row_control::calls::call;
 use row_control::latches::latch;
 use row_control::returns::come_back;

@@ -9,7 +9,7 @@ use lends::turn;
 use lends::write;
 use machine::Core;
 use machine::Ram;
-use row_control::Turn;
+use row::Turn;
 use row_ends::Act;
 use row_pointers::Pointed;
 use sheet::Insn;

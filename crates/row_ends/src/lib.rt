@@ -11,12 +11,12 @@ ghost use Rattle.row_ends.specs.Ends.{accLoaded, accHrExchanged, accLrEx
 // What a row that touches the registers alone leaves: a stop or 0, its cycles, PC and the registers.
 pub struct Act {
     pub stop: u8,
-    pub cycles: u8,
+    pub cycles: u16,
     pub pc: u16,
     pub regs: Registers,
 }
 
-fn past(m: Core, r: Registers, n: u8, t: u8) -> Act
+fn past(m: Core, r: Registers, n: u8, t: u16) -> Act
     requires { ⌜ m .pc < addresses ⌝ }
     ensures { λ a. ⌜ a ≡ goesPast m r n t ⌝ }
 {
@@ -29,7 +29,7 @@ fn past(m: Core, r: Registers, n: u8, t: u8) -> Act
 }
 
 // - Z 1
-pub fn acc_loaded(m: Core, v: u8, n: u8, t: u8) -> Act
+pub fn acc_loaded(m: Core, v: u8, n: u8, t: u16) -> Act
     requires { ⌜ m .pc < addresses ⌝ }
     ensures { λ a. ⌜ a ≡ accLoaded m v n t ⌝ }
 {
@@ -42,7 +42,7 @@ pub fn acc_loaded(m: Core, v: u8, n: u8, t: u8) -> Act
 }
 
 // - Z 1: Z speaks of what ACC receives
-pub fn acc_hr_exchanged(m: Core, n: u8, t: u8) -> Act
+pub fn acc_hr_exchanged(m: Core, n: u8, t: u16) -> Act
     requires { ⌜ m .pc < addresses ⌝ }
     ensures { λ a. ⌜ a ≡ accHrExchanged m n t ⌝ }
 {
@@ -55,7 +55,7 @@ pub fn acc_hr_exchanged(m: Core, n: u8, t: u8) -> Act
     past(m, r, n, t)
 }
 
-pub fn acc_lr_exchanged(m: Core, n: u8, t: u8) -> Act
+pub fn acc_lr_exchanged(m: Core, n: u8, t: u16) -> Act
     requires { ⌜ m .pc < addresses ⌝ }
     ensures { λ a. ⌜ a ≡ accLrExchanged m n t ⌝ }
 {
@@ -69,7 +69,7 @@ pub fn acc_lr_exchanged(m: Core, n: u8, t: u8) -> Act
 }
 
 // - Z C'
-pub fn acc_summed(m: Core, x: Made, n: u8, t: u8) -> Act
+pub fn acc_summed(m: Core, x: Made, n: u8, t: u16) -> Act
     requires { ⌜ m .pc < addresses ⌝ }
     ensures { λ a. ⌜ a ≡ accSummed m x n t ⌝ }
 {
@@ -82,7 +82,7 @@ pub fn acc_summed(m: Core, x: Made, n: u8, t: u8) -> Act
 }
 
 // - Z C
-pub fn acc_lessened(m: Core, x: Made, n: u8, t: u8) -> Act
+pub fn acc_lessened(m: Core, x: Made, n: u8, t: u16) -> Act
     requires { ⌜ m .pc < addresses ⌝ }
     ensures { λ a. ⌜ a ≡ accLessened m x n t ⌝ }
 {
@@ -95,7 +95,7 @@ pub fn acc_lessened(m: Core, x: Made, n: u8, t: u8) -> Act
 }
 
 // - Z Z'
-pub fn acc_logical(m: Core, x: Made, n: u8, t: u8) -> Act
+pub fn acc_logical(m: Core, x: Made, n: u8, t: u16) -> Act
     requires { ⌜ m .pc < addresses ⌝ }
     ensures { λ a. ⌜ a ≡ accLogical m x n t ⌝ }
 {
@@ -108,7 +108,7 @@ pub fn acc_logical(m: Core, x: Made, n: u8, t: u8) -> Act
 }
 
 // C Z C'
-pub fn acc_carried(m: Core, x: Made, n: u8, t: u8) -> Act
+pub fn acc_carried(m: Core, x: Made, n: u8, t: u16) -> Act
     requires { ⌜ m .pc < addresses ⌝ }
     ensures { λ a. ⌜ a ≡ accCarried m x n t ⌝ }
 {
@@ -122,7 +122,7 @@ pub fn acc_carried(m: Core, x: Made, n: u8, t: u8) -> Act
 }
 
 // C Z C
-pub fn acc_borrowed(m: Core, x: Made, n: u8, t: u8) -> Act
+pub fn acc_borrowed(m: Core, x: Made, n: u8, t: u16) -> Act
     requires { ⌜ m .pc < addresses ⌝ }
     ensures { λ a. ⌜ a ≡ accBorrowed m x n t ⌝ }
 {
@@ -136,7 +136,7 @@ pub fn acc_borrowed(m: Core, x: Made, n: u8, t: u8) -> Act
 }
 
 // - - 1
-pub fn hr_loaded(m: Core, v: u8, n: u8, t: u8) -> Act
+pub fn hr_loaded(m: Core, v: u8, n: u8, t: u16) -> Act
     requires { ⌜ m .pc < addresses ⌝ }
     ensures { λ a. ⌜ a ≡ hrLoaded m v n t ⌝ }
 {
@@ -147,7 +147,7 @@ pub fn hr_loaded(m: Core, v: u8, n: u8, t: u8) -> Act
 }
 
 // - Z C'
-pub fn hr_summed(m: Core, x: Made, n: u8, t: u8) -> Act
+pub fn hr_summed(m: Core, x: Made, n: u8, t: u16) -> Act
     requires { ⌜ m .pc < addresses ⌝ }
     ensures { λ a. ⌜ a ≡ hrSummed m x n t ⌝ }
 {
@@ -160,7 +160,7 @@ pub fn hr_summed(m: Core, x: Made, n: u8, t: u8) -> Act
 }
 
 // - - 1
-pub fn lr_loaded(m: Core, v: u8, n: u8, t: u8) -> Act
+pub fn lr_loaded(m: Core, v: u8, n: u8, t: u16) -> Act
     requires { ⌜ m .pc < addresses ⌝ }
     ensures { λ a. ⌜ a ≡ lrLoaded m v n t ⌝ }
 {
@@ -171,7 +171,7 @@ pub fn lr_loaded(m: Core, v: u8, n: u8, t: u8) -> Act
 }
 
 // - Z C'
-pub fn lr_summed(m: Core, x: Made, n: u8, t: u8) -> Act
+pub fn lr_summed(m: Core, x: Made, n: u8, t: u16) -> Act
     requires { ⌜ m .pc < addresses ⌝ }
     ensures { λ a. ⌜ a ≡ lrSummed m x n t ⌝ }
 {
@@ -184,7 +184,7 @@ pub fn lr_summed(m: Core, x: Made, n: u8, t: u8) -> Act
 }
 
 // - Z C
-pub fn lr_lessened(m: Core, x: Made, n: u8, t: u8) -> Act
+pub fn lr_lessened(m: Core, x: Made, n: u8, t: u16) -> Act
     requires { ⌜ m .pc < addresses ⌝ }
     ensures { λ a. ⌜ a ≡ lrLessened m x n t ⌝ }
 {
@@ -197,7 +197,7 @@ pub fn lr_lessened(m: Core, x: Made, n: u8, t: u8) -> Act
 }
 
 // - - 1
-pub fn went_on(m: Core, n: u8, t: u8) -> Act
+pub fn went_on(m: Core, n: u8, t: u16) -> Act
     requires { ⌜ m .pc < addresses ⌝ }
     ensures { λ a. ⌜ a ≡ wentOn m n t ⌝ }
 {
@@ -207,7 +207,7 @@ pub fn went_on(m: Core, n: u8, t: u8) -> Act
 }
 
 // - Z C'
-pub fn summed(m: Core, x: Made, n: u8, t: u8) -> Act
+pub fn summed(m: Core, x: Made, n: u8, t: u16) -> Act
     requires { ⌜ m .pc < addresses ⌝ }
     ensures { λ a. ⌜ a ≡ summed m x n t ⌝ }
 {
@@ -219,7 +219,7 @@ pub fn summed(m: Core, x: Made, n: u8, t: u8) -> Act
 }
 
 // - Z C
-pub fn lessened(m: Core, x: Made, n: u8, t: u8) -> Act
+pub fn lessened(m: Core, x: Made, n: u8, t: u16) -> Act
     requires { ⌜ m .pc < addresses ⌝ }
     ensures { λ a. ⌜ a ≡ lessened m x n t ⌝ }
 {
@@ -231,7 +231,7 @@ pub fn lessened(m: Core, x: Made, n: u8, t: u8) -> Act
 }
 
 // - Z Z'
-pub fn logical(m: Core, x: Made, n: u8, t: u8) -> Act
+pub fn logical(m: Core, x: Made, n: u8, t: u16) -> Act
     requires { ⌜ m .pc < addresses ⌝ }
     ensures { λ a. ⌜ a ≡ logical m x n t ⌝ }
 {
@@ -243,7 +243,7 @@ pub fn logical(m: Core, x: Made, n: u8, t: u8) -> Act
 }
 
 // C Z Z'
-pub fn compared(m: Core, x: Made, n: u8, t: u8) -> Act
+pub fn compared(m: Core, x: Made, n: u8, t: u16) -> Act
     requires { ⌜ m .pc < addresses ⌝ }
     ensures { λ a. ⌜ a ≡ compared m x n t ⌝ }
 {
@@ -256,7 +256,7 @@ pub fn compared(m: Core, x: Made, n: u8, t: u8) -> Act
 }
 
 // - - *, of a test
-pub fn tested(m: Core, answer: bool, n: u8, t: u8) -> Act
+pub fn tested(m: Core, answer: bool, n: u8, t: u16) -> Act
     requires { ⌜ m .pc < addresses ⌝ }
     ensures { λ a. ⌜ a ≡ tested m answer n t ⌝ }
 {
@@ -266,7 +266,7 @@ pub fn tested(m: Core, answer: bool, n: u8, t: u8) -> Act
 }
 
 // 0 - * and 1 - *, of a test of CF
-pub fn cf_tested(m: Core, cf: bool, answer: bool, n: u8, t: u8) -> Act
+pub fn cf_tested(m: Core, cf: bool, answer: bool, n: u8, t: u16) -> Act
     requires { ⌜ m .pc < addresses ⌝ }
     ensures { λ a. ⌜ a ≡ cfTested m cf answer n t ⌝ }
 {
@@ -277,7 +277,7 @@ pub fn cf_tested(m: Core, cf: bool, answer: bool, n: u8, t: u8) -> Act
 }
 
 // - - -
-pub fn nothing(m: Core, n: u8, t: u8) -> Act
+pub fn nothing(m: Core, n: u8, t: u16) -> Act
     requires { ⌜ m .pc < addresses ⌝ }
     ensures { λ a. ⌜ a ≡ nothing m n t ⌝ }
 {
@@ -286,7 +286,7 @@ pub fn nothing(m: Core, n: u8, t: u8) -> Act
 }
 
 // A branch that is taken.
-pub fn jumped(m: Core, pc: u16, t: u8) -> Act
+pub fn jumped(m: Core, pc: u16, t: u16) -> Act
     ensures { λ a. ⌜ a ≡ jumped m pc t ⌝ }
 {
     let mut r = m.regs;

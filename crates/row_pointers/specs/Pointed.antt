@@ -7,6 +7,7 @@ use Rattle.numbers.specs.Sizes.{addresses}
 use Rattle.sheet.specs.Reading.{insn}
 use Rattle.machine.specs.Valid.{ValidRegisters, ValidPointers, ValidTimers}
 use Rattle.machine.specs.declared.Core.{Core}
+use Rattle.machine.specs.With.{coreWithRegs, coreWithPc, coreWithPtrs, coreWithTimers}
 use Rattle.machine.specs.declared.Pointers.{Pointers}
 use Rattle.machine.specs.declared.Timers.{Timers}
 use Rattle.row.specs.Rows.{executed}
@@ -17,7 +18,7 @@ use Rattle.laws.specs.Among.{among}
 
 -- the scalars with PC, the registers, the pointers and the timers anew
 abbrev pub afterPointer : Core → Act → Pointers → Timers → Core
-afterPointer m x p t = record { regs = x .regs; pc = x .pc; ptrs = p; ints = m .ints; timers = t; ports = m .ports; pins = m .pins; mode = m .mode }
+afterPointer m x p t = coreWithTimers (coreWithPtrs (coreWithPc (coreWithRegs m (x .regs)) (x .pc)) p) t
 
 -- the row gives what x says and leaves these pointers and timers, whatever RAM, ROM, SOUND and the operands are
 pub record Leaves (m : Core) (row : ℕ) (x : Act) (p : Pointers) (t : Timers) : Type 0 where

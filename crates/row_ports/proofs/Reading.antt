@@ -14,8 +14,8 @@ use Rattle.row.specs.Places.{weightOf}
 use Rattle.row.specs.Steps.{firstOf, putStep}
 use Rattle.row.specs.Rows.{stops, workOf}
 use Rattle.row_ends.specs.declared.Act.{Act}
-use Rattle.row_registers.specs.Quiet.{assembled}
-use Rattle.row_control.specs.Turns.{doneAs}
+use Rattle.machine.specs.With.{assembled}
+use Rattle.row.specs.Turns.{doneAs}
 use Rattle.row_ports.specs.Ends.{left, afterRead, portTested, portLoaded}
 use Rattle.row_ports.specs.Ported.{Reads}
 use Rattle.row_ports.proofs.Stops.{got-stop}
@@ -30,7 +30,7 @@ module _ (sound : Bool) (m : Core) (a b : ℕ) where
   unfolding lineAt lines workOf putStep made flagAfter
   tfp = record { ported = λ l. record { same = λ rom. read-done _ _ _ l } }
 
-  pub tfpl : Reads sound m 68 a b (portTested sound m (m .regs .lr / 4 + 4) (weightOf (m .regs .lr % 4)) false 1)
+  pub tfpl : Reads sound m 68 a b (portTested sound m (m .regs .lr / 4 + 4) (weightOf (m .regs .lr)) false 1)
   unfolding lineAt lines workOf putStep made flagAfter
   tfpl = record { ported = λ l. record { same = λ rom. read-done _ _ _ l } }
 

@@ -15,17 +15,16 @@ use Rattle.ports.specs.declared.PortWrite.{PortWrite}
 use Rattle.machine.specs.declared.Core.{Core}
 use Rattle.row.specs.Steps.{firstOf}
 use Rattle.row.specs.Rows.{stops}
-use Rattle.row_registers.specs.Quiet.{assembled}
-use Rattle.row_control.specs.Turns.{doneAs}
-use Rattle.row_control.specs.declared.Turn.{Turn}
-use Rattle.row_ports.specs.Ends.{stopped}
+use Rattle.machine.specs.With.{assembled}
+use Rattle.row.specs.Turns.{doneAs, stoppedTurn}
+use Rattle.row.specs.declared.Turn.{Turn}
 
-put-stop-by : (t : Bool) (s : ℕ) (x : Turn) (m : Core) (l : List ℕ) → doneAs (pick t x (stopped m s)) l ≡ pick t (doneAs x l) (stops s (assembled m l))
+put-stop-by : (t : Bool) (s : ℕ) (x : Turn) (m : Core) (l : List ℕ) → doneAs (pick t x (stoppedTurn m s)) l ≡ pick t (doneAs x l) (stops s (assembled m l))
 put-stop-by true s x m l = refl
 put-stop-by false s x m l = refl
 
 -- a stop of what is put
-pub put-stop : (s : ℕ) (x : Turn) (m : Core) (l : List ℕ) → doneAs (pick (eqb s 0) x (stopped m s)) l ≡ pick (eqb s 0) (doneAs x l) (stops s (assembled m l))
+pub put-stop : (s : ℕ) (x : Turn) (m : Core) (l : List ℕ) → doneAs (pick (eqb s 0) x (stoppedTurn m s)) l ≡ pick (eqb s 0) (doneAs x l) (stops s (assembled m l))
 put-stop s x m l = put-stop-by (eqb s 0) s x m l
 
 alone-by : (s : ℕ) → Dec (s ≡ 0) → firstOf s 0 ≡ s
@@ -36,7 +35,7 @@ alone : (s : ℕ) → firstOf s 0 ≡ s
 alone s = alone-by s (ℕ-discrete s 0)
 
 -- a stop of what is got
-pub got-stop : (s : ℕ) (x : Turn) (m : Core) (l : List ℕ) → doneAs (pick (eqb s 0) x (stopped m s)) l ≡ pick (eqb (firstOf (firstOf s 0) 0) 0) (doneAs x l) (stops (firstOf (firstOf s 0) 0) (assembled m l))
+pub got-stop : (s : ℕ) (x : Turn) (m : Core) (l : List ℕ) → doneAs (pick (eqb s 0) x (stoppedTurn m s)) l ≡ pick (eqb (firstOf (firstOf s 0) 0) 0) (doneAs x l) (stops (firstOf (firstOf s 0) 0) (assembled m l))
 got-stop s x m l = rw (alone s, alone s) (put-stop s x m l)
 
 either-way : (P : ℕ → Type 0) (t : Bool) (s n : ℕ) → P s → P n → P (pick t s n)

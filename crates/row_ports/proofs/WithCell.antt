@@ -13,7 +13,8 @@ use Rattle.machine.specs.declared.Core.{Core}
 use Rattle.row.specs.Steps.{putStep}
 use Rattle.row.specs.Rows.{workOf}
 use Rattle.row_ends.specs.Ends.{tested}
-use Rattle.row_ports.specs.Ends.{stopped, written, left, portRead}
+use Rattle.row.specs.Turns.{stoppedTurn}
+use Rattle.row_ports.specs.Ends.{written, left, portRead}
 use Rattle.row_ports.specs.Ported.{ToCell, FromCell}
 use Rattle.row_ports.proofs.Stops.{write-after, read-after, p9-kept}
 use Rattle.row_ports.proofs.Writing.{written-done}
@@ -23,7 +24,7 @@ module _ (m : Core) (b : ℕ) (l : List ℕ) where
   unfolding lineAt lines workOf putStep made flagAfter
   outm h = record { ported = λ sound a. record { same = λ rom. rw h (written-done m b (getD l (atHL m) 0) 2 l) } }
 
-  pub outm-absent : ltb (atHL m) 372 ≡ false → FromCell m b l (stopped m 31)
+  pub outm-absent : ltb (atHL m) 372 ≡ false → FromCell m b l (stoppedTurn m 31)
   unfolding lineAt lines workOf putStep made
   outm-absent h = record { ported = λ sound a. record { same = λ rom. rw (h, write-after) } }
 
@@ -32,10 +33,10 @@ module _ (sound : Bool) (m : Core) (b : ℕ) (l : List ℕ) where
   unfolding lineAt lines workOf putStep made flagAfter
   inm h s = record { ported = λ a. record { same = λ rom. rw (p9-kept sound (m .pins) (m .ports) b, h, s) } }
 
-  pub inm-no-port : ltb (atHL m) 372 ≡ true → eqb (portRead sound m b .stop) 0 ≡ false → ToCell sound m b l l (stopped m (portRead sound m b .stop))
+  pub inm-no-port : ltb (atHL m) 372 ≡ true → eqb (portRead sound m b .stop) 0 ≡ false → ToCell sound m b l l (stoppedTurn m (portRead sound m b .stop))
   unfolding lineAt lines workOf putStep made
   inm-no-port h s = record { ported = λ a. record { same = λ rom. rw (p9-kept sound (m .pins) (m .ports) b, h, s, s, s) } }
 
-  pub inm-absent : ltb (atHL m) 372 ≡ false → ToCell sound m b l l (stopped m 31)
+  pub inm-absent : ltb (atHL m) 372 ≡ false → ToCell sound m b l l (stoppedTurn m 31)
   unfolding lineAt lines workOf putStep made
   inm-absent h = record { ported = λ a. record { same = λ rom. rw (p9-kept sound (m .pins) (m .ports) b, h, read-after) } }

@@ -12,8 +12,8 @@ use Rattle.machine.specs.declared.Core.{Core}
 use Rattle.row.specs.Places.{weightOf}
 use Rattle.row.specs.Steps.{putStep}
 use Rattle.row.specs.Rows.{spent, stops, workOf}
-use Rattle.row_registers.specs.Quiet.{assembled}
-use Rattle.row_control.specs.Turns.{doneAs}
+use Rattle.machine.specs.With.{assembled}
+use Rattle.row.specs.Turns.{doneAs}
 use Rattle.row_ports.specs.Ends.{wrote, written, bitSet, bitCleared}
 use Rattle.row_ports.specs.Ported.{Writes}
 use Rattle.row_ports.proofs.Stops.{put-stop}
@@ -28,7 +28,7 @@ module _ (m : Core) (a b : ℕ) where
   unfolding lineAt lines workOf putStep made flagAfter
   clp = record { ported = λ sound l. record { same = λ rom. written-done _ _ _ _ l } }
 
-  pub clpl : Writes m 58 a b (bitCleared m (m .regs .lr / 4 + 4) (weightOf (m .regs .lr % 4)) 1)
+  pub clpl : Writes m 58 a b (bitCleared m (m .regs .lr / 4 + 4) (weightOf (m .regs .lr)) 1)
   unfolding lineAt lines workOf putStep made flagAfter
   clpl = record { ported = λ sound l. record { same = λ rom. written-done _ _ _ _ l } }
 
@@ -36,7 +36,7 @@ module _ (m : Core) (a b : ℕ) where
   unfolding lineAt lines workOf putStep made flagAfter
   sep = record { ported = λ sound l. record { same = λ rom. written-done _ _ _ _ l } }
 
-  pub sepl : Writes m 62 a b (bitSet m (m .regs .lr / 4 + 4) (weightOf (m .regs .lr % 4)) 1)
+  pub sepl : Writes m 62 a b (bitSet m (m .regs .lr / 4 + 4) (weightOf (m .regs .lr)) 1)
   unfolding lineAt lines workOf putStep made flagAfter
   sepl = record { ported = λ sound l. record { same = λ rom. written-done _ _ _ _ l } }
 

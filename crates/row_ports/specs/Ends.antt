@@ -9,35 +9,30 @@ use Rattle.alu.specs.Making.{valueAndCarry}
 use Rattle.ports.specs.Ports.{latchOf, readPort, writePort, modeAfter}
 use Rattle.ports.specs.declared.Ports.{Ports}
 use Rattle.ports.specs.declared.PortRead.{PortRead}
+use Rattle.machine.specs.With.{coreWithRegs, coreWithPc, coreWithTimers, coreWithPorts, coreWithMode}
+use Rattle.machine.specs.declared.Registers.{Registers}
 use Rattle.machine.specs.declared.Core.{Core}
-use Rattle.row.specs.Places.{baseAfter}
+use Rattle.row.specs.Places.{timersAfter}
+use Rattle.row.specs.Turns.{stoppedTurn}
+use Rattle.row_registers.specs.Quiet.{afterAct}
 use Rattle.row_ends.specs.declared.Act.{Act}
 use Rattle.row_ends.specs.Ends.{tested, accLogical}
-use Rattle.row_control.specs.declared.Turn.{Turn}
-
--- "A stop gives the record from before that step .. and zero cycles for it."
-abbrev pub stopped : Core → ℕ → Turn
-stopped m number = record { stop = number; cycles = 0; core = m }
+use Rattle.row.specs.declared.Turn.{Turn}
 
 -- - - 1, past a row of so many bytes that writes v to port n
 abbrev pub wrote : Core → ℕ → ℕ → ℕ → Core
-wrote m n v bytes = record {
-  regs = record { acc = m .regs .acc; hr = m .regs .hr; lr = m .regs .lr; cf = m .regs .cf; zf = m .regs .zf; sf = true };
-  pc = (m .pc + bytes) % addresses;
-  ptrs = m .ptrs;
-  ints = m .ints;
-  timers = record { base = baseAfter (m .timers .base) n v; ta = m .timers .ta; tb = m .timers .tb };
-  ports = writePort (m .ports) n v .ports;
-  pins = m .pins;
-  mode = modeAfter (m .mode) n v;
-}
+wrote m n v bytes =
+    let regs : Registers = record { acc = m .regs .acc; hr = m .regs .hr; lr = m .regs .lr; cf = m .regs .cf; zf = m .regs .zf; sf = true } in
+    let past = coreWithPc (coreWithRegs m regs) ((m .pc + bytes) % addresses) in
+    let timed = coreWithTimers past (timersAfter (m .timers) n v) in
+    coreWithMode (coreWithPorts timed (writePort (m .ports) n v .ports)) (modeAfter (m .mode) n v)
 
 -- every row of ports takes two cycles
 unfoldable pub written : Core → ℕ → ℕ → ℕ → Turn
 written m n v bytes =
     pick (eqb (writePort (m .ports) n v .stop) 0)
     (record { stop = 0; cycles = 2; core = wrote m n v bytes })
-    (stopped m (writePort (m .ports) n v .stop))
+    (stoppedTurn m (writePort (m .ports) n v .stop))
 
 -- "Set and clear use the latch."
 abbrev pub bitSet : Core → ℕ → ℕ → ℕ → Turn
@@ -51,15 +46,11 @@ portRead sound m n = readPort sound (m .pins) (m .ports) n
 
 -- the scalars with PC and the registers that a row leaves, and these latches
 abbrev pub left : Core → Act → Ports → Turn
-left m x p = record {
-  stop = x .stop;
-  cycles = x .cycles;
-  core = record { regs = x .regs; pc = x .pc; ptrs = m .ptrs; ints = m .ints; timers = m .timers; ports = p; pins = m .pins; mode = m .mode };
-}
+left m x p = record { stop = x .stop; cycles = x .cycles; core = coreWithPorts (afterAct m x) p }
 
 -- a row that read what r says: its stop, or what the row makes of the value
 unfoldable pub afterRead : Core → PortRead → Act → Turn
-afterRead m r x = pick (eqb (r .stop) 0) (left m x (r .ports)) (stopped m (r .stop))
+afterRead m r x = pick (eqb (r .stop) 0) (left m x (r .ports)) (stoppedTurn m (r .stop))
 
 -- the bit of weight w is 1, or it is 0
 abbrev pub bitAnswer : Bool → ℕ → ℕ → Bool

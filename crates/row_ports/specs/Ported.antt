@@ -11,9 +11,9 @@ use Rattle.ports.specs.declared.Ports.{Ports}
 use Rattle.machine.specs.Valid.{ValidRegisters, ValidPorts, Nibbles}
 use Rattle.machine.specs.declared.Core.{Core}
 use Rattle.row.specs.Rows.{executed}
-use Rattle.row_registers.specs.Quiet.{assembled}
-use Rattle.row_control.specs.Turns.{doneAs}
-use Rattle.row_control.specs.declared.Turn.{Turn}
+use Rattle.machine.specs.With.{assembled}
+use Rattle.row.specs.Turns.{doneAs}
+use Rattle.row.specs.declared.Turn.{Turn}
 use Rattle.row_ports.specs.Groups.{writing, reading}
 
 -- the row with its operands takes RAM from l to k and gives what x says, whatever the ROM is

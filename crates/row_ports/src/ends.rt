@@ -3,37 +3,25 @@ use machine::Core;
 use numbers::ADDRESSES;
 use ports::PortRead;
 use ports::Ports;
+use ports::enters;
 use ports::mode_after;
 use ports::write_port;
-use row_control::Turn;
+use row::Turn;
+use row::stopped;
 use row_ends::Act;
 ghost use mathlib.Core.Path.{_≡_};
 ghost use Prim.Native.Nat.{_<_};
 ghost use Rattle.numbers.specs.Sizes.{addresses};
 ghost use Rattle.ports.specs.Ports.{writePort};
 ghost use Rattle.row.specs.Places.{baseAfter};
-ghost use Rattle.row_ports.specs.Ends.{stopped, wrote, written, left, afterRead};
-
-// The scalars as they were, no cycles.
-pub(crate) fn stopped(m: Core, number: u8) -> Turn
-    ensures { λ x. ⌜ x ≡ stopped m number ⌝ }
-{
-    Turn {
-        stop: number,
-        cycles: 0,
-        core: m,
-    }
-}
+ghost use Rattle.row_ports.specs.Ends.{wrote, written, left, afterRead};
 
 // "Writing P16 with bit 2 set enters hold .. or sleep; the time base becomes 0"
 fn base_after(base: u32, n: u8, v: u8) -> u32
     ensures { λ r. ⌜ r ≡ baseAfter base n v ⌝ }
 {
-    if n == 16 {
-        if v / 4 % 2 == 1 {
-            return 0;
-        }
-        return base;
+    if enters(n, v) {
+        return 0;
     }
     base
 }

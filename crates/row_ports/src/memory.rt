@@ -1,6 +1,5 @@
 // INM and OUTM: a port and the nibble of RAM by HL. Of two stops it is the first by "the order is the table's": 31 before 33 and 34.
 use crate::ends::left;
-use crate::ends::stopped;
 use crate::ends::written;
 use machine::Core;
 use machine::Ram;
@@ -10,7 +9,8 @@ use machine::ram::poke;
 use numbers::ABSENT_RAM_ADDRESS;
 use numbers::RAM_NIBBLES;
 use ports::read_port;
-use row_control::Turn;
+use row::Turn;
+use row::stopped;
 use row_ends::tested;
 ghost use Rattle.row_ports.specs.Ported.{ToCell, FromCell, ToCellFits, FromCellFits};
 

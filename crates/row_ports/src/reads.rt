@@ -8,7 +8,7 @@ use ports::read_port;
 use row_ends::acc_logical;
 use row_ends::tested;
 use sheet::rows;
-use row_control::Turn;
+use row::Turn;
 ghost use mathlib.Core.Path.{_≡_};
 ghost use Prim.Native.Nat.{_<_};
 ghost use Rattle.row_ports.specs.Ends.{bitAnswer, portTested, portLoaded};
@@ -61,7 +61,7 @@ pub fn read_row(sound: bool, m: Core, row: u8, a: u8, b: u8) -> Turn
     let lr = m.regs.lr;
     match row {
         rows::TFP => port_tested(sound, m, b, weight(a), false, 2),
-        rows::TFPL => port_tested(sound, m, lr / 4 + 4, weight(lr % 4), false, 1),
+        rows::TFPL => port_tested(sound, m, lr / 4 + 4, weight(lr), false, 1),
         rows::TTP => port_tested(sound, m, b, weight(a), true, 2),
         _ => port_loaded(sound, m, b),
     }

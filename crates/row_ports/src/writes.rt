@@ -7,7 +7,7 @@ use row_registers::weight;
 use ports::Ports;
 use ports::latch;
 use sheet::rows;
-use row_control::Turn;
+use row::Turn;
 ghost use mathlib.Core.Path.{_≡_};
 ghost use Prim.Native.Nat.{_<_};
 ghost use Rattle.machine.specs.Valid.{ValidPorts};
@@ -49,9 +49,9 @@ pub fn write_row(m: Core, row: u8, a: u8, b: u8) -> Turn
     let lr = m.regs.lr;
     match row {
         rows::CLP => bit_cleared(m, b, weight(a), 2),
-        rows::CLPL => bit_cleared(m, lr / 4 + 4, weight(lr % 4), 1),
+        rows::CLPL => bit_cleared(m, lr / 4 + 4, weight(lr), 1),
         rows::SEP => bit_set(m, b, weight(a), 2),
-        rows::SEPL => bit_set(m, lr / 4 + 4, weight(lr % 4), 1),
+        rows::SEPL => bit_set(m, lr / 4 + 4, weight(lr), 1),
         rows::OUT => written(m, b, a, 2),
         _ => written(m, b, m.regs.acc, 2),
     }

@@ -14,7 +14,8 @@ use Rattle.machine.specs.declared.Core.{Core}
 use Rattle.row.specs.Places.{cellOf}
 use Rattle.row.specs.Rows.{Done, executed}
 use Rattle.row_ends.specs.declared.Act.{Act}
-use Rattle.row_registers.specs.Quiet.{assembled, doneAs}
+use Rattle.row_registers.specs.Quiet.{doneBy}
+use Rattle.machine.specs.With.{assembled}
 use Rattle.row_ram.specs.declared.Stored.{Stored}
 use Rattle.laws.specs.Among.{among}
 
@@ -28,15 +29,15 @@ placeIn c m row a b = cellOf m (insn row a b) c
 
 -- where RAM has the place and v stands there, the row gives what x says and leaves RAM as it was
 pub record Reads (c : Cell) (m : Core) (row a v : ℕ) (x : Act) : Type 0 where
-  pub same : (rom : ℕ → ℕ) (sound : Bool) (b : ℕ) (l : List ℕ) → ltb (placeIn c m row a b) ramNibbles ≡ true → getD l (placeIn c m row a b) 0 ≡ v → doneAs m x l ≡ performedOn m row a b rom sound l
+  pub same : (rom : ℕ → ℕ) (sound : Bool) (b : ℕ) (l : List ℕ) → ltb (placeIn c m row a b) ramNibbles ≡ true → getD l (placeIn c m row a b) 0 ≡ v → doneBy m x l ≡ performedOn m row a b rom sound l
 
 -- and there it gives what s says of the scalars, and stores its nibble
 pub record Stores (c : Cell) (m : Core) (row a v : ℕ) (s : Stored) : Type 0 where
-  pub same : (rom : ℕ → ℕ) (sound : Bool) (b : ℕ) (l : List ℕ) → ltb (placeIn c m row a b) ramNibbles ≡ true → getD l (placeIn c m row a b) 0 ≡ v → doneAs m (s .act) (set l (placeIn c m row a b) (s .value)) ≡ performedOn m row a b rom sound l
+  pub same : (rom : ℕ → ℕ) (sound : Bool) (b : ℕ) (l : List ℕ) → ltb (placeIn c m row a b) ramNibbles ≡ true → getD l (placeIn c m row a b) 0 ≡ v → doneBy m (s .act) (set l (placeIn c m row a b) (s .value)) ≡ performedOn m row a b rom sound l
 
 -- the row takes RAM from l to k and gives what x says
 pub record Does (m : Core) (row a b : ℕ) (l k : List ℕ) (x : Act) : Type 0 where
-  pub same : (rom : ℕ → ℕ) (sound : Bool) → doneAs m x k ≡ performedOn m row a b rom sound l
+  pub same : (rom : ℕ → ℕ) (sound : Bool) → doneBy m x k ≡ performedOn m row a b rom sound l
 
 -- what a row on the RAM that is lent asks: its operand is below the limit
 pub record Fits (rows : List ℕ) (limit : ℕ) (m : Core) (i : Insn) (l : List ℕ) : Type 0 where

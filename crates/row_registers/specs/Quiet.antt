@@ -5,24 +5,22 @@ use mathlib.Core.List.{List}
 use mathlib.Core.Path.{_≡_}
 use Rattle.numbers.specs.Sizes.{addresses}
 use Rattle.sheet.specs.Reading.{insn}
+use Rattle.machine.specs.With.{assembled, coreWithRegs, coreWithPc}
 use Rattle.machine.specs.declared.Core.{Core}
 use Rattle.machine.specs.declared.Machine.{Machine}
 use Rattle.row.specs.Rows.{Done, executed}
 use Rattle.row_ends.specs.declared.Act.{Act}
 
-abbrev pub assembled : Core → List ℕ → Machine
-assembled m l = record { core = m; ram = l }
-
 -- the scalars after a row that changes PC and the registers
 abbrev pub afterAct : Core → Act → Core
-afterAct m x = record { regs = x .regs; pc = x .pc; ptrs = m .ptrs; ints = m .ints; timers = m .timers; ports = m .ports; pins = m .pins; mode = m .mode }
+afterAct m x = coreWithPc (coreWithRegs m (x .regs)) (x .pc)
 
-abbrev pub doneAs : Core → Act → List ℕ → Done
-doneAs m x l = record { stop = x .stop; cycles = x .cycles; machine = assembled (afterAct m x) l }
+abbrev pub doneBy : Core → Act → List ℕ → Done
+doneBy m x l = record { stop = x .stop; cycles = x .cycles; machine = assembled (afterAct m x) l }
 
 -- the row with its operand gives what x says, whatever RAM, ROM, SOUND and the other operand are
 pub record Quiet (m : Core) (row a : ℕ) (x : Act) : Type 0 where
-  pub same : (rom : ℕ → ℕ) (sound : Bool) (b : ℕ) (l : List ℕ) → doneAs m x l ≡ executed (record { rom = rom; sound = sound; insn = insn row a b }) (assembled m l)
+  pub same : (rom : ℕ → ℕ) (sound : Bool) (b : ℕ) (l : List ℕ) → doneBy m x l ≡ executed (record { rom = rom; sound = sound; insn = insn row a b }) (assembled m l)
 
 -- what the rows ask of the registers and the operand
 pub record Low (m : Core) (k : ℕ) : Type 0 where

@@ -10,10 +10,5 @@ ghost use Rattle.row_registers.specs.Weighs.{Weighs};
 pub fn weight(number: u8) -> u8
     ensures { λ r. ⌜ Weighs number r ⌝ }
 {
-    match number {
-        0 => 1,
-        1 => 2,
-        2 => 4,
-        _ => 8,
-    }
+    bits::weight(number % 4)
 }

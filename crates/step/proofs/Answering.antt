@@ -16,10 +16,10 @@ use Rattle.frame.proofs.Characters.{in-range}
 use Rattle.machine.specs.Valid.{Valid}
 use Rattle.machine.specs.declared.Machine.{Machine}
 use Rattle.machine_valid.proofs.Validity.{valid?}
-use Rattle.row_registers.specs.Quiet.{assembled}
+use Rattle.machine.specs.With.{assembled}
 use Rattle.step.specs.Step.{stepOf}
 use Rattle.step.specs.Answers.{stepRefused, stepped, StepOf}
-use Rattle.step.specs.Gives.{Gives}
+use Rattle.row.specs.Turns.{Gives}
 use Rattle.step.specs.declared.Options.{Options}
 use Rattle.step.specs.declared.Advanced.{Advanced}
 use Rattle.step.specs.declared.Stepped.{Stepped}

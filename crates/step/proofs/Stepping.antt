@@ -9,16 +9,16 @@ use Rattle.frame.specs.declared.Pins.{Pins}
 use Rattle.machine.specs.Valid.{ValidCore}
 use Rattle.machine.specs.declared.Core.{Core}
 use Rattle.row.specs.Rows.{Done}
-use Rattle.row_registers.specs.Quiet.{assembled}
-use Rattle.row_control.specs.declared.Turn.{Turn}
+use Rattle.machine.specs.With.{assembled}
+use Rattle.row.specs.declared.Turn.{Turn}
 use Rattle.step_look.specs.Look.{seen, isRunning, waited, looked}
 use Rattle.step_look.specs.declared.Looked.{Looked}
 use Rattle.step_look.proofs.LookValid.{seen-valid, running-is, waited-rests}
 use Rattle.step_act.specs.Act.{actOf}
-use Rattle.step_act.specs.Gives as act
+use Rattle.step_act.specs.Runs as act
 use Rattle.step_act.proofs.Stops.{act-keeps-ram}
 use Rattle.step.specs.Step.{stepOf}
-use Rattle.step.specs.Gives.{Gives}
+use Rattle.row.specs.Turns.{Gives}
 use Rattle.step.specs.declared.Options.{Options}
 
 -- what a running record sees, with which it goes on to act

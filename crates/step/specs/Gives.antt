@@ -3,7 +3,7 @@ use Prim.Native.Nat.{ℕ}
 use mathlib.Core.List.{List}
 use mathlib.Core.Path.{_≡_}
 use Rattle.row.specs.Rows.{Done}
-use Rattle.row_registers.specs.Quiet.{assembled}
+use Rattle.machine.specs.With.{assembled}
 use Rattle.step.specs.declared.Advanced.{Advanced}
 
 pub record Gives (d : Done) (k : List ℕ) (x : Advanced) : Type 0 where

@@ -21,7 +21,7 @@ ghost use Rattle.sheet.specs.Reading.{romOf};
 ghost use Rattle.frame.specs.Frame.{PinsInRange};
 ghost use Rattle.machine.specs.Valid.{ValidCore, Nibbles};
 ghost use Rattle.step.specs.Step.{stepOf};
-ghost use Rattle.step.specs.Gives.{Gives};
+ghost use Rattle.row.specs.Turns.{Gives};
 ghost use Rattle.step.specs.Answers.{StepOf, stepRefused};
 
 // wake has the enable bits of P0.0 to P0.3 and P8.0 to P8.3, from bit 0 up.

@@ -16,11 +16,11 @@ use Rattle.machine.specs.Valid.{Valid}
 use Rattle.machine.specs.declared.Core.{Core}
 use Rattle.machine.specs.declared.Machine.{Machine}
 use Rattle.row.specs.Rows.{Done}
-use Rattle.row_registers.specs.Quiet.{assembled}
-use Rattle.row_control.specs.declared.Turn.{Turn}
+use Rattle.machine.specs.With.{assembled}
+use Rattle.row.specs.declared.Turn.{Turn}
 use Rattle.row_dispatch.specs.Performs.{Performs}
 use Rattle.step_act.specs.Act.{sourceOf, acceptOf, runOne, acceptOrRun, coreIn, coreAfter, actOf}
-use Rattle.step_act.specs.Gives.{Gives}
+use Rattle.row.specs.Turns.{Gives}
 
 abbrev pub stopped : Core → ℕ → Turn
 stopped m number = record { stop = number; cycles = 0; core = m }

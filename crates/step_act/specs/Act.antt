@@ -1,8 +1,8 @@
 -- Document 01, "One step": what a running record does once it has seen the frame. It accepts an interrupt or executes one row; then time passes.
 use Prim.Native.Nat.{ℕ}
 use mathlib.Core.Bool.{Bool}
-use lib.Dec.{leb, ltb}
-use Rattle.laws.specs.Choice.{pick, both}
+use lib.Dec.{ltb}
+use Rattle.laws.specs.Choice.{pick}
 use Rattle.bits.specs.Bits.{hasBit}
 use Rattle.numbers.specs.ComesBack.{unassigned-code, stack-level}
 use Rattle.sheet.specs.Reading.{readAt}
@@ -11,7 +11,7 @@ use Rattle.clock.specs.Clock.{passed}
 use Rattle.clock.specs.declared.Rates.{Rates}
 use Rattle.ports.specs.declared.Mode.{Mode}
 use Rattle.due.specs.Due.{dueSource}
-use Rattle.machine.specs.Stack.{accepted}
+use Rattle.machine.specs.Stack.{canPush, accepted}
 use Rattle.machine.specs.declared.Core.{Core}
 use Rattle.machine.specs.declared.Machine.{Machine}
 use Rattle.row.specs.Rows.{Done, spent, stops, executed}
@@ -24,7 +24,7 @@ sourceOf m = pick (m .ints .ei) (dueSource (m .ints .il) (m .ints .mask)) 6
 -- "Acceptance .. costs 2 cycles", and "lowers SP first, so SP must be 1 to 13"
 unfoldable pub acceptOf : Machine → ℕ → Done
 acceptOf m source =
-    pick (both (leb 1 (m .core .ptrs .sp)) (leb (m .core .ptrs .sp) 13)) (spent 2 (accepted m source)) (stops stack-level m)
+    pick (canPush (m .core)) (spent 2 (accepted m source)) (stops stack-level m)
 
 -- "Otherwise one instruction runs.", or is an unassigned code
 abbrev pub runRead : (ℕ → ℕ) → Bool → Machine → Read → Done

@@ -3,13 +3,17 @@ use clock::Rates;
 use clock::Time;
 use due::due_source;
 use machine::Core;
-use machine::Machine;
+use machine::interrupts_of;
+use machine::stack::can_push;
 use machine::Ram;
 use numbers::STACK_LEVEL;
 use numbers::UNASSIGNED_CODE;
 use ports::Mode;
 use reader::read_at;
-use row_control::Turn;
+use row::Turn;
+use row::held;
+use row::moved_on;
+use row::stopped;
 use row_dispatch::perform;
 use sheet::Read;
 ghost use mathlib.Core.Path.{_≡_};
@@ -19,41 +23,18 @@ ghost use Rattle.numbers.specs.Sizes.{imageBytes};
 ghost use Rattle.sheet.specs.Reading.{romOf};
 ghost use Rattle.machine.specs.Valid.{ValidCore, Nibbles};
 ghost use Rattle.step_act.specs.Act.{sourceOf, acceptOf, runOne, acceptOrRun, coreAfter, timed, actOf};
-ghost use Rattle.step_act.specs.Gives.{Gives, Runs};
-
-// A stop, with the scalars as they were.
-fn stopped(m: Core, number: u8) -> Turn
-    ensures { λ x. ⌜ x ≡ record { stop = number; cycles = 0; core = m } ⌝ }
-{
-    Turn {
-        stop: number,
-        cycles: 0,
-        core: m,
-    }
-}
+ghost use Rattle.step_act.specs.Runs.{Runs};
+ghost use Rattle.row.specs.Turns.{Gives};
 
 // "A call or acceptance lowers SP first, so SP must be 1 to 13."
 fn accept(m: Core, ram: &mut Ram, source: u8) -> Turn
     requires { ⌜ (ValidCore m) × (source < 6) ⌝ }
     ensures { λ x. ⌜ Gives (acceptOf (record { core = m; ram = now (ram .entry) }) source) (now (ram .exit)) x ⌝ }
 {
-    if m.ptrs.sp < 1 {
+    if !can_push(m) {
         return stopped(m, STACK_LEVEL);
     }
-    if m.ptrs.sp > 13 {
-        return stopped(m, STACK_LEVEL);
-    }
-    let held = *ram;
-    let machine = Machine { core: m, ram: held };
-    let after = machine.accept(source);
-    let kept = after.ram;
-    let core = after.core;
-    *ram = kept;
-    Turn {
-        stop: 0,
-        cycles: 2,
-        core: core,
-    }
+    moved_on(held(m, ram).accept(source), ram)
 }
 
 // The row at PC, or stop 30.
@@ -90,7 +71,7 @@ fn turn(image: &[u8], sound: bool, m: Core, ram: &mut Ram) -> Turn
 }
 
 // Time for so many cycles, with the settings that the scalars have.
-fn pass(m: Core, n: u8) -> Core
+fn pass(m: Core, n: u16) -> Core
     requires { ⌜ ValidCore m ⌝ }
     ensures { λ r. ⌜ r ≡ timed n m ⌝ }
 {
@@ -108,15 +89,16 @@ fn pass(m: Core, n: u8) -> Core
         p81: bits::has_bit(m.pins.p8, 2),
     };
     let s = clock::pass(t, r, n);
+    let ints = interrupts_of(m.ints.ei, s.il, m.ints.mask);
     let mut after = m;
     after.timers.base = s.base;
     after.timers.ta = s.ta;
     after.timers.tb = s.tb;
-    after.ints.il = s.il;
+    after.ints = ints;
     after
 }
 
-fn after(m: Core, n: u8) -> Core
+fn after(m: Core, n: u16) -> Core
     requires { ⌜ ValidCore m ⌝ }
     ensures { λ r. ⌜ r ≡ coreAfter n m ⌝ }
 {

@@ -32,7 +32,7 @@ loop-again : tie.Need-loop-again Inv-loop μ-loop
 loop-again c = (search needs, below-more _ _ (c .before .before .before .loop .inv .1) (c .if1 .left))
 
 returns-2 : tie.Need-returns-2 Inv-loop μ-loop
-returns-2 c = record { sound = λ t. record { each = λ k h. c .before .loop .inv .1 k (omega arith) }; complete = λ v. tt }
+returns-2 c = record { sound = λ t. record { size = c .before .before .pre; each = λ k h. c .before .loop .inv .1 k (omega arith) }; complete = λ v. tt }
 
 pub are-nibbles-spec : {M : Type 1} → statement M
 are-nibbles-spec =

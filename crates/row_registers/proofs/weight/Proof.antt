@@ -1,21 +1,27 @@
 -- `row_registers::weight` meets its contract.
+use Prim.Native.Nat.{ℕ, _%_, _^_, _<_}
 use native.Mathlib.Omega.{arith}
-use borrow.Author.Tests.{ne-eqb}
+use lib.Dec.{ltb, ltb→lt}
+use lib.Pow.{pow-pos}
+use borrow.Author.Needs.{needs}
+use Rattle.laws.proofs.Computed.{at}
 use Rattle.row_registers.proofs.weight.Statement.{statement}
 use Rattle.row_registers.proofs.weight.Tie as tie
 
+small : (n : ℕ) → 2 ^ (n % 4) < 9
+small n = ltb→lt (2 ^ (n % 4)) 9 (at (λ k. ltb (2 ^ k) 9) 4 tt (n % 4) (omega arith))
+
+weight-requires : tie.Need-weight-requires
+weight-requires c κs = search needs
+
 returns : tie.Need-returns
-returns c = record { value = rw (c .match .keys1); some = omega arith; small = omega arith }
-
-returns-2 : tie.Need-returns-2
-returns-2 c = record { value = rw (c .match .keys2); some = omega arith; small = omega arith }
-
-returns-3 : tie.Need-returns-3
-returns-3 c = record { value = rw (c .match .keys3); some = omega arith; small = omega arith }
-
-returns-4 : tie.Need-returns-4
-returns-4 c =
-    record { value = rw (ne-eqb _ 0 (c .match .rest .0 .0 .1), ne-eqb _ 1 (c .match .rest .0 .1), ne-eqb _ 2 (c .match .rest .1)); some = omega arith; small = omega arith }
+returns c =
+    let n = c .before .args .number in
+    record {
+      value = c .weight .ensures;
+      some = rw (c .weight .ensures) (pow-pos (n % 4));
+      small = rw (c .weight .ensures) (small n);
+    }
 
 pub weight-spec : {M : Type 1} → statement M
-weight-spec = tie.close (tie.spec returns returns-2 returns-3 returns-4)
+weight-spec = tie.close (tie.spec weight-requires returns)

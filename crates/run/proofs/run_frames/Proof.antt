@@ -5,7 +5,7 @@ use lib.ListN.{length}
 use borrow.Author.Needs.{needs}
 use Rattle.sheet.specs.Reading.{romOf}
 use Rattle.frame.specs.Frame.{framesOf}
-use Rattle.row_registers.specs.Quiet.{assembled}
+use Rattle.machine.specs.With.{assembled}
 use Rattle.run.specs.Run.{runOf}
 use Rattle.run.proofs.Going.{Going, starts, room, shows, ended, goes-on, ends-early}
 use Rattle.run.proofs.run_frames.Statement.{statement}

@@ -14,6 +14,9 @@ weight-requires c κs = search needs
 without-bit-requires : tie.Need-without-bit-requires
 without-bit-requires c κs = rw (c .weight .ensures) (pow-pos (c .before .before .args .latch))
 
+interrupts-of-requires : tie.Need-interrupts-of-requires
+interrupts-of-requires c κs = search needs
+
 top-of-requires : tie.Need-top-of-requires
 top-of-requires c κs = search needs
 
@@ -22,7 +25,7 @@ push-requires c κs = search needs
 
 returns : tie.Need-returns
 unfolding accepted
-returns c = rw (c .before .before .before .before .push .ensures, c .before .before .before .before .before .top-of .ensures, c .before .before .before .before .before .before .without-bit .ensures, c .before .before .before .before .before .before .before .weight .ensures, c .before .before .before .before .before .before .before .before .entry-of .ensures)
+returns c = rw (c .before .before .before .push .ensures, c .before .before .before .before .top-of .ensures, c .before .before .before .before .before .interrupts-of .ensures, c .before .before .before .before .before .before .without-bit .ensures, c .before .before .before .before .before .before .before .weight .ensures, c .before .before .before .before .before .before .before .before .entry-of .ensures)
 
 pub accept-spec : {M : Type 1} → statement M
 accept-spec =
@@ -31,6 +34,7 @@ accept-spec =
     entry-of-requires
     weight-requires
     without-bit-requires
+    interrupts-of-requires
     top-of-requires
     push-requires
     returns)

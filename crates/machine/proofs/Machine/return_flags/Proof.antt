@@ -16,12 +16,15 @@ bit-at-requires-2 c κs = search needs
 bit-at-requires-3 : tie.Need-bit-at-requires-3
 bit-at-requires-3 c κs = search needs
 
+interrupts-of-requires : tie.Need-interrupts-of-requires
+interrupts-of-requires c κs = search needs
+
 pop-requires : tie.Need-pop-requires
 pop-requires c κs = search needs
 
 returns : tie.Need-returns
 unfolding flagsReturned
-returns c = rw (c .before .before .before .before .pop .ensures, c .before .before .before .before .before .bit-at3 .ensures, c .before .before .before .before .before .before .bit-at2 .ensures, c .before .before .before .before .before .before .before .bit-at .ensures, c .before .before .before .before .before .before .before .before .top-at .ensures .value)
+returns c = rw (c .before .before .before .before .before .pop .ensures, c .before .before .before .before .before .before .interrupts-of .ensures, c .before .before .before .before .before .before .before .bit-at3 .ensures, c .before .before .before .before .before .before .before .before .bit-at2 .ensures, c .before .before .before .before .before .before .before .before .before .bit-at .ensures, c .before .before .before .before .before .before .before .before .before .before .top-at .ensures .value)
 
 pub return-flags-spec : {M : Type 1} → statement M
 return-flags-spec =
@@ -31,5 +34,6 @@ return-flags-spec =
     bit-at-requires
     bit-at-requires-2
     bit-at-requires-3
+    interrupts-of-requires
     pop-requires
     returns)

@@ -1,23 +1,19 @@
 -- `row_control::calls::called` meets its contract.
-use mathlib.Core.Path.{refl}
 use borrow.Author.Needs.{needs}
 use Rattle.row_control.proofs.calls.called.Statement.{statement}
 use Rattle.row_control.proofs.calls.called.Tie as tie
 
-sub-sp : tie.Need-sub-sp
-sub-sp c = search needs
+held-requires : tie.Need-held-requires
+held-requires c κs = search needs
 
-top-at-requires : tie.Need-top-at-requires
-top-at-requires c κs = search needs
+call-requires : tie.Need-call-requires
+call-requires c κs = rw (c .held .ensures) (c .before .before .pre)
 
-kept-top-requires : tie.Need-kept-top-requires
-kept-top-requires c κs = search needs
-
-store-requires : tie.Need-store-requires
-store-requires c κs = search needs
+moved-on-requires : tie.Need-moved-on-requires
+moved-on-requires c κs = search needs
 
 returns : tie.Need-returns
-returns c = record { turn = refl; ram = rw (c .before .store .ensures, c .before .before .before .kept-top .ensures, c .before .before .before .before .top-at .ensures .value) }
+returns c = rw (← c .before .before .before .held .ensures, ← c .before .before .call .ensures) (c .moved-on .ensures)
 
 pub called-spec : {M : Type 1} → statement M
-called-spec = tie.close (tie.spec sub-sp top-at-requires kept-top-requires store-requires returns)
+called-spec = tie.close (tie.spec held-requires call-requires moved-on-requires returns)

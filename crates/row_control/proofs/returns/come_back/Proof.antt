@@ -1,30 +1,61 @@
 -- `row_control::returns::come_back` meets its contract.
+use mathlib.Core.Path.{ap, _∙_}
 use mathlib.Core.List.{[], _∷_}
 use Rattle.laws.proofs.Among.{first}
+use Rattle.machine.specs.Stack.{popped}
+use Rattle.machine.proofs.Range.{can-pop}
+use Rattle.row.proofs.Turns.{same-given}
 use Rattle.row_control.proofs.Returning.{ret, rti, stop}
+use borrow.Author.Tests.{not-true, not-false}
 use borrow.Author.Needs.{needs}
 use Rattle.row_control.proofs.returns.come_back.Statement.{statement}
 use Rattle.row_control.proofs.returns.come_back.Tie as tie
+
+can-pop-requires : tie.Need-can-pop-requires
+can-pop-requires c κs = search needs
 
 stopped-requires : tie.Need-stopped-requires
 stopped-requires c κs = search needs
 
 returns : tie.Need-returns
-returns c = rw (c .stopped .ensures) (stop _ _ _ (c .before .if1 .taken) (c .before .before .before .pre .1))
+returns c = rw (c .stopped .ensures) (stop _ _ _ (rw (← c .before .before .can-pop .ensures) (not-true _ (c .before .if1 .taken))) (c .before .before .before .pre .1))
 
-popped-requires : tie.Need-popped-requires
-popped-requires c κs = search needs
+held-requires : tie.Need-held-requires
+held-requires c κs = search needs
 
-flags-returned-requires : tie.Need-flags-returned-requires
-flags-returned-requires c κs = search needs
+pop-requires : tie.Need-pop-requires
+pop-requires c κs = rw (c .held .ensures) (c .before .before .before .before .before .pre .0, can-pop (rw (← c .before .before .before .before .can-pop .ensures) (not-false _ (c .before .before .before .if1 .left))))
+
+moved-on-requires : tie.Need-moved-on-requires
+moved-on-requires c κs = search needs
+
+held-requires-2 : tie.Need-held-requires-2
+held-requires-2 c κs = search needs
+
+return-flags-requires : tie.Need-return-flags-requires
+return-flags-requires c κs = rw (c .held2 .ensures) (c .before .before .before .before .before .pre .0, can-pop (rw (← c .before .before .before .before .can-pop .ensures) (not-false _ (c .before .before .before .if1 .left))))
+
+moved-on-requires-2 : tie.Need-moved-on-requires-2
+moved-on-requires-2 c κs = search needs
 
 returns-2 : tie.Need-returns-2
-returns-2 c = rw (c .before .match .keys1, c .popped .ensures) (ret _ _ (c .before .before .if1 .left))
+returns-2 c = rw (c .before .before .before .before .before .match .keys1) (ret _ _ _ _ (rw (← c .before .before .before .before .before .before .before .can-pop .ensures) (not-false _ (c .before .before .before .before .before .before .if1 .left))) (same-given (c .before .before .pop .ensures ∙ ap popped (c .before .before .before .held .ensures)) (c .moved-on .ensures)))
 
 returns-3 : tie.Need-returns-3
-returns-3 c = rw (first (86 ∷ 73 ∷ []) _ (c .before .before .before .before .pre .1) (c .before .match .rest), c .flags-returned .ensures) (rti _ _ (c .before .before .if1 .left))
+returns-3 c = rw (first (86 ∷ 73 ∷ []) _ (c .before .before .before .before .before .before .before .before .pre .1) (c .before .before .before .before .before .match .rest)) (rti _ _ _ _ (rw (← c .before .before .before .before .before .before .before .can-pop .ensures) (not-false _ (c .before .before .before .before .before .before .if1 .left))) (rw (← c .before .before .before .held2 .ensures, ← c .before .before .return-flags .ensures) (c .moved-on2 .ensures)))
 
 pub come-back-spec : {M : Type 1} → statement M
 come-back-spec =
     tie.close
-    (tie.spec stopped-requires returns popped-requires flags-returned-requires returns-2 returns-3)
+    (tie.spec
+    can-pop-requires
+    stopped-requires
+    returns
+    held-requires
+    pop-requires
+    moved-on-requires
+    held-requires-2
+    return-flags-requires
+    moved-on-requires-2
+    returns-2
+    returns-3)

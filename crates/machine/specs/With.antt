@@ -1,0 +1,45 @@
+-- The record with one part anew, and all else as it was.
+use Prim.Native.Nat.{ℕ}
+use mathlib.Core.Bool.{Bool}
+use mathlib.Core.List.{List}
+use Rattle.frame.specs.declared.Pins.{Pins}
+use Rattle.ports.specs.declared.Ports.{Ports}
+use Rattle.ports.specs.declared.Mode.{Mode}
+use Rattle.machine.specs.declared.Registers.{Registers}
+use Rattle.machine.specs.declared.Pointers.{Pointers}
+use Rattle.machine.specs.declared.Interrupts.{Interrupts}
+use Rattle.machine.specs.declared.Timers.{Timers}
+use Rattle.machine.specs.declared.Core.{Core}
+use Rattle.machine.specs.declared.Machine.{Machine}
+
+-- the scalars with a RAM
+abbrev pub assembled : Core → List ℕ → Machine
+assembled m l = record { core = m; ram = l }
+
+abbrev pub coreWithRegs : Core → Registers → Core
+coreWithRegs m r = record { regs = r; pc = m .pc; ptrs = m .ptrs; ints = m .ints; timers = m .timers; ports = m .ports; pins = m .pins; mode = m .mode }
+
+abbrev pub coreWithPc : Core → ℕ → Core
+coreWithPc m pc = record { regs = m .regs; pc = pc; ptrs = m .ptrs; ints = m .ints; timers = m .timers; ports = m .ports; pins = m .pins; mode = m .mode }
+
+abbrev pub coreWithPtrs : Core → Pointers → Core
+coreWithPtrs m p = record { regs = m .regs; pc = m .pc; ptrs = p; ints = m .ints; timers = m .timers; ports = m .ports; pins = m .pins; mode = m .mode }
+
+abbrev pub coreWithInts : Core → Interrupts → Core
+coreWithInts m i = record { regs = m .regs; pc = m .pc; ptrs = m .ptrs; ints = i; timers = m .timers; ports = m .ports; pins = m .pins; mode = m .mode }
+
+abbrev pub coreWithTimers : Core → Timers → Core
+coreWithTimers m t = record { regs = m .regs; pc = m .pc; ptrs = m .ptrs; ints = m .ints; timers = t; ports = m .ports; pins = m .pins; mode = m .mode }
+
+abbrev pub coreWithPorts : Core → Ports → Core
+coreWithPorts m p = record { regs = m .regs; pc = m .pc; ptrs = m .ptrs; ints = m .ints; timers = m .timers; ports = p; pins = m .pins; mode = m .mode }
+
+abbrev pub coreWithPins : Core → Pins → Core
+coreWithPins m p = record { regs = m .regs; pc = m .pc; ptrs = m .ptrs; ints = m .ints; timers = m .timers; ports = m .ports; pins = p; mode = m .mode }
+
+abbrev pub coreWithMode : Core → Mode → Core
+coreWithMode m o = record { regs = m .regs; pc = m .pc; ptrs = m .ptrs; ints = m .ints; timers = m .timers; ports = m .ports; pins = m .pins; mode = o }
+
+-- EI, the latches and the mask: every place that changes one of them makes all three by this
+abbrev pub interruptsOf : Bool → ℕ → ℕ → Interrupts
+interruptsOf ei il mask = record { ei = ei; il = il; mask = mask }
