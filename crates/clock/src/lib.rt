@@ -58,7 +58,8 @@ fn tbi_sets(p25: u8, base: u32) -> bool
     both(0 < k, is_multiple(k, base))
 }
 
-fn latched(happens: bool, w: u8, il: u8) -> u8
+// A latch, by its weight, that is set where something happens.
+pub fn latched(happens: bool, w: u8, il: u8) -> u8
     requires { ⌜ (0 < w) × (il + w < 256) ⌝ }
     ensures { λ r. ⌜ r ≡ latched happens w il ⌝ }
 {

@@ -16,7 +16,7 @@ use Rattle.row.specs.Rows.{Done}
 use Rattle.machine.specs.With.{assembled}
 use Rattle.step.specs.Step.{stepOf}
 use Rattle.row.specs.Turns.{Gives}
-use Rattle.step.specs.declared.Advanced.{Advanced}
+use Rattle.row.specs.declared.Turn.{Turn}
 use Rattle.step.proofs.StepValid.{step-valid}
 use Rattle.text_runner.specs.Lines.{stepLine, refusedLine}
 use Rattle.listing.specs.Listing.{Answer, options, answerOf}
@@ -28,7 +28,7 @@ module _ (rom : ℕ → ℕ) (m : Core) (ram line : List ℕ) (valid : Valid (as
   unfolding answerOf
   bad-line e w h = rw e (record { wrote = w; short = omega arith; machine = refl; ended = refl; valid = valid })
 
-  pub step-told : {pins : Pins} {k : List ℕ} {x : Advanced} → frameOf line ≡ Seen pins → PinsInRange pins → ((at : ℕ) → rom at < 256) → Gives (stepOf rom options (assembled m ram) pins) k x → Wrote before after from end (stepLine (x .core) (x .cycles) (x .stop)) → end ≤ from + 26 → Tells (answerOf rom (assembled m ram) line) before after from k (record { core = x .core; ended = not (eqb (x .stop) 0); at = end })
+  pub step-told : {pins : Pins} {k : List ℕ} {x : Turn} → frameOf line ≡ Seen pins → PinsInRange pins → ((at : ℕ) → rom at < 256) → Gives (stepOf rom options (assembled m ram) pins) k x → Wrote before after from end (stepLine (x .core) (x .cycles) (x .stop)) → end ≤ from + 26 → Tells (answerOf rom (assembled m ram) line) before after from k (record { core = x .core; ended = not (eqb (x .stop) 0); at = end })
   unfolding answerOf
   step-told {pins = pins} e p bytes g w h =
       rw e

@@ -18,7 +18,7 @@ use Rattle.row.specs.Rows.{Done}
 use Rattle.machine.specs.With.{assembled}
 use Rattle.row.specs.Turns.{Gives}
 use Rattle.step.specs.Step.{stepOf}
-use Rattle.step.specs.declared.Advanced.{Advanced}
+use Rattle.row.specs.declared.Turn.{Turn}
 use Rattle.step.specs.declared.Options.{Options}
 use Rattle.step.proofs.StepValid.{step-valid, stop-undoes}
 use Rattle.run.specs.Run.{runOver, runOf}
@@ -59,7 +59,7 @@ module _ (rom : ℕ → ℕ) (o : Options) (frames : List ℕ) where
     pub ended : length frames ≤ at → record { number = 0; steps = steps; cycles = cycles; machine = assembled core ram } ≡ whole
     ended h = sym (g .same ∙ ap (λ (ps : List Pins). runOver rom o ps steps cycles (assembled core ram)) (frames-end frames at h))
 
-    module _ (k : List ℕ) (pins : Pins) (x : Advanced) (p : pins ≡ pinsOf (charsAt frames at)) (h : at < length frames) (a : Gives (stepOf rom o (assembled core ram) pins) k x) where
+    module _ (k : List ℕ) (pins : Pins) (x : Turn) (p : pins ≡ pinsOf (charsAt frames at)) (h : at < length frames) (a : Gives (stepOf rom o (assembled core ram) pins) k x) where
       stepped : record { stop = x .stop; cycles = x .cycles; machine = assembled (x .core) k } ≡ stepOf rom o (assembled core ram) (pinsOf (charsAt frames at))
       stepped = a .same ∙ ap (stepOf rom o (assembled core ram)) p
 

@@ -21,7 +21,7 @@ use Rattle.step.specs.Step.{stepOf}
 use Rattle.step.specs.Answers.{stepRefused, stepped, StepOf}
 use Rattle.row.specs.Turns.{Gives}
 use Rattle.step.specs.declared.Options.{Options}
-use Rattle.step.specs.declared.Advanced.{Advanced}
+use Rattle.row.specs.declared.Turn.{Turn}
 use Rattle.step.specs.declared.Stepped.{Stepped}
 
 -- a test that is denied, and one that is not
@@ -66,7 +66,7 @@ module _ (image : List ℕ) (o : Options) (m : Machine) (frame : List ℕ) (r : 
   pub step-refused-3 : length image ≡ 8192 → Valid m → frameOf frame ≡ Frame.NoFrame → r ≡ stepRefused 3 m → StepOf image o m frame r
   step-refused-3 s v n e = record { refused-1 = λ q. absurd (q s); refused-2 = λ _ q. absurd (q v); refused-3 = λ _ _ _. e; steps = λ _ _ p q. absurd (not-both q n) }
 
-pub step-made : (image : List ℕ) (o : Options) (m : Machine) (frame : List ℕ) (pins : Pins) (k : List ℕ) (x : Advanced) → length image ≡ 8192 → Valid m → frameOf frame ≡ Frame.Seen pins → Gives (stepOf (romOf image) o m pins) k x → StepOf image o m frame (record { number = x .stop; cycles = x .cycles; machine = assembled (x .core) k })
+pub step-made : (image : List ℕ) (o : Options) (m : Machine) (frame : List ℕ) (pins : Pins) (k : List ℕ) (x : Turn) → length image ≡ 8192 → Valid m → frameOf frame ≡ Frame.Seen pins → Gives (stepOf (romOf image) o m pins) k x → StepOf image o m frame (record { number = x .stop; cycles = x .cycles; machine = assembled (x .core) k })
 step-made image o m frame pins k x s v f g =
     record {
       refused-1 = λ q. absurd (q s);

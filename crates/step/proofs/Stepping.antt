@@ -13,24 +13,24 @@ use Rattle.machine.specs.With.{assembled}
 use Rattle.row.specs.declared.Turn.{Turn}
 use Rattle.step_look.specs.Look.{seen, isRunning, waited, looked}
 use Rattle.step_look.specs.declared.Looked.{Looked}
-use Rattle.step_look.proofs.LookValid.{seen-valid, running-is, waited-rests}
+use Rattle.step_look.proofs.LookValid.{seen-valid, running-is}
 use Rattle.step_act.specs.Act.{actOf}
-use Rattle.step_act.specs.Runs as act
+use Rattle.step_act.specs.Runs.{Runs}
 use Rattle.step_act.proofs.Stops.{act-keeps-ram}
 use Rattle.step.specs.Step.{stepOf}
-use Rattle.row.specs.Turns.{Gives}
+use Rattle.row.specs.Turns.{stoppedTurn, Gives}
 use Rattle.step.specs.declared.Options.{Options}
 
 -- what a running record sees, with which it goes on to act
 abbrev pub sight : Core → Looked
-sight core = record { core = core; acts = true; cycles = 0 }
+sight core = record { core = core; cycles = 0 }
 
 pub sees : (enabled : ℕ) (m : Core) (pins : Pins) (core : Core) → core ≡ seen m pins → isRunning (m .mode) ≡ true → sight core ≡ looked enabled m pins
 unfolding looked
 sees enabled m pins core s r = rw (s, r)
 
 -- what it sees is valid and running
-pub seen-runs : (m : Core) (pins : Pins) (core : Core) → core ≡ seen m pins → isRunning (m .mode) ≡ true → ValidCore m → PinsInRange pins → act.Runs core
+pub seen-runs : (m : Core) (pins : Pins) (core : Core) → core ≡ seen m pins → isRunning (m .mode) ≡ true → ValidCore m → PinsInRange pins → Runs core
 seen-runs m pins core s r v p = record { valid = rw s (seen-valid m pins v p); running = rw s (running-is (m .mode) r) }
 
 -- one that does not run only looks
@@ -38,18 +38,15 @@ pub waits : (enabled : ℕ) (m : Core) (pins : Pins) (v : Looked) → v ≡ wait
 unfolding looked
 waits enabled m pins v s r = rw (s, r)
 
-pub rests : (enabled : ℕ) (m : Core) (pins : Pins) (v : Looked) → v ≡ waited enabled m pins → v .acts ≡ false
-rests enabled m pins v s = rw s (waited-rests enabled m pins)
-
 module _ (rom : ℕ → ℕ) (o : Options) (m : Core) (l : List ℕ) (pins : Pins) (v : Looked) (e : v ≡ looked (o .wake) m pins) where
-  pub only-looked : v .acts ≡ false → Gives (stepOf rom o (assembled m l) pins) l (record { stop = 0; cycles = v .cycles; core = v .core })
+  pub only-looked : isRunning (m .mode) ≡ false → Gives (stepOf rom o (assembled m l) pins) l (record { stop = 0; cycles = v .cycles; core = v .core })
   unfolding stepOf
   only-looked t = record { same = rw (← e, t) }
 
-  module _ (k : List ℕ) (x : Turn) (t : v .acts ≡ true) (g : act.Gives (actOf rom (o .sound) (assembled (v .core) l)) k x) where
-    pub acted : x .stop ≡ 0 → Gives (stepOf rom o (assembled m l) pins) k (record { stop = 0; cycles = x .cycles; core = x .core })
+  module _ (k : List ℕ) (x : Turn) (t : isRunning (m .mode) ≡ true) (g : Gives (actOf rom (o .sound) (assembled (v .core) l)) k x) where
+    pub acted : x .stop ≡ 0 → Gives (stepOf rom o (assembled m l) pins) k x
     unfolding stepOf
-    acted z = record { same = rw (← e, t, ← g .same, eq-eqb (x .stop) 0 z, z) }
+    acted z = record { same = rw (← e, t, ← g .same, eq-eqb (x .stop) 0 z) }
 
     kept : (x .stop ≡ 0 → ⊥) → k ≡ l
     kept z =
@@ -57,6 +54,6 @@ module _ (rom : ℕ → ℕ) (o : Options) (m : Core) (l : List ℕ) (pins : Pin
         let s = ap (λ (d : Done). d .stop) (g .same) in
         r ∙ act-keeps-ram rom (o .sound) (assembled (v .core) l) (λ q. z (s ∙ q))
 
-    pub stopped : (x .stop ≡ 0 → ⊥) → Gives (stepOf rom o (assembled m l) pins) k (record { stop = x .stop; cycles = 0; core = m })
+    pub stops : (x .stop ≡ 0 → ⊥) → Gives (stepOf rom o (assembled m l) pins) k (stoppedTurn m (x .stop))
     unfolding stepOf
-    stopped z = record { same = rw (← e, t, ← g .same, ne-eqb (x .stop) 0 z, kept z) }
+    stops z = record { same = rw (← e, t, ← g .same, ne-eqb (x .stop) 0 z, kept z) }

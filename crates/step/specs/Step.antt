@@ -5,7 +5,7 @@ use Rattle.laws.specs.Choice.{pick}
 use Rattle.frame.specs.declared.Pins.{Pins}
 use Rattle.machine.specs.declared.Machine.{Machine}
 use Rattle.row.specs.Rows.{Done, spent, stops}
-use Rattle.step_look.specs.Look.{looked}
+use Rattle.step_look.specs.Look.{isRunning, looked}
 use Rattle.step_look.specs.declared.Looked.{Looked}
 use Rattle.step_act.specs.Act.{actOf}
 use Rattle.step.specs.declared.Options.{Options}
@@ -18,7 +18,7 @@ undone m x = pick (eqb (x .stop) 0) x (stops (x .stop) m)
 abbrev pub goneOn : (ℕ → ℕ) → Options → Machine → Looked → Done
 goneOn rom o m l =
     let seen : Machine = record { core = l .core; ram = m .ram } in
-    pick (l .acts) (undone m (actOf rom (o .sound) seen)) (spent (l .cycles) seen)
+    pick (isRunning (m .core .mode)) (undone m (actOf rom (o .sound) seen)) (spent (l .cycles) seen)
 
 unfoldable pub stepOf : (ℕ → ℕ) → Options → Machine → Pins → Done
 stepOf rom o m pins = goneOn rom o m (looked (o .wake) (m .core) pins)

@@ -6,6 +6,8 @@ use machine::Core;
 use machine::Machine;
 use machine::Ram;
 use machine_valid::is_valid;
+use row::Turn;
+use row::stopped;
 use numbers::IMAGE_BYTES;
 use numbers::IMAGE_IS_NOT_8192_BYTES;
 use numbers::NO_FRAME;
@@ -30,13 +32,6 @@ pub struct Options {
     pub sound: bool,
 }
 
-// What a step leaves of the scalars.
-pub struct Advanced {
-    pub stop: u8,
-    pub cycles: u16,
-    pub core: Core,
-}
-
 // Document 01's number, a refusal's or a stop's or 0; the cycles and the record.
 pub struct Stepped {
     pub number: u8,
@@ -45,7 +40,7 @@ pub struct Stepped {
 }
 
 // A step on the RAM that is lent.
-pub fn advance(image: &[u8], options: Options, m: Core, ram: &mut Ram, pins: Pins) -> Advanced
+pub fn advance(image: &[u8], options: Options, m: Core, ram: &mut Ram, pins: Pins) -> Turn
     requires { ⌜ (ValidCore m) × (Nibbles (now ram)) × (length (now image) ≡ imageBytes) × (PinsInRange pins) ⌝ }
     ensures { λ x. ⌜ Gives (stepOf (romOf (now (image .entry))) options (record { core = m; ram = now (ram .entry) }) pins) (now (ram .exit)) x ⌝ }
 {
@@ -54,22 +49,13 @@ pub fn advance(image: &[u8], options: Options, m: Core, ram: &mut Ram, pins: Pin
         let core = seen(m, pins);
         let x = act(image, options.sound, core, ram);
         if x.stop != 0 {
-            return Advanced {
-                stop: x.stop,
-                cycles: 0,
-                core: m,
-            };
+            return stopped(m, x.stop);
         }
-        let after = x.core;
-        return Advanced {
-            stop: 0,
-            cycles: x.cycles as u16,
-            core: after,
-        };
+        return x;
     }
     let asleep = waited(options.wake, m, pins);
     let core = asleep.core;
-    Advanced {
+    Turn {
         stop: 0,
         cycles: asleep.cycles,
         core: core,

@@ -2,27 +2,28 @@
 use mathlib.Core.Path.{_≡_, refl}
 use mathlib.Core.Bool.{Bool}
 use Prim.Native.Nat.{ℕ, _<_}
-use lib.Dec.{leb, leb→le, ltb, ltb→lt}
-use Rattle.laws.specs.Choice.{both}
-use Rattle.laws.proofs.Computed.{both-left, both-right}
+use lib.Dec.{ltb, ltb→lt}
+use Rattle.laws.proofs.Computed.{T→true}
 use Rattle.laws.proofs.Choices.{picked-by}
 use Rattle.numbers.specs.ComesBack.{stack-level}
 use Rattle.sheet.specs.Reading.{readAt}
 use Rattle.sheet.specs.declared.Read.{Read}
 use Rattle.reader.proofs.Rows.{read-in-fields}
-use Rattle.clock.specs.Clock.{passed, InRange}
+use Rattle.clock.specs.Clock.{InRange}
 use Rattle.clock.proofs.Ranges.{passed-in-range}
 use Rattle.ports.specs.declared.Mode.{Mode}
 use Rattle.ports.specs.declared.Mode.the-variants.{Running}
-use Rattle.machine.specs.Stack.{accepted}
+use Rattle.machine.specs.Stack.{canPush, accepted}
 use Rattle.machine.specs.Valid.{ValidCore, Valid}
 use Rattle.machine.specs.declared.Core.{Core}
 use Rattle.machine.specs.declared.Machine.{Machine}
+use Rattle.machine.proofs.Range.{can-push}
 use Rattle.machine.proofs.StackValid.{accepted-valid}
 use Rattle.row.specs.Rows.{Done, spent, stops}
 use Rattle.row.proofs.RowsValid.{executed-valid}
 use Rattle.step_look.specs.Look.{timeOf}
-use Rattle.step_look.proofs.Ranges.{clear, is-clear}
+use Rattle.step_look.proofs.LookValid.{with-time-valid}
+use Rattle.step_look.proofs.Ranges.{clear}
 use Rattle.step_act.specs.Act.{sourceOf, acceptOf, runRead, runOne, acceptOrRun, ratesOf, timed, coreIn, coreAfter, actOf}
 
 pub time-in-range : (m : Core) → ValidCore m → InRange (timeOf m)
@@ -37,18 +38,7 @@ time-in-range m v =
     }
 
 timed-valid : (n : ℕ) (m : Core) → ValidCore m → ValidCore (timed n m)
-timed-valid n m v =
-    let t = passed-in-range n (ratesOf m) (timeOf m) (time-in-range m v) in
-    record {
-      regs = v .regs;
-      pc = v .pc;
-      ptrs = v .ptrs;
-      ints = record { il = t .il; il4 = is-clear (passed n (ratesOf m) (timeOf m) .il) (t .il4); mask = v .ints .mask };
-      timers = record { base = t .base; eights = t .eights; ta = t .ta; tb = t .tb };
-      ports = v .ports;
-      pins = v .pins;
-      mode = v .mode;
-    }
+timed-valid n m v = with-time-valid m _ v (passed-in-range n (ratesOf m) (timeOf m) (time-in-range m v))
 
 in-mode-valid : (mode : Mode) (n : ℕ) (m : Core) → ValidCore m → ValidCore (coreIn mode n m)
 in-mode-valid Mode.Running n m v = timed-valid n m v
@@ -59,16 +49,12 @@ pub after-valid : (n : ℕ) (m : Core) → ValidCore m → ValidCore (coreAfter 
 unfolding coreAfter
 after-valid n m v = in-mode-valid (m .mode) n m v
 
--- one of two records that are valid
-
 module _ (rom : ℕ → ℕ) (sound : Bool) (m : Machine) (valid : Valid m) (running : m .core .mode ≡ Running) (bytes : (at : ℕ) → rom at < 256) where
   accept-valid : (source : ℕ) → source < 6 → Valid (acceptOf m source .machine)
   unfolding acceptOf
   accept-valid source h =
-      let sp = m .core .ptrs .sp in
-      picked-by (λ (d : Done). Valid (d .machine)) (both (leb 1 sp) (leb sp 13)) (spent 2 (accepted m source)) (stops stack-level m)
-      (λ q. accepted-valid m source valid (record { above = leb→le 1 sp (both-left (leb 1 sp) (leb sp 13) q); below = leb→le sp 13 (both-right (leb 1 sp) (leb sp 13) q) }) h)
-      valid
+      picked-by (λ (d : Done). Valid (d .machine)) (canPush (m .core)) (spent 2 (accepted m source)) (stops stack-level m)
+      (λ q. accepted-valid m source valid (can-push (T→true (canPush (m .core)) q)) h) valid
 
   read-valid : (r : Read) → readAt rom (m .core .pc) ≡ r → Valid (runRead rom sound m r .machine)
   read-valid (Read.Row i) e =

@@ -1,49 +1,35 @@
 -- From what the parts give to what the definitions of a turn say.
-use mathlib.Core.Path.{_≡_, sym, ap, subst}
+use mathlib.Core.Path.{_≡_, sym, ap, subst, _∙_}
 use mathlib.Core.Bool.{Bool, true, false}
 use mathlib.Core.List.{List}
 use Prim.Native.Nat.{ℕ, _<_, _≤_}
-use native.Mathlib.Omega.{arith}
-use lib.Dec.{leb}
-use borrow.Author.Tests.{le-leb, lt-leb, lt-ltb, le-ltb}
-use Rattle.laws.specs.Choice.{both}
+use borrow.Author.Tests.{lt-ltb, le-ltb}
+use Rattle.numbers.specs.ComesBack.{stack-level, unassigned-code}
 use Rattle.sheet.specs.Reading.{readAt}
 use Rattle.sheet.specs.declared.Insn.{Insn}
 use Rattle.sheet.specs.declared.Read.{Read}
 use Rattle.ports.specs.declared.Mode.{Mode}
-use Rattle.machine.specs.Stack.{accepted}
+use Rattle.machine.specs.Stack.{canPush, accepted}
 use Rattle.machine.specs.Valid.{Valid}
 use Rattle.machine.specs.declared.Core.{Core}
 use Rattle.machine.specs.declared.Machine.{Machine}
-use Rattle.row.specs.Rows.{Done}
+use Rattle.row.specs.Rows.{Done, spent}
 use Rattle.machine.specs.With.{assembled}
 use Rattle.row.specs.declared.Turn.{Turn}
 use Rattle.row_dispatch.specs.Performs.{Performs}
 use Rattle.step_act.specs.Act.{sourceOf, acceptOf, runOne, acceptOrRun, coreIn, coreAfter, actOf}
-use Rattle.row.specs.Turns.{Gives}
-
-abbrev pub stopped : Core → ℕ → Turn
-stopped m number = record { stop = number; cycles = 0; core = m }
+use Rattle.row.specs.Turns.{stoppedTurn, Gives}
 
 module _ (m : Core) (l : List ℕ) (source : ℕ) where
-  stop-where : both (leb 1 (m .ptrs .sp)) (leb (m .ptrs .sp) 13) ≡ false → Gives (acceptOf (assembled m l) source) l (stopped m 32)
+  pub refuses : canPush m ≡ false → Gives (acceptOf (assembled m l) source) l (stoppedTurn m stack-level)
   unfolding acceptOf
-  stop-where h = record { same = rw h }
+  refuses h = record { same = rw h }
 
-  pub stop-low : m .ptrs .sp < 1 → Gives (acceptOf (assembled m l) source) l (stopped m 32)
-  stop-low h = stop-where (rw (lt-leb 1 (m .ptrs .sp) h))
-
-  pub stop-high : 13 < m .ptrs .sp → Gives (acceptOf (assembled m l) source) l (stopped m 32)
-  stop-high h = stop-where (rw (le-leb 1 (m .ptrs .sp) (omega arith), lt-leb (m .ptrs .sp) 13 h))
-
-  accept-where : both (leb 1 (m .ptrs .sp)) (leb (m .ptrs .sp) 13) ≡ true → (n : Machine) → n ≡ accepted (assembled m l) source → Gives (acceptOf (assembled m l) source) (n .ram) (record { stop = 0; cycles = 2; core = n .core })
+  pub accepts : (k : List ℕ) (x : Turn) → canPush m ≡ true → Gives (spent 2 (accepted (assembled m l) source)) k x → Gives (acceptOf (assembled m l) source) k x
   unfolding acceptOf
-  accept-where h n e = record { same = rw (h, e) }
+  accepts k x h g = record { same = g .same ∙ rw h }
 
-  pub accepts : 1 ≤ m .ptrs .sp → m .ptrs .sp ≤ 13 → (n : Machine) → n ≡ accepted (assembled m l) source → Gives (acceptOf (assembled m l) source) (n .ram) (record { stop = 0; cycles = 2; core = n .core })
-  accepts h k n e = accept-where (rw (le-leb 1 (m .ptrs .sp) h) (le-leb (m .ptrs .sp) 13 k)) n e
-
-pub none-read : (rom : ℕ → ℕ) (sound : Bool) (m : Core) (l : List ℕ) → readAt rom (m .pc) ≡ Read.Unassigned → Gives (runOne rom sound (assembled m l)) l (stopped m 30)
+pub none-read : (rom : ℕ → ℕ) (sound : Bool) (m : Core) (l : List ℕ) → readAt rom (m .pc) ≡ Read.Unassigned → Gives (runOne rom sound (assembled m l)) l (stoppedTurn m unassigned-code)
 unfolding runOne
 none-read rom sound m l e = record { same = rw e }
 

@@ -1,14 +1,14 @@
 -- A turn that stops leaves the record as it was; what acts leaves RAM.
 use mathlib.Core.Path.{_≡_, refl, ap}
-use mathlib.Core.Bool.{Bool, true, false}
+use mathlib.Core.Bool.{Bool}
 use Prim.Native.Nat.{ℕ}
-use lib.Dec.{leb, ltb}
-use Rattle.laws.specs.Choice.{pick, both}
+use lib.Dec.{ltb}
+use Rattle.laws.proofs.Choices.{picked}
 use Rattle.numbers.specs.ComesBack.{stack-level}
 use Rattle.sheet.specs.Reading.{readAt}
 use Rattle.sheet.specs.Table.{lineAt}
 use Rattle.sheet.specs.declared.Read.{Read}
-use Rattle.machine.specs.Stack.{accepted}
+use Rattle.machine.specs.Stack.{canPush, accepted}
 use Rattle.machine.specs.declared.Machine.{Machine}
 use Rattle.row.specs.Rows.{Done, spent, stops}
 use Rattle.row.proofs.Frame.{stop-undone}
@@ -18,15 +18,11 @@ use Rattle.step_act.specs.Act.{sourceOf, acceptOf, runRead, runOne, acce
 abbrev Keeps : Machine → Done → Type 0
 Keeps m x = (x .stop ≡ 0 → ⊥) → x .machine ≡ m
 
-either-keeps : (m : Machine) (t : Bool) (x y : Done) → Keeps m x → Keeps m y → Keeps m (pick t x y)
-either-keeps m true x y h k = h
-either-keeps m false x y h k = k
-
 module _ (rom : ℕ → ℕ) (sound : Bool) (m : Machine) where
   accept-keeps : (source : ℕ) → Keeps m (acceptOf m source)
   unfolding acceptOf
   accept-keeps source =
-      either-keeps m (both (leb 1 (m .core .ptrs .sp)) (leb (m .core .ptrs .sp) 13)) (spent 2 (accepted m source)) (stops stack-level m)
+      picked (Keeps m) (canPush (m .core)) (spent 2 (accepted m source)) (stops stack-level m)
       (λ z. absurd (z refl)) (λ z. refl)
 
   read-keeps : (r : Read) → Keeps m (runRead rom sound m r)
@@ -37,7 +33,7 @@ module _ (rom : ℕ → ℕ) (sound : Bool) (m : Machine) where
   pub turn-keeps : Keeps m (acceptOrRun rom sound m)
   unfolding acceptOrRun runOne
   turn-keeps =
-      either-keeps m (ltb (sourceOf (m .core)) 6) (acceptOf m (sourceOf (m .core))) (runOne rom sound m)
+      picked (Keeps m) (ltb (sourceOf (m .core)) 6) (acceptOf m (sourceOf (m .core))) (runOne rom sound m)
       (accept-keeps (sourceOf (m .core))) (read-keeps (readAt rom (m .core .pc)))
 
   pub act-keeps-ram : (actOf rom sound m .stop ≡ 0 → ⊥) → actOf rom sound m .machine .ram ≡ m .ram

@@ -9,6 +9,7 @@ use Rattle.frame.specs.declared.Pins.{Pins}
 use Rattle.clock.specs.Clock.{latched, eventCount}
 use Rattle.clock.specs.declared.Time.{Time}
 use Rattle.ports.specs.declared.Mode.{Mode}
+use Rattle.machine.specs.With.{coreWithInts, coreWithTimers, coreWithPins, coreWithMode, interruptsOf}
 use Rattle.machine.specs.declared.Core.{Core}
 use Rattle.step_look.specs.declared.Looked.{Looked}
 
@@ -17,11 +18,12 @@ abbrev pub timeOf : Core → Time
 timeOf m = record { base = m .timers .base; ta = m .timers .ta; tb = m .timers .tb; il = m .ints .il }
 
 abbrev pub withTime : Core → Time → Core
-withTime m t = record { regs = m .regs; pc = m .pc; ptrs = m .ptrs; ints = record { ei = m .ints .ei; il = t .il; mask = m .ints .mask }; timers = record { base = t .base; ta = t .ta; tb = t .tb }; ports = m .ports; pins = m .pins; mode = m .mode }
+withTime m t =
+    coreWithTimers (coreWithInts m (interruptsOf (m .ints .ei) (t .il) (m .ints .mask))) (record { base = t .base; ta = t .ta; tb = t .tb })
 
 -- "The last frame is always updated."
 abbrev pub showing : Core → Mode → Pins → Core
-showing m mode pins = record { regs = m .regs; pc = m .pc; ptrs = m .ptrs; ints = m .ints; timers = m .timers; ports = m .ports; pins = pins; mode = mode }
+showing m mode pins = coreWithMode (coreWithPins m pins) mode
 
 -- "A falling edge on P8.2 sets IL5, on P8.0 sets IL0."
 abbrev pub edgesLatched : Pins → Pins → ℕ → ℕ
@@ -48,15 +50,15 @@ wakingCycles Mode.Hold p16 = 0
 unfoldable pub waited : ℕ → Core → Pins → Looked
 waited enabled m new =
     pick (wakes enabled (m .pins) new)
-    (record { core = showing m Mode.Running new; acts = false; cycles = wakingCycles (m .mode) (m .ports .p16) })
-    (record { core = showing m (m .mode) new; acts = false; cycles = 0 })
+    (record { core = showing m Mode.Running new; cycles = wakingCycles (m .mode) (m .ports .p16) })
+    (record { core = showing m (m .mode) new; cycles = 0 })
 
 abbrev pub isRunning : Mode → Bool
 isRunning Mode.Running = true
 isRunning Mode.Sleep = false
 isRunning Mode.Hold = false
 
--- a running record sees the frame and then acts
+-- a running record sees the frame
 unfoldable pub looked : ℕ → Core → Pins → Looked
 looked enabled m new =
-    pick (isRunning (m .mode)) (record { core = seen m new; acts = true; cycles = 0 }) (waited enabled m new)
+    pick (isRunning (m .mode)) (record { core = seen m new; cycles = 0 }) (waited enabled m new)

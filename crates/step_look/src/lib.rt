@@ -1,39 +1,28 @@
 // What a step sees of its frame, before it acts.
 use clock::Time;
 use clock::events;
+use clock::latched;
 use edges::fell;
 use edges::rose;
 use edges::wakes;
 use frame::Pins;
 use machine::Core;
+use machine::interrupts_of;
 use ports::Mode;
 ghost use mathlib.Core.Path.{_≡_};
-ghost use Prim.Native.Nat.{_+_, _<_};
-ghost use Rattle.clock.specs.Clock.{latched};
+ghost use Prim.Native.Nat.{_<_};
 ghost use Rattle.ports.specs.declared.Mode.{Mode};
 ghost use Rattle.machine.specs.Valid.{ValidInterrupts, ValidTimers};
 ghost use Rattle.step_look.specs.Look.{edgesCounted, isRunning, edgesLatched, edgesTimed, showing, seen, wakingCycles, waited};
 
-// The scalars then, whether the step goes on to act, and the cycles of one that does not.
+// The scalars then, and the cycles of a step that only looks.
 pub struct Looked {
     pub core: Core,
-    pub acts: bool,
     pub cycles: u16,
 }
 
 // "for sleep 32,768, 2,048 or 8,192 (bits 1..0 = 0, 1, 2)": by bits 1..0 of P16, of which sleep never has 3.
 const WAKING: [u16; 4] = [32768, 2048, 8192, 0];
-
-// A latch, by its weight, that is set where something happens.
-fn latched(happens: bool, w: u8, il: u8) -> u8
-    requires { ⌜ (0 < w) × (il + w < 256) ⌝ }
-    ensures { λ r. ⌜ r ≡ latched happens w il ⌝ }
-{
-    if happens {
-        return bits::with_bit(il, w);
-    }
-    il
-}
 
 // "A falling edge on P8.2 sets IL5, on P8.0 sets IL0."
 fn edges_latched(last: Pins, new: Pins, il: u8) -> u8
@@ -84,12 +73,13 @@ pub fn seen(m: Core, new: Pins) -> Core
         return still;
     }
     let t = counted(m, new);
+    let ints = interrupts_of(m.ints.ei, t.il, m.ints.mask);
     let mut after = m;
     after.pins = new;
     after.timers.base = t.base;
     after.timers.ta = t.ta;
     after.timers.tb = t.tb;
-    after.ints.il = t.il;
+    after.ints = ints;
     after
 }
 
@@ -136,7 +126,6 @@ pub fn waited(enabled: u8, m: Core, new: Pins) -> Looked
     if wakes(enabled, m.pins, new) {
         return Looked {
             core: awake(m, new),
-            acts: false,
             cycles: waking_cycles(mode, m.ports.p16),
         };
     }
@@ -144,7 +133,6 @@ pub fn waited(enabled: u8, m: Core, new: Pins) -> Looked
     after.pins = new;
     Looked {
         core: after,
-        acts: false,
         cycles: 0,
     }
 }
