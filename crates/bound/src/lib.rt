@@ -3,6 +3,11 @@ use bound_explore::explore;
 use graph::PLACES;
 use graph_longest::Found;
 use graph_longest::longest;
+use numbers::PATH_BUFFER_TOO_SHORT;
+use numbers::REPETITION_REACHABLE;
+use numbers::EXCLUDED_INSTRUCTION_REACHABLE;
+use numbers::ADDRESS_OVER_8191;
+use numbers::IMAGE_IS_NOT_8192_BYTES;
 use numbers::IMAGE_BYTES;
 use numbers::LAST_ADDRESS;
 ghost use mathlib.Core.Path.{_≡_};
@@ -16,6 +21,7 @@ ghost use Rattle.bound_flow.specs.Flow.{flowGraph, flowCost};
 ghost use Rattle.bound_explore.specs.Explored.{Empty};
 ghost use Rattle.graph_longest.specs.Means.{Means};
 ghost use Rattle.bound.specs.Answer.{boundedOf, paperOf, BoundAnswer};
+ghost use Rattle.bound.specs.Numbers.{OfBound};
 
 // What the call answers; specs/Answer.antt gives document 01's number and value for each.
 pub enum Bounded {
@@ -87,4 +93,41 @@ pub fn bound(image: &[u8], address: u32, path: &mut [u8]) -> Bounded
         &mut queue,
     );
     answer(found)
+}
+
+// Document 01's number of an answer, and the value that comes with it.
+pub struct BoundNumbers {
+    pub number: u8,
+    pub value: usize,
+}
+
+pub fn numbers_of(answer: Bounded) -> BoundNumbers
+    ensures { λ r. ⌜ OfBound (paperOf answer) r ⌝ }
+{
+    match answer {
+        Bounded::ImageSize => BoundNumbers {
+            number: IMAGE_IS_NOT_8192_BYTES,
+            value: 0,
+        },
+        Bounded::AddressRange => BoundNumbers {
+            number: ADDRESS_OVER_8191,
+            value: 0,
+        },
+        Bounded::Excluded(address) => BoundNumbers {
+            number: EXCLUDED_INSTRUCTION_REACHABLE,
+            value: address,
+        },
+        Bounded::Repeats(address) => BoundNumbers {
+            number: REPETITION_REACHABLE,
+            value: address,
+        },
+        Bounded::Short(bytes) => BoundNumbers {
+            number: PATH_BUFFER_TOO_SHORT,
+            value: bytes,
+        },
+        Bounded::Longest(cycles) => BoundNumbers {
+            number: 0,
+            value: cycles,
+        },
+    }
 }

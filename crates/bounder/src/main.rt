@@ -3,6 +3,8 @@
 use bound::Bounded;
 use bound::bound;
 use graph::PLACES;
+use image_file::ImageFile;
+use image_file::read_image;
 use libc::STDERR_FILENO;
 use libc::STDOUT_FILENO;
 use numbers::ADDRESSES;
@@ -67,17 +69,17 @@ fn show_answer(out: &mut [u8], from: usize, answer: Bounded)
 }
 
 fn explain(answer: Bounded) {
-    let Bounded::Repeats(_) = answer else {
-        io::write_all(
+    match answer {
+        Bounded::Excluded(_) => io::write_all(
             STDOUT_FILENO,
             b"an excluded instruction can be reached: a call, RET, an unassigned code, a row that sets EI or a row that writes P16\n",
-        );
-        return;
-    };
-    io::write_all(
-        STDOUT_FILENO,
-        b"a repetition can be reached: a path can come back to where it was\n",
-    );
+        ),
+        Bounded::Repeats(_) => io::write_all(
+            STDOUT_FILENO,
+            b"a repetition can be reached: a path can come back to where it was\n",
+        ),
+        _ => (),
+    }
 }
 
 fn bound_at(image: &[u8], at: u16)
@@ -138,20 +140,18 @@ fn bound_image(image: &[u8])
 }
 
 fn main() {
-    let mut path = io::buffer();
-    let n = os::arg(1, &mut path);
-    let file = os::open_read(&path[..n]);
-    if file < 0 {
-        io::write_all(STDOUT_FILENO, b"refused 01\n");
-        usage();
-        return;
+    let mut image = [0u8; IMAGE_BYTES + 1];
+    let opened = read_image(1, &mut image);
+    match opened {
+        ImageFile::Unreadable => {
+            io::write_all(STDOUT_FILENO, b"refused 01\n");
+            usage();
+        }
+        ImageFile::OtherSize => {
+            io::write_all(STDOUT_FILENO, b"refused 01\n");
+        }
+        ImageFile::Image => {
+            bound_image(&image[..IMAGE_BYTES]);
+        }
     }
-    let mut image = [0u8; 8193];
-    let size = io::read_full(file, &mut image);
-    libc::close(file);
-    if size != IMAGE_BYTES {
-        io::write_all(STDOUT_FILENO, b"refused 01\n");
-        return;
-    }
-    bound_image(&image[..size]);
 }

@@ -3,7 +3,7 @@ use Prim.Native.Nat.{ℕ}
 use mathlib.Core.List.{List}
 use mathlib.Core.Path.{_≡_, refl, sym, ap, subst, _∙_}
 use lib.ListN.{length}
-use Rattle.numbers.specs.ComesBack.{Paper}
+use Rattle.numbers.specs.ComesBack.{Paper, valueAt}
 use Rattle.reader.specs.Answer.{readPaper}
 use Rattle.writer.specs.Writing.{paperOf, fromPaper}
 use Rattle.writer.specs.declared.Code.{Code}
@@ -16,7 +16,7 @@ use Rattle.step.specs.declared.Options.{Options}
 use Rattle.step.specs.declared.Stepped.{Stepped}
 use Rattle.run.specs.Answers.{RunOf}
 use Rattle.run.specs.declared.Ran.{Ran}
-use Rattle.calls.specs.Calls.{StepAnswer, RunAnswer, ReadCall, valueAt}
+use Rattle.calls.specs.Calls.{StepAnswer, RunAnswer, ReadCall}
 use Rattle.calls.specs.Numbers.{OfRead, OfWrite}
 use Rattle.calls.specs.declared.ReadNumbers.{ReadNumbers}
 
@@ -45,7 +45,7 @@ codeIn c written.Refused = c
 pub spelt : (c : Code) → fromPaper (paperOf (written.Bytes c)) ≡ written.Bytes c → OfWrite (paperOf (written.Bytes c)) (record { number = 0; length = c .len; b0 = c .b0; b1 = c .b1; b2 = c .b2 })
 spelt c e = record {
   number = refl;
-  length = ap (λ (w : Written). codeIn c w .len) (sym e);
+  count = ap (λ (w : Written). codeIn c w .len) (sym e);
   b0 = ap (λ (w : Written). codeIn c w .b0) (sym e);
   b1 = ap (λ (w : Written). codeIn c w .b1) (sym e);
   b2 = ap (λ (w : Written). codeIn c w .b2) (sym e);

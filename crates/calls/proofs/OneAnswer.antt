@@ -3,7 +3,7 @@ use Prim.Native.Nat.{ℕ}
 use mathlib.Core.List.{List}
 use mathlib.Core.Path.{_≡_, sym, ap, subst, _∙_}
 use lib.ListN.{length}
-use Rattle.numbers.specs.ComesBack.{Paper}
+use Rattle.numbers.specs.ComesBack.{Paper, valueAt}
 use Rattle.sheet.specs.declared.Insn.{Insn}
 use Rattle.writer.specs.Writing.{paperOf as codePaper}
 use Rattle.writer.proofs.RoundTrip.{one-answer as one-written}
@@ -22,7 +22,7 @@ use Rattle.run.proofs.Answering.{one-answer as one-ran}
 use Rattle.display.proofs.Answers.{one-answer as one-shown}
 use Rattle.bound.specs.Answer.{paperOf as boundPaper}
 use Rattle.bound.proofs.Unique.{one-answer as one-bounded}
-use Rattle.calls.specs.Calls.{Judged, no-record, record-of, FreshCall, wrong-length, fresh, ResetCall, ValidAnswer, ValidCall, StepCall, RunCall, DisplayCall, valueAt, ReadCall, WriteCall, BoundCall}
+use Rattle.calls.specs.Calls.{Judged, no-record, record-of, FreshCall, wrong-length, fresh, ResetCall, ValidAnswer, ValidCall, StepCall, RunCall, DisplayCall, ReadCall, WriteCall, BoundCall}
 
 -- two values that are each f of something, where the somethings are equal
 via : {A B : Type 0} (f : A → B) {x y : A} {a b : B} → x ≡ y → a ≡ f x → b ≡ f y → a ≡ b

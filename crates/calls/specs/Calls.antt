@@ -8,7 +8,7 @@ use lib.ListN.{length, getD}
 use Rattle.machine_bytes.specs.Layout.{recordSize}
 use Rattle.numbers.specs.Sizes.{imageBytes}
 use Rattle.laws.specs.Choice.{pick}
-use Rattle.numbers.specs.ComesBack.{Paper, image-is-not-8192-bytes, record-outside-the-ranges}
+use Rattle.numbers.specs.ComesBack.{Paper, valueAt, image-is-not-8192-bytes, record-outside-the-ranges}
 use Rattle.sheet.specs.declared.Insn.{Insn}
 use Rattle.reader.specs.Answer.{readPaper}
 use Rattle.writer.specs.Writing.{Writes}
@@ -112,10 +112,6 @@ pub record NotShown (number : ℕ) (dots dots′ : List ℕ) : Type 0 where
 
 abbrev pub DisplayCall : List ℕ → List ℕ → ℕ → List ℕ → Type 0
 DisplayCall bytes dots number dots′ = Judged bytes (NotShown number dots dots′) (λ m. DisplayOf m dots dots′ number)
-
--- what comes back with a number: the value at a place of the paper's, and 0 where it has none
-abbrev pub valueAt : Paper → ℕ → ℕ
-valueAt p i = getD (p .values) i 0
 
 -- em73862_read
 pub record ReadCall (image : List ℕ) (address number row a b : ℕ) : Type 0 where

@@ -1,11 +1,9 @@
 -- The numbers of an answer that is an enum, as the calls hand them on.
 use mathlib.Core.Path.{_≡_}
 use lib.ListN.{length}
-use Rattle.numbers.specs.ComesBack.{Paper}
-use Rattle.calls.specs.Calls.{valueAt}
+use Rattle.numbers.specs.ComesBack.{Paper, valueAt}
 use Rattle.calls.specs.declared.ReadNumbers.{ReadNumbers}
 use Rattle.calls.specs.declared.WriteNumbers.{WriteNumbers}
-use Rattle.calls.specs.declared.BoundNumbers.{BoundNumbers}
 
 pub record OfRead (p : Paper) (n : ReadNumbers) : Type 0 where
   pub number : n .number ≡ p .number
@@ -15,11 +13,7 @@ pub record OfRead (p : Paper) (n : ReadNumbers) : Type 0 where
 
 pub record OfWrite (p : Paper) (n : WriteNumbers) : Type 0 where
   pub number : n .number ≡ p .number
-  pub length : n .length ≡ length (p .values)
+  pub count : n .count ≡ length (p .values)
   pub b0 : n .b0 ≡ valueAt p 0
   pub b1 : n .b1 ≡ valueAt p 1
   pub b2 : n .b2 ≡ valueAt p 2
-
-pub record OfBound (p : Paper) (n : BoundNumbers) : Type 0 where
-  pub number : n .number ≡ p .number
-  pub value : n .value ≡ valueAt p 0

@@ -1,6 +1,5 @@
 // The base calls on numbers and byte buffers, for C and for whatever calls C: include/em73862.h declares them. Each takes its bytes apart, calls the public function and puts numbers back.
 // Two answers of a call to the same inputs are equal, for each of the nine: proofs/OneAnswer.antt. A step and a reset whose number is not 0 leave the record's bytes as they were: proofs/Kept.antt.
-use bound::Bounded;
 use bound::bound;
 use display::display;
 use machine_bytes::pack;
@@ -9,12 +8,9 @@ use machine_start::fresh;
 use machine_start::reset;
 use machine_valid::is_valid;
 use numbers::ADDRESS_OVER_8191;
-use numbers::EXCLUDED_INSTRUCTION_REACHABLE;
 use numbers::IMAGE_BYTES;
 use numbers::IMAGE_IS_NOT_8192_BYTES;
 use numbers::NOT_TO_BE_WRITTEN;
-use numbers::PATH_BUFFER_TOO_SHORT;
-use numbers::REPETITION_REACHABLE;
 use numbers::UNASSIGNED_CODE;
 use reader::Answer;
 use reader::read;
@@ -27,9 +23,8 @@ use writer::write;
 ghost use mathlib.Core.Path.{_≡_};
 ghost use Rattle.reader.specs.Answer.{paperOf as readingPaper};
 ghost use Rattle.writer.specs.Writing.{paperOf as codePaper, fromPaper as codeFrom};
-ghost use Rattle.bound.specs.Answer.{paperOf as boundPaper};
 ghost use Rattle.calls.specs.Calls.{unheld, optionsOf, FreshCall, ResetCall, ValidCall, StepCall, RunCall, DisplayCall, ReadCall, WriteCall, BoundCall};
-ghost use Rattle.calls.specs.Numbers.{OfRead, OfWrite, OfBound};
+ghost use Rattle.calls.specs.Numbers.{OfRead, OfWrite};
 
 // What the reader, the writer and the bound answer, as numbers.
 pub struct ReadNumbers {
@@ -41,15 +36,10 @@ pub struct ReadNumbers {
 
 pub struct WriteNumbers {
     pub number: u8,
-    pub length: u8,
+    pub count: u8,
     pub b0: u8,
     pub b1: u8,
     pub b2: u8,
-}
-
-pub struct BoundNumbers {
-    pub number: u8,
-    pub value: usize,
 }
 
 // The refusal of a buffer that holds no record, where there is an image too.
@@ -218,14 +208,14 @@ fn write_numbers(code: Written) -> WriteNumbers
     match code {
         Written::Bytes(c) => WriteNumbers {
             number: 0,
-            length: c.len,
+            count: c.len,
             b0: c.b0,
             b1: c.b1,
             b2: c.b2,
         },
         Written::Refused => WriteNumbers {
             number: NOT_TO_BE_WRITTEN,
-            length: 0,
+            count: 0,
             b0: 0,
             b1: 0,
             b2: 0,
@@ -251,49 +241,18 @@ pub extern "C" fn em73862_write(
         b: b,
     };
     let n = write_numbers(write(insn));
-    *length = n.length;
+    *length = n.count;
     *b0 = n.b0;
     *b1 = n.b1;
     *b2 = n.b2;
     n.number
 }
 
-fn bound_numbers(answer: Bounded) -> BoundNumbers
-    ensures { λ r. ⌜ OfBound (boundPaper answer) r ⌝ }
-{
-    match answer {
-        Bounded::ImageSize => BoundNumbers {
-            number: IMAGE_IS_NOT_8192_BYTES,
-            value: 0,
-        },
-        Bounded::AddressRange => BoundNumbers {
-            number: ADDRESS_OVER_8191,
-            value: 0,
-        },
-        Bounded::Excluded(address) => BoundNumbers {
-            number: EXCLUDED_INSTRUCTION_REACHABLE,
-            value: address,
-        },
-        Bounded::Repeats(address) => BoundNumbers {
-            number: REPETITION_REACHABLE,
-            value: address,
-        },
-        Bounded::Short(bytes) => BoundNumbers {
-            number: PATH_BUFFER_TOO_SHORT,
-            value: bytes,
-        },
-        Bounded::Longest(cycles) => BoundNumbers {
-            number: 0,
-            value: cycles,
-        },
-    }
-}
-
 #[no_mangle]
 pub extern "C" fn em73862_bound(image: &[u8], address: u32, path: &mut [u8], value: &mut u32) -> u8
     ensures { λ r. ⌜ BoundCall (now (image .entry)) address (now (path .entry)) r (now (value .exit)) (now (path .exit)) ⌝ }
 {
-    let n = bound_numbers(bound(image, address, path));
+    let n = bound::numbers_of(bound(image, address, path));
     *value = n.value as u32;
     n.number
 }

@@ -1,5 +1,7 @@
 // lister IMAGE [ADDRESS [COUNT]]: the rows of an image, one a line, in the sheet's notation.
 // The words are judged from the left: the image, the address, the number of lines, and that there are no more.
+use image_file::ImageFile;
+use image_file::read_image;
 use libc::STDERR_FILENO;
 use libc::STDOUT_FILENO;
 use numbers::IMAGE_BYTES;
@@ -66,20 +68,18 @@ fn list_image(image: &[u8])
 }
 
 fn main() {
-    let mut path = io::buffer();
-    let n = os::arg(1, &mut path);
-    let file = os::open_read(&path[..n]);
-    if file < 0 {
-        io::write_all(STDOUT_FILENO, b"refused 01\n");
-        usage();
-        return;
+    let mut image = [0u8; IMAGE_BYTES + 1];
+    let opened = read_image(1, &mut image);
+    match opened {
+        ImageFile::Unreadable => {
+            io::write_all(STDOUT_FILENO, b"refused 01\n");
+            usage();
+        }
+        ImageFile::OtherSize => {
+            io::write_all(STDOUT_FILENO, b"refused 01\n");
+        }
+        ImageFile::Image => {
+            list_image(&image[..IMAGE_BYTES]);
+        }
     }
-    let mut image = [0u8; 8193];
-    let size = io::read_full(file, &mut image);
-    libc::close(file);
-    if size != IMAGE_BYTES {
-        io::write_all(STDOUT_FILENO, b"refused 01\n");
-        return;
-    }
-    list_image(&image[..size]);
 }

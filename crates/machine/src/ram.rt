@@ -25,10 +25,17 @@ fn place(address: u16) -> usize
     RAM_NIBBLES
 }
 
+// "bank P9.3"
+pub fn bank_of(m: Core) -> u8
+    ensures { λ r. ⌜ r ≡ bankOf m ⌝ }
+{
+    m.ports.p9 / 8 % 2
+}
+
 fn bank(m: Core) -> u16
     ensures { λ r. ⌜ r ≡ 0x100 * bankOf m ⌝ }
 {
-    0x100 * ((m.ports.p9 / 8 % 2) as u16)
+    0x100 * (bank_of(m) as u16)
 }
 
 pub fn at_hl(m: Core) -> usize

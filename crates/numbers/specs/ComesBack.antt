@@ -1,10 +1,15 @@
 -- Document 01, "What comes back": the number of an answer, and the values that come with it. Each call gives, for each case of its own answer, what that is here.
 use Prim.Native.Nat.{ℕ}
 use mathlib.Core.List.{List, [], _∷_}
+use lib.ListN.{getD}
 
 pub record Paper : Type 0 where
   pub number : ℕ
   pub values : List ℕ
+
+-- what comes back with a number: the value at a place of the paper's, and 0 where it has none
+abbrev pub valueAt : Paper → ℕ → ℕ
+valueAt p i = getD (p .values) i 0
 
 -- 0 is no row of the table: nothing is refused
 abbrev pub answered : List ℕ → Paper

@@ -1,6 +1,7 @@
 // The rows that load ACC from DP, SP, TA or TB. "Timer, DP and SP rows need P9.3 = 0, else 31."
 use bits::nibble_at;
 use machine::Core;
+use machine::ram::bank_of;
 use numbers::ABSENT_RAM_ADDRESS;
 use row_ends::Act;
 use row_ends::acc_loaded;
@@ -45,7 +46,7 @@ pub fn load_pointer(m: Core, row: u8) -> Act
     requires { ⌜ Asks loadPointer m row ⌝ }
     ensures { λ x. ⌜ Leaves m row x (m .ptrs) (m .timers) ⌝ }
 {
-    if m.ports.p9 / 8 % 2 == 0 {
+    if bank_of(m) == 0 {
         return from_pointer(m, row);
     }
     stopped(m, ABSENT_RAM_ADDRESS)
@@ -55,7 +56,7 @@ pub fn load_timer(m: Core, row: u8) -> Act
     requires { ⌜ Asks loadTimer m row ⌝ }
     ensures { λ x. ⌜ Leaves m row x (m .ptrs) (m .timers) ⌝ }
 {
-    if m.ports.p9 / 8 % 2 == 0 {
+    if bank_of(m) == 0 {
         return from_timer(m, row);
     }
     stopped(m, ABSENT_RAM_ADDRESS)

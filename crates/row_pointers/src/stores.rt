@@ -1,6 +1,7 @@
 // The rows that store ACC in DP, SP, TA or TB. "Timer, DP and SP rows need P9.3 = 0, else 31."
 use crate::Pointed;
 use machine::Core;
+use machine::ram::bank_of;
 use machine::Pointers;
 use machine::Timers;
 use numbers::ABSENT_RAM_ADDRESS;
@@ -87,7 +88,7 @@ pub fn store_pointer(m: Core, row: u8) -> Pointed
     requires { ⌜ Asks storePointer m row ⌝ }
     ensures { λ x. ⌜ Leaves m row (x .act) (x .ptrs) (x .timers) ⌝ }
 {
-    if m.ports.p9 / 8 % 2 != 0 {
+    if bank_of(m) != 0 {
         return left(m);
     }
     let ptrs = into_pointer(m, row);
@@ -103,7 +104,7 @@ pub fn store_timer(m: Core, row: u8) -> Pointed
     requires { ⌜ Asks storeTimer m row ⌝ }
     ensures { λ x. ⌜ Leaves m row (x .act) (x .ptrs) (x .timers) ⌝ }
 {
-    if m.ports.p9 / 8 % 2 != 0 {
+    if bank_of(m) != 0 {
         return left(m);
     }
     let timers = into_timer(m, row);

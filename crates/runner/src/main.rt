@@ -1,5 +1,7 @@
 // runner IMAGE: the listing of an image for the script on standard input.
 // All that it has to say is written before it reads on, so that a person at a terminal sees each answer. The script is read in parts; of a line that is not whole yet at most three characters are kept.
+use image_file::ImageFile;
+use image_file::read_image;
 use libc::STDERR_FILENO;
 use libc::STDIN_FILENO;
 use libc::STDOUT_FILENO;
@@ -188,25 +190,29 @@ fn run(image: &[u8])
     session(image, core, &mut ram, &mut part, &mut out);
 }
 
-fn main() {
-    let mut path = io::buffer();
-    let n = os::arg(1, &mut path);
-    let file = os::open_read(&path[..n]);
-    if file < 0 {
-        refuse_image();
-        usage();
-        return;
-    }
-    let mut image = [0u8; 8193];
-    let size = io::read_full(file, &mut image);
-    libc::close(file);
-    if size != IMAGE_BYTES {
-        refuse_image();
-        return;
-    }
+fn judge_words(image: &[u8])
+    requires { ⌜ length (now image) ≡ imageBytes ⌝ }
+{
     if 2 < os::arg_count() {
         usage();
         return;
     }
-    run(&image[..size]);
+    run(image);
+}
+
+fn main() {
+    let mut image = [0u8; IMAGE_BYTES + 1];
+    let opened = read_image(1, &mut image);
+    match opened {
+        ImageFile::Unreadable => {
+            refuse_image();
+            usage();
+        }
+        ImageFile::OtherSize => {
+            refuse_image();
+        }
+        ImageFile::Image => {
+            judge_words(&image[..IMAGE_BYTES]);
+        }
+    }
 }

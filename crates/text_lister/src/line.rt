@@ -1,6 +1,5 @@
 // A line of the listing, and the listing.
 use numbers::IMAGE_BYTES;
-use numbers::LAST_ADDRESS;
 use reader::read_at;
 use sheet::Insn;
 use sheet::Read;
@@ -18,6 +17,9 @@ ghost use Rattle.sheet.specs.Reading.{readAt, romOf, fetched};
 ghost use Rattle.text_digits.specs.Digits.{hex, padded};
 ghost use Rattle.text_notation.specs.Notation.{rowText};
 ghost use Rattle.text_lister.specs.Listing.{spaced, rowColumns, refusedColumns, columnsOf, lineOf, sweepNext, sweptLines};
+
+// "over 1FFF"
+const LAST: u16 = 8191;
 
 fn byte(out: &mut [u8], from: usize, b: u8) -> usize
     requires { ⌜ from + 2 ≤ length (now out) ⌝ }
@@ -137,7 +139,7 @@ pub fn listing(out: &mut [u8], image: &[u8], from: u16, count: u32) -> usize
     let mut at = from;
     let mut left = count;
     while left > 0 {
-        if LAST_ADDRESS < at {
+        if LAST < at {
             return end;
         }
         end = line(out, end, image, at);

@@ -1,6 +1,5 @@
 // The lines that compare: each says what came out, and whether it is as written.
 use bits::bit_at;
-use bound::Bounded;
 use crate::asked::place_of;
 use crate::bench::Bench;
 use fields::cursor::decimal_at;
@@ -12,12 +11,7 @@ use fields::say::say_decimal;
 use fields::say::say_number;
 use laws::both;
 use machine::Core;
-use numbers::ADDRESS_OVER_8191;
-use numbers::EXCLUDED_INSTRUCTION_REACHABLE;
 use numbers::IMAGE_BYTES;
-use numbers::IMAGE_IS_NOT_8192_BYTES;
-use numbers::PATH_BUFFER_TOO_SHORT;
-use numbers::REPETITION_REACHABLE;
 ghost use Prim.Native.Nat.{_<_, _≤_};
 ghost use lib.ListN.{length};
 
@@ -162,41 +156,6 @@ pub fn number(b: Bench, text: &[u8], from: usize) -> Bench
     judged(b, b.number as u32 == decimal_at(text, written))
 }
 
-// Document 01's number of the bound's answer, and its value.
-struct Answered {
-    number: u32,
-    value: usize,
-}
-
-fn numbered(found: Bounded) -> Answered {
-    match found {
-        Bounded::ImageSize => Answered {
-            number: IMAGE_IS_NOT_8192_BYTES,
-            value: 0,
-        },
-        Bounded::AddressRange => Answered {
-            number: ADDRESS_OVER_8191,
-            value: 0,
-        },
-        Bounded::Excluded(at) => Answered {
-            number: EXCLUDED_INSTRUCTION_REACHABLE,
-            value: at,
-        },
-        Bounded::Repeats(at) => Answered {
-            number: REPETITION_REACHABLE,
-            value: at,
-        },
-        Bounded::Short(bytes) => Answered {
-            number: PATH_BUFFER_TOO_SHORT,
-            value: bytes,
-        },
-        Bounded::Longest(n) => Answered {
-            number: 0,
-            value: n,
-        },
-    }
-}
-
 // Two bytes, low first.
 fn joined(low: u8, high: u8) -> u32 {
     low as u32 + 256 * (high as u32)
@@ -242,14 +201,14 @@ pub fn bound(image: &[u8; IMAGE_BYTES], b: Bench, text: &[u8], from: usize) -> B
         return nothing(b);
     }
     let mut path = [UNTOUCHED; 64];
-    let found = numbered(bound::bound(image, hexadecimal_at(text, at), &mut path));
+    let found = bound::numbers_of(bound::bound(image, hexadecimal_at(text, at), &mut path));
     say(b"  is ");
     say_decimal(found.number as u64);
     say(b" ");
     say_decimal(found.value as u64);
     let first = next_word(text, value_at_word);
     let same_path = path_is(&path, text, first);
-    let same_number = found.number == decimal_at(text, number_at_word);
+    let same_number = found.number as u32 == decimal_at(text, number_at_word);
     let same_value = found.value == decimal_at(text, value_at_word) as usize;
     judged(b, both(same_path, both(same_number, same_value)))
 }

@@ -52,25 +52,25 @@ nothing-read i e = row-with 0 [] i e .row refl
 pub fill : (i : Insn) (bs : List ℕ) → CodeOf i bs → Filled i bs
 fill i [] k = absurd (nothing-read i (k .reads))
 fill i (b0 ∷ []) k =
-    let n : bytesOf (i .row) ≡ 1 = sym (k .length) in
+    let n : bytesOf (i .row) ≡ 1 = sym (k .size) in
     let h0 : b0 < 256 = k .bytes .0 in
     let r = past-length b0 [] (0 ∷ 0 ∷ []) i h0 (k .reads) (rw n) in
     filled i (b0 ∷ []) (b0 ∷ 0 ∷ 0 ∷ []) (three-by i b0 0 0 h0 (omega arith) (omega arith) r (spelled-by i b0 0 0 h0 (omega arith) (omega arith) r 1 n (omega arith))) r (rw n)
 fill i (b0 ∷ b1 ∷ []) k =
-    let n : bytesOf (i .row) ≡ 2 = sym (k .length) in
+    let n : bytesOf (i .row) ≡ 2 = sym (k .size) in
     let h0 : b0 < 256 = k .bytes .0 in
     let h1 : b1 < 256 = k .bytes .1 .0 in
     let r = past-length b0 (b1 ∷ []) (b1 ∷ 0 ∷ []) i h0 (k .reads) (rw n) in
     filled i (b0 ∷ b1 ∷ []) (b0 ∷ b1 ∷ 0 ∷ []) (three-by i b0 b1 0 h0 h1 (omega arith) r (spelled-by i b0 b1 0 h0 h1 (omega arith) r 2 n (omega arith))) r (rw n)
 fill i (b0 ∷ b1 ∷ b2 ∷ []) k =
-    let n : bytesOf (i .row) ≡ 3 = sym (k .length) in
+    let n : bytesOf (i .row) ≡ 3 = sym (k .size) in
     let h0 : b0 < 256 = k .bytes .0 in
     let h1 : b1 < 256 = k .bytes .1 .0 in
     let h2 : b2 < 256 = k .bytes .1 .1 .0 in
     filled i (b0 ∷ b1 ∷ b2 ∷ []) (b0 ∷ b1 ∷ b2 ∷ []) (three-by i b0 b1 b2 h0 h1 h2 (k .reads) (spelled-by i b0 b1 b2 h0 h1 h2 (k .reads) 3 n (omega arith))) (k .reads) (rw n)
 fill i (b0 ∷ b1 ∷ b2 ∷ b3 ∷ bs) k =
     let s = short-row (digits (b0 ∷ b1 ∷ b2 ∷ b3 ∷ bs)) i (k .reads) in
-    let n : suc (suc (suc (suc (length bs)))) ≡ bytesOf (i .row) = k .length in
+    let n : suc (suc (suc (suc (length bs)))) ≡ bytesOf (i .row) = k .size in
     let few = s .few in
     absurd (omega arith)
 
@@ -90,7 +90,7 @@ started i b bs zero e h k r =
 started i b bs (suc n) e h k r =
     record {
       bytes = bytes-take (suc n) (b ∷ bs) k;
-      length = length-take-le (suc n) (b ∷ bs) h ∙ sym e;
+      size = length-take-le (suc n) (b ∷ bs) h ∙ sym e;
       reads = past-length b bs (take n bs) i (k .0) r (rw e (ap (λ (cs : List ℕ). b ∷ cs) (sym (take-take n n bs (le-refl n)))));
     }
 

@@ -20,7 +20,7 @@ AreBytes (b ∷ bs) = (b < 256) × AreBytes bs
 -- the bytes are a code of the instruction: they read as it, and are as many as its row has
 pub record CodeOf (i : Insn) (bs : List ℕ) : Type 0 where
   pub bytes : AreBytes bs
-  pub length : length bs ≡ bytesOf (i .row)
+  pub size : length bs ≡ bytesOf (i .row)
   pub reads : readBytes bs ≡ Row i
 
 -- document 01's number and values for each case of the writer's answer

@@ -7,6 +7,9 @@ use Rattle.row_pointers.proofs.Loading.{Stops, load-pointer-stops}
 use Rattle.row_pointers.proofs.loads.load_pointer.Statement.{statement}
 use Rattle.row_pointers.proofs.loads.load_pointer.Tie as tie
 
+bank-of-requires : tie.Need-bank-of-requires
+bank-of-requires c κs = search needs
+
 from-pointer-requires : tie.Need-from-pointer-requires
 from-pointer-requires c κs = search needs
 
@@ -17,7 +20,8 @@ stopped-requires : tie.Need-stopped-requires
 stopped-requires c κs = search needs
 
 returns-2 : tie.Need-returns-2
-returns-2 c = rw (c .stopped .ensures) (at-each (Stops _) loadPointer (load-pointer-stops _ (ne-eqb _ 0 (c .before .if1 .left))) _ (c .before .before .before .pre .listed))
+returns-2 c = rw (c .stopped .ensures) (at-each (Stops _) loadPointer (load-pointer-stops _ (rw (← c .before .before .bank-of .ensures) (ne-eqb _ 0 (c .before .if1 .left)))) _ (c .before .before .before .pre .listed))
 
 pub load-pointer-spec : {M : Type 1} → statement M
-load-pointer-spec = tie.close (tie.spec from-pointer-requires returns stopped-requires returns-2)
+load-pointer-spec =
+    tie.close (tie.spec bank-of-requires from-pointer-requires returns stopped-requires returns-2)
