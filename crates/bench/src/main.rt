@@ -1,13 +1,13 @@
 // bench IMAGE RUNS < FRAMES: so many runs of the same frames, each from the record that the one before left, for time(1). It prints the last run's number and the last PC.
-use text_digits::number;
 use libc::STDERR_FILENO;
 use libc::STDIN_FILENO;
 use libc::STDOUT_FILENO;
 use machine::Machine;
+use machine_start::fresh;
 use run::Ran;
 use run::run;
-use machine_start::fresh;
 use step::Options;
+use text_digits::number;
 use text_words::Number;
 use text_words::read_number;
 

@@ -3,7 +3,6 @@
 use bound::Bounded;
 use bound::bound;
 use graph::PLACES;
-use image_file::ImageFile;
 use image_file::read_image;
 use libc::STDERR_FILENO;
 use libc::STDOUT_FILENO;
@@ -70,15 +69,19 @@ fn show_answer(out: &mut [u8], from: usize, answer: Bounded)
 
 fn explain(answer: Bounded) {
     match answer {
-        Bounded::Excluded(_) => io::write_all(
-            STDOUT_FILENO,
-            b"an excluded instruction can be reached: a call, RET, an unassigned code, a row that sets EI or a row that writes P16\n",
-        ),
-        Bounded::Repeats(_) => io::write_all(
-            STDOUT_FILENO,
-            b"a repetition can be reached: a path can come back to where it was\n",
-        ),
-        _ => (),
+        Bounded::Excluded(_) => {
+            io::write_all(
+                STDOUT_FILENO,
+                b"an excluded instruction can be reached: a call, RET, an unassigned code, a row that sets EI or a row that writes P16\n",
+            );
+        }
+        Bounded::Repeats(_) => {
+            io::write_all(
+                STDOUT_FILENO,
+                b"a repetition can be reached: a path can come back to where it was\n",
+            );
+        }
+        _ => {}
     }
 }
 
@@ -141,17 +144,16 @@ fn bound_image(image: &[u8])
 
 fn main() {
     let mut image = [0u8; IMAGE_BYTES + 1];
-    let opened = read_image(1, &mut image);
-    match opened {
-        ImageFile::Unreadable => {
-            io::write_all(STDOUT_FILENO, b"refused 01\n");
-            usage();
-        }
-        ImageFile::OtherSize => {
-            io::write_all(STDOUT_FILENO, b"refused 01\n");
-        }
-        ImageFile::Image => {
-            bound_image(&image[..IMAGE_BYTES]);
-        }
+    let file = read_image(1, &mut image);
+    if !file.readable {
+        io::write_all(STDOUT_FILENO, b"refused 01\n");
+        usage();
+        return;
     }
+    let size = file.size;
+    if size != IMAGE_BYTES {
+        io::write_all(STDOUT_FILENO, b"refused 01\n");
+        return;
+    }
+    bound_image(&image[..size]);
 }

@@ -1,8 +1,8 @@
 // Document 01, "What comes back": images, frames and runs at their limits, and the order of the refusals.
 use machine::Machine;
+use machine_start::fresh;
 use run::Ran;
 use run::run;
-use machine_start::fresh;
 use step::step;
 use telling::say::answer;
 use telling::say::count;

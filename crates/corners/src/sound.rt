@@ -1,7 +1,7 @@
 // Document 01, "Instructions": "Reading or testing P4 or P8 gives the frame's pins and sets the latch to 15; P4 reads 1110 plus P4.0, or 15 with SOUND enabled."
 use machine::Machine;
-use ports::Ports;
 use machine_start::fresh;
+use ports::Ports;
 use telling::say::answer;
 use telling::say::count;
 use telling::say::flag;

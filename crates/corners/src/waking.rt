@@ -1,7 +1,7 @@
 // Document 01, "One step": "In sleep or hold a step only looks for a falling edge on an enabled wake pin."
 use machine::Machine;
-use ports::Mode;
 use machine_start::fresh;
+use ports::Mode;
 use step::Options;
 use telling::say::answer;
 use telling::say::count;

@@ -1,28 +1,29 @@
 // The image that a program is given by a word of its command line.
-ghost use Prim.Native.Nat.{_<_};
-ghost use lib.ListN.{length};
+ghost use Rattle.io.specs.Counts.{Counts};
 
-pub enum ImageFile {
-    Unreadable,
-    OtherSize,
-    Image,
+// Whether the file can be read, and how many of its bytes are in the buffer.
+pub struct ImageFile {
+    pub readable: bool,
+    pub size: usize,
 }
 
-// Reads the file that the word names. The buffer is a byte longer than an image, so that a longer file is seen.
+// Reads the file that the word names. A buffer longer than an image shows that a file is too long.
 pub fn read_image(word: usize, buffer: &mut [u8]) -> ImageFile
-    requires { ⌜ 0 < length (now buffer) ⌝ }
+    ensures { λ r. ⌜ Counts (r .size) (now (buffer .exit)) ⌝ }
 {
     let mut path = io::buffer();
     let n = os::arg(word, &mut path);
     let file = os::open_read(&path[..n]);
     if file < 0 {
-        return ImageFile::Unreadable;
+        return ImageFile {
+            readable: false,
+            size: 0,
+        };
     }
-    let wanted = buffer.len() - 1;
     let size = io::read_full(file, buffer);
     libc::close(file);
-    if size != wanted {
-        return ImageFile::OtherSize;
+    ImageFile {
+        readable: true,
+        size: size,
     }
-    ImageFile::Image
 }

@@ -1,6 +1,5 @@
 // lister IMAGE [ADDRESS [COUNT]]: the rows of an image, one a line, in the sheet's notation.
 // The words are judged from the left: the image, the address, the number of lines, and that there are no more.
-use image_file::ImageFile;
 use image_file::read_image;
 use libc::STDERR_FILENO;
 use libc::STDOUT_FILENO;
@@ -69,17 +68,16 @@ fn list_image(image: &[u8])
 
 fn main() {
     let mut image = [0u8; IMAGE_BYTES + 1];
-    let opened = read_image(1, &mut image);
-    match opened {
-        ImageFile::Unreadable => {
-            io::write_all(STDOUT_FILENO, b"refused 01\n");
-            usage();
-        }
-        ImageFile::OtherSize => {
-            io::write_all(STDOUT_FILENO, b"refused 01\n");
-        }
-        ImageFile::Image => {
-            list_image(&image[..IMAGE_BYTES]);
-        }
+    let file = read_image(1, &mut image);
+    if !file.readable {
+        io::write_all(STDOUT_FILENO, b"refused 01\n");
+        usage();
+        return;
     }
+    let size = file.size;
+    if size != IMAGE_BYTES {
+        io::write_all(STDOUT_FILENO, b"refused 01\n");
+        return;
+    }
+    list_image(&image[..size]);
 }

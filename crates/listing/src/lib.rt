@@ -31,14 +31,7 @@ pub struct Fed {
 }
 
 // A line of the script, without its LF: its step on the RAM that is lent, or a refusal, and its text.
-pub fn tell(
-    image: &[u8],
-    m: Core,
-    ram: &mut Ram,
-    text: &[u8],
-    out: &mut [u8],
-    from: usize,
-) -> Told
+pub fn tell(image: &[u8], m: Core, ram: &mut Ram, text: &[u8], out: &mut [u8], from: usize) -> Told
     requires { ⌜ (length (now image) ≡ imageBytes) × (ValidCore m) × (Nibbles (now ram)) × (from + 26 ≤ length (now out)) ⌝ }
     ensures { λ r. ⌜ Tells (answerOf (romOf (now (image .entry))) (record { core = m; ram = now (ram .entry) }) (now (text .entry))) (now (out .entry)) (now (out .exit)) from (now (ram .exit)) r ⌝ }
 {
@@ -76,14 +69,7 @@ fn so_far(core: Core, ended: bool, used: usize, at: usize) -> Fed
 }
 
 // The whole lines of a part of the script, up to the last of the listing, or as many as there is room for.
-pub fn feed(
-    image: &[u8],
-    m: Core,
-    ram: &mut Ram,
-    part: &[u8],
-    out: &mut [u8],
-    from: usize,
-) -> Fed
+pub fn feed(image: &[u8], m: Core, ram: &mut Ram, part: &[u8], out: &mut [u8], from: usize) -> Fed
     requires { ⌜ (length (now image) ≡ imageBytes) × (ValidCore m) × (Nibbles (now ram)) × (from ≤ length (now out)) ⌝ }
     ensures { λ r. ⌜ Feeds (romOf (now (image .entry))) (record { core = m; ram = now (ram .entry) }) (now (part .entry)) (now (out .entry)) (now (out .exit)) from (now (ram .exit)) r ⌝ }
 {

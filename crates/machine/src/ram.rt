@@ -1,6 +1,6 @@
 // RAM: the place of an address, and the two functions that touch a nibble.
-use crate::Ram;
 use crate::Core;
+use crate::Ram;
 use numbers::RAM_NIBBLES;
 ghost use mathlib.Core.Path.{_≡_};
 ghost use Prim.Native.Nat.{_*_, _+_, _<_, _≤_};

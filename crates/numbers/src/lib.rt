@@ -17,17 +17,31 @@ pub const MOST_FRAME_BYTES: usize = 196608;
 
 // The table "What comes back", in its order.
 pub const IMAGE_IS_NOT_8192_BYTES: u8 = 1;
+
 pub const RECORD_OUTSIDE_THE_RANGES: u8 = 2;
+
 pub const NO_FRAME: u8 = 3;
+
 pub const MORE_THAN_65536_FRAMES: u8 = 4;
+
 pub const DISPLAY_BUFFER_UNDER_40_BYTES: u8 = 5;
+
 pub const NOT_TO_BE_WRITTEN: u8 = 11;
+
 pub const ADDRESS_OVER_8191: u8 = 20;
+
 pub const EXCLUDED_INSTRUCTION_REACHABLE: u8 = 21;
+
 pub const REPETITION_REACHABLE: u8 = 22;
+
 pub const PATH_BUFFER_TOO_SHORT: u8 = 23;
+
 pub const UNASSIGNED_CODE: u8 = 30;
+
 pub const ABSENT_RAM_ADDRESS: u8 = 31;
+
 pub const STACK_LEVEL: u8 = 32;
+
 pub const ABSENT_PORT: u8 = 33;
+
 pub const RESERVED_10XX: u8 = 34;

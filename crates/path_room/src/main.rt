@@ -1,9 +1,9 @@
 // Document 01's worked handler with a path buffer that is a byte short, one that fits and one that is longer: what comes back, and the buffer's bytes, EE where none was written.
 use bound::bound;
-use text_digits::number;
-use text_digits::put_text;
 use libc::STDOUT_FILENO;
 use text_bounder::summary;
+use text_digits::number;
+use text_digits::put_text;
 ghost use mathlib.Core.Path.{_≡_};
 ghost use lib.ListN.{length};
 

@@ -1,6 +1,6 @@
 // The ports: what reading one gives, what writing one leaves in its latch, and what writing P16 does to the mode.
-use frame::Pins;
 use bits::has_bit;
+use frame::Pins;
 use laws::both;
 use numbers::ABSENT_PORT;
 use numbers::RESERVED_10XX;

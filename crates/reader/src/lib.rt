@@ -43,7 +43,11 @@ pub fn read_at(image: &[u8], at: u16) -> Read
     ensures { λ r. ⌜ r ≡ readAt (romOf (now (image .entry))) at ⌝ }
 {
     let i = at as usize;
-    decode(image[i], image[(i + 1) % IMAGE_BYTES], image[(i + 2) % IMAGE_BYTES])
+    decode(
+        image[i],
+        image[(i + 1) % IMAGE_BYTES],
+        image[(i + 2) % IMAGE_BYTES],
+    )
 }
 
 // The public reader.

@@ -29,10 +29,7 @@ pub fn held(m: Core, ram: &Ram) -> Machine
     ensures { λ r. ⌜ r ≡ record { core = m; ram = now (ram .entry) } ⌝ }
 {
     let copy = *ram;
-    Machine {
-        core: m,
-        ram: copy,
-    }
+    Machine { core: m, ram: copy }
 }
 
 // A call, a return or an acceptance made this of the record, in two cycles: RAM goes back to where it was lent.

@@ -1,9 +1,6 @@
 // The groups that leave RAM as it was and do not read it.
 use machine::Core;
-use row_registers::asks::asked;
-use row_registers::branches::branched;
-use row_registers::makes::made;
-use row_registers::moves::moved;
+use row_ends::Act;
 use row_pointers::Pointed;
 use row_pointers::loads::load_pointer;
 use row_pointers::loads::load_timer;
@@ -11,7 +8,10 @@ use row_pointers::rom::load_high;
 use row_pointers::rom::load_low;
 use row_pointers::stores::store_pointer;
 use row_pointers::stores::store_timer;
-use row_ends::Act;
+use row_registers::asks::asked;
+use row_registers::branches::branched;
+use row_registers::makes::made;
+use row_registers::moves::moved;
 use sheet::Insn;
 ghost use mathlib.Core.Path.{_≡_};
 ghost use Prim.Native.Nat.{_+_, _<_, _≤_};

@@ -1,9 +1,9 @@
 // The rows that store ACC in DP, SP, TA or TB. "Timer, DP and SP rows need P9.3 = 0, else 31."
 use crate::Pointed;
 use machine::Core;
-use machine::ram::bank_of;
 use machine::Pointers;
 use machine::Timers;
+use machine::ram::bank_of;
 use numbers::ABSENT_RAM_ADDRESS;
 use row_ends::stopped;
 use row_ends::went_on;

@@ -1,11 +1,11 @@
 // The rows that write the nibble by HL.
+use crate::Stored;
 use alu::and;
 use alu::minus;
 use alu::or;
 use alu::plus;
 use bits::with_bit;
 use bits::without_bit;
-use crate::Stored;
 use machine::Core;
 use machine::Ram;
 use machine::ram::at_hl;

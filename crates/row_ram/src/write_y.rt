@@ -1,8 +1,8 @@
 // The rows that write the nibble by y.
+use crate::Stored;
 use alu::plus;
 use bits::with_bit;
 use bits::without_bit;
-use crate::Stored;
 use machine::Core;
 use machine::Ram;
 use machine::ram::at_y;

@@ -1,6 +1,5 @@
 // runner IMAGE: the listing of an image for the script on standard input.
 // All that it has to say is written before it reads on, so that a person at a terminal sees each answer. The script is read in parts; of a line that is not whole yet at most three characters are kept.
-use image_file::ImageFile;
 use image_file::read_image;
 use libc::STDERR_FILENO;
 use libc::STDIN_FILENO;
@@ -190,29 +189,22 @@ fn run(image: &[u8])
     session(image, core, &mut ram, &mut part, &mut out);
 }
 
-fn judge_words(image: &[u8])
-    requires { ⌜ length (now image) ≡ imageBytes ⌝ }
-{
+fn main() {
+    let mut image = [0u8; IMAGE_BYTES + 1];
+    let file = read_image(1, &mut image);
+    if !file.readable {
+        refuse_image();
+        usage();
+        return;
+    }
+    let size = file.size;
+    if size != IMAGE_BYTES {
+        refuse_image();
+        return;
+    }
     if 2 < os::arg_count() {
         usage();
         return;
     }
-    run(image);
-}
-
-fn main() {
-    let mut image = [0u8; IMAGE_BYTES + 1];
-    let opened = read_image(1, &mut image);
-    match opened {
-        ImageFile::Unreadable => {
-            refuse_image();
-            usage();
-        }
-        ImageFile::OtherSize => {
-            refuse_image();
-        }
-        ImageFile::Image => {
-            judge_words(&image[..IMAGE_BYTES]);
-        }
-    }
+    run(&image[..size]);
 }

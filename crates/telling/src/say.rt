@@ -1,5 +1,4 @@
 // How the cases write what came back, and the step that most of them make.
-use text_digits::number;
 use frame::Pins;
 use libc::STDOUT_FILENO;
 use machine::Machine;
@@ -7,6 +6,7 @@ use ports::Mode;
 use step::Options;
 use step::Stepped;
 use step::step;
+use text_digits::number;
 ghost use Prim.Native.Nat.{_<_, _≤_};
 
 pub fn say(words: &[u8]) {

@@ -12,9 +12,9 @@ use machine::Machine;
 use machine::Pointers;
 use machine::Registers;
 use machine::Timers;
+use machine_start::fresh;
 use ports::Mode;
 use ports::Ports;
-use machine_start::fresh;
 
 fn registers(r: Registers) {
     count(b", ACC ", r.acc as u32);

@@ -1,13 +1,13 @@
 // What the bounder says, as characters in a buffer: each function answers the place after what it wrote.
 use bound::Bounded;
+use reader::read_at;
+use sheet::Read;
 use text_digits::blanks;
 use text_digits::decimal;
 use text_digits::number;
 use text_digits::places;
 use text_digits::put;
 use text_digits::put_text;
-use reader::read_at;
-use sheet::Read;
 use text_lister::line::columns;
 ghost use mathlib.Core.Path.{_≡_};
 ghost use Prim.Native.Nat.{_+_, _<_, _≤_};

@@ -1,9 +1,9 @@
 // A row in the sheet's notation.
+use sheet::Insn;
+use sheet::rows;
 use text_digits::decimal;
 use text_digits::number;
 use text_digits::put;
-use sheet::Insn;
-use sheet::rows;
 ghost use mathlib.Core.Path.{_≡_};
 ghost use mathlib.Core.List.{[], _∷_, _++_};
 ghost use Prim.Native.Nat.{_+_, _<_, _≤_};

@@ -1,10 +1,10 @@
 // The lines of the runner's listing, written into a buffer from a place on: each function answers the place after what it wrote.
+use machine::Core;
+use machine::Registers;
 use text_digits::number;
 use text_digits::places;
 use text_digits::put;
 use text_digits::put_text;
-use machine::Core;
-use machine::Registers;
 ghost use mathlib.Core.Path.{_≡_};
 ghost use Prim.Native.Nat.{_+_, _<_, _≤_};
 ghost use lib.ListN.{length};

@@ -1,7 +1,7 @@
 // The lines that compare: each says what came out, and whether it is as written.
-use bits::bit_at;
 use crate::asked::place_of;
 use crate::bench::Bench;
+use bits::bit_at;
 use fields::cursor::decimal_at;
 use fields::cursor::hexadecimal_at;
 use fields::cursor::next_word;
