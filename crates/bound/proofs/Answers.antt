@@ -3,13 +3,15 @@ use mathlib.Core.Path.{_≡_, refl, ap₂}
 use mathlib.Core.List.{List, [], _∷_}
 use Prim.Native.Nat.{ℕ, _/_, _%_}
 use native.Mathlib.Omega.{arith}
+use Rattle.graph.specs.Graph.{Longest, sum, Sound}
 use Rattle.graph.specs.Laid.{graphOf, costOf}
 use Rattle.graph.proofs.Agree.{Agree}
-use Rattle.graph.proofs.Unique.{least-address}
+use Rattle.graph.proofs.Unique.{least-address, longest-path, longest-most}
 use Rattle.graph_route.specs.Route.{encode}
 use Rattle.graph_longest.specs.Means.{Means}
 use Rattle.graph_longest.specs.declared.Found.{Found}
 use Rattle.bound_flow.specs.Flow.{flowGraph, flowCost, startOf}
+use Rattle.bound_flow.specs.Bound.{HasBound}
 use Rattle.bound_explore.specs.Explored.{Explored}
 use Rattle.bound.specs.Answer.{boundedOf, paperOf, addressBytes, FlowAnswer, gives-21, gives-22, gives-23, gives-N}
 
@@ -32,9 +34,12 @@ encoded (v ∷ l) =
     let high : v / 512 % 256 ≡ v / 2 / 256 % 256 = omega arith in
     ap₂ (λ (h : ℕ) (t : List ℕ). v / 2 % 256 ∷ h ∷ t) high (encoded l)
 
+has-bound : {rom : ℕ → ℕ} {start N : ℕ} {path : List ℕ} → Sound (flowGraph rom) (startOf start) → Longest (flowGraph rom) (flowCost rom) (startOf start) path → N ≡ sum (flowCost rom) path → HasBound rom start N path
+has-bound s l e = record { sound = s; is-path = longest-path l; sum = e; largest = λ k p. rw e (longest-most l k p); longest = l }
+
 pub answers : (rom : ℕ → ℕ) (start : ℕ) (p p′ : List ℕ) (found : Found) → Means (flowGraph rom) (flowCost rom) (startOf start) p p′ found → FlowAnswer rom start p p′ (paperOf (boundedOf found))
 unfolding Means
 answers rom start p p′ (Found.Excluded v) m = gives-21 (least-address (m .lowest)) (m .kept)
 answers rom start p p′ (Found.Repeats v) m = gives-22 (m .no-bad) (least-address (m .lowest)) (m .kept)
-answers rom start p p′ (Found.Short n) m = rw (m .needs) (gives-23 (record { sound = m .sound; longest = m .longest; sum = refl }) (rw (m .needs) at (m .short)) (m .kept))
-answers rom start p p′ (Found.Longest n) m = gives-N (record { sound = m .sound; longest = m .longest; sum = m .total }) (m .room) (rw (encoded (m .path)) at (m .bytes))
+answers rom start p p′ (Found.Short n) m = rw (m .needs) (gives-23 (has-bound (m .sound) (m .longest) refl) (rw (m .needs) at (m .short)) (m .kept))
+answers rom start p p′ (Found.Longest n) m = gives-N (has-bound (m .sound) (m .longest) (m .total)) (m .room) (rw (encoded (m .path)) at (m .bytes))

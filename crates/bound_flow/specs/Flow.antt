@@ -11,7 +11,7 @@ use Rattle.sheet.specs.Flow.{targetOf}
 use Rattle.sheet.specs.declared.Insn.{Insn}
 use Rattle.sheet.specs.declared.Read.{Read}
 use Rattle.row.specs.Columns.{setsEi, writesPort}
-use Rattle.graph.specs.Graph.{Graph}
+use Rattle.graph.specs.Graph.{Kind, kindNumber, Graph}
 use Rattle.bound_flow.specs.declared.Node.{Node}
 
 -- "A place is an address with "SF known set" or not": twice the address, and one more where SF is known set
@@ -61,13 +61,13 @@ wayOf i l = wayBy i (l .s) (l .operation)
 
 -- a node: a place's kind in the graph, what follows it, and its cycles
 abbrev pub excluded : Node
-excluded = record { kind = 0; next = 0; other = 0; cost = 0 }
+excluded = record { kind = kindNumber Kind.excluded; next = 0; other = 0; cost = 0 }
 
 abbrev pub ending : ℕ → Node
-ending cycles = record { kind = 2; next = 0; other = 0; cost = cycles }
+ending cycles = record { kind = kindNumber Kind.ends-path; next = 0; other = 0; cost = cycles }
 
 abbrev pub going : ℕ → ℕ → ℕ → Node
-going next other cycles = record { kind = 1; next = next; other = other; cost = cycles }
+going next other cycles = record { kind = kindNumber Kind.goes-on; next = next; other = other; cost = cycles }
 
 -- "Branches make it known; one at a known place has only its target, at an unknown place also the next instruction."
 abbrev pub forked : Bool → ℕ → ℕ → ℕ → Node

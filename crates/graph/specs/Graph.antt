@@ -4,17 +4,27 @@ use mathlib.Core.Logic.{_⊎_}
 use mathlib.Core.List.{List, [], _∷_}
 use Prim.Native.Nat.{ℕ, _+_, _≤_, _<_}
 
--- by place: of kind 1 it goes on, to next or to other (the same twice where only one follows); of kind 2 it ends a path; of any other kind it is excluded
+-- the kinds of places: one that goes on, to next or to other (the same twice where only one follows); one that ends a path; any other is excluded
+pub data Kind : Type 0 where
+  excluded goes-on ends-path : Kind
+
+-- the kinds as the numbers of an array
+abbrev pub kindNumber : Kind → ℕ
+kindNumber excluded = 0
+kindNumber goes-on = 1
+kindNumber ends-path = 2
+
+-- by place: the number of its kind, and what may follow
 pub record Graph : Type 0 where
   pub kind : ℕ → ℕ
   pub next : ℕ → ℕ
   pub other : ℕ → ℕ
 
 abbrev pub GoesOn : Graph → ℕ → Type 0
-GoesOn g v = g .kind v ≡ 1
+GoesOn g v = g .kind v ≡ kindNumber goes-on
 
 abbrev pub Ends : Graph → ℕ → Type 0
-Ends g v = g .kind v ≡ 2
+Ends g v = g .kind v ≡ kindNumber ends-path
 
 pub record Excluded (g : Graph) (v : ℕ) : Type 0 where
   pub not-on : GoesOn g v → ⊥

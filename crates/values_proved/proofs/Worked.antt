@@ -5,12 +5,14 @@ use lib.Dec.{T, eqb, eqb→eq}
 use Rattle.laws.specs.Choice.{both}
 use Rattle.laws.proofs.Computed.{both-left, both-right}
 use Rattle.sheet.specs.Table.{lines, lineAt}
+use Rattle.sheet.specs.Reading.{rowNumber, rowWith}
 use Rattle.alu.specs.Making.{made}
 use Rattle.alu.specs.Flags.{flagAfter}
 use Rattle.machine.specs.Ram.{placeOf}
 use Rattle.machine.specs.Stack.{called}
 use Rattle.row.specs.Steps.{putStep}
 use Rattle.row.specs.Rows.{workOf, callOf}
+use Rattle.step_act.specs.Act.{runOne}
 use Rattle.values_proved.specs.Values.{Claim, Hold, workedValues}
 
 abbrev agree : List Claim → Bool
@@ -22,5 +24,5 @@ hold [] t = tt
 hold (c ∷ cs) t = (eqb→eq (c .given) (c .said) (both-left (eqb (c .given) (c .said)) (agree cs) t), hold cs (both-right (eqb (c .given) (c .said)) (agree cs) t))
 
 pub worked : Hold workedValues
-unfolding workedValues lines lineAt made flagAfter placeOf called putStep workOf callOf
+unfolding workedValues runOne rowNumber rowWith lines lineAt made flagAfter placeOf called putStep workOf callOf
 worked = hold workedValues tt

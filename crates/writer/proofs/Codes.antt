@@ -45,7 +45,7 @@ pub record Filled (i : Insn) (bs : List ℕ) : Type 0 where
 filled : (i : Insn) (bs cs : List ℕ) → three (spelling i) ≡ cs → readBytes cs ≡ Row i → bs ≡ take (bytesOf (i .row)) cs → Filled i bs
 filled i bs cs e r q = record { reads = ap readBytes e ∙ r; code = q ∙ ap (take (bytesOf (i .row))) (sym e) }
 
-nothing-read : (i : Insn) → readBytes [] ≡ Row i → ⊥
+pub nothing-read : (i : Insn) → readBytes [] ≡ Row i → ⊥
 unfolding rowNumber
 nothing-read i e = row-with 0 [] i e .row refl
 

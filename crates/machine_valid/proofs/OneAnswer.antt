@@ -1,0 +1,15 @@
+-- Any two answers of is_valid that conform are equal.
+use mathlib.Core.Bool.{Bool, true, false}
+use mathlib.Core.Path.{_≡_, refl}
+use Rattle.laws.specs.Decides.{Decides}
+use Rattle.machine.specs.Valid.{Valid}
+use Rattle.machine.specs.declared.Machine.{Machine}
+
+one-decision : {P : Type 0} (a b : Bool) → Decides a P → Decides b P → a ≡ b
+one-decision true true d e = refl
+one-decision false false d e = refl
+one-decision true false d e = absurd (e .complete (d .sound tt))
+one-decision false true d e = absurd (d .complete (e .sound tt))
+
+pub one-answer : (m : Machine) (a b : Bool) → Decides a (Valid m) → Decides b (Valid m) → a ≡ b
+one-answer m = one-decision
