@@ -4,7 +4,8 @@ use mathlib.Core.List.{[], _∷_, _++_}
 use Prim.Native.Nat.{ℕ}
 use Rattle.sheet.specs.Reading.{rowNumber, rowWith, romOf}
 use Rattle.sheet.specs.Table.{lines, lineAt}
-use Rattle.frame.specs.Frame.{digitOf, frameOf}
+use Rattle.hexadecimal.specs.Hexadecimal.{digitOf}
+use Rattle.frame.specs.Frame.{frameOf}
 use Rattle.clock.specs.Clock.{met, tick, passed, eventCount}
 use Rattle.alu.specs.Flags.{flagAfter}
 use Rattle.alu.specs.Making.{made}
