@@ -43,7 +43,7 @@ toggles-once : (n : ℕ) (s : Sound) → s .count ≡ s .tf → jumped n (toggle
 unfolding flipped after
 toggles-once n s h =
     let e : s .count + suc n ≡ s .tf + 1 + n = omega arith in
-    let z : 0 + n ≡ n = omega arith in
+    let z : toggled s .count + n ≡ n = omega arith in
     rw (e, z, add-mod-left (s .tf + 1) n, add-div-left n {k = s .tf + 1} (omega arith), add-one (n / (s .tf + 1)))
 
 jumps-on : (n : ℕ) (s : Sound) → ((t : Sound) → t .count ≤ t .tf → runs t ≡ true → pulses n t ≡ jumped n t) → s .count ≤ s .tf → runs s ≡ true → Dec (s .count < s .tf) → pulses n (pulse s) ≡ jumped (suc n) s
