@@ -34,7 +34,9 @@ pub struct Entry {
 }
 
 const LONGEST: usize = 8;
+
 const MOST: u32 = 65536;
+
 const MOST_OF_A_PORT: u32 = 15;
 
 pub fn nothing_entered() -> Entry

@@ -1,19 +1,17 @@
+-- `sound::show` meets its contract.
+use mathlib.Core.Path.{sym}
+use native.Mathlib.Omega.{arith}
+use lib.Seq.{length-take-le}
 use borrow.Author.Needs.{needs}
 use Rattle.sound.proofs.show.Statement.{statement}
 use Rattle.sound.proofs.show.Tie as tie
-use Rattle.sound.proofs.show.Reads as reads
-use Rattle.sound.proofs.show.Lts as lts
-use Rattle.io.proofs.write_all.Reads as write-all-reads
 
--- src/main.rt:31:34
 slice-aggregate-write-all : tie.Need-slice-aggregate-write-all
-slice-aggregate-write-all c = ?
+slice-aggregate-write-all c = sym (length-take-le _ _ (omega arith))
 
--- src/main.rt:31:5
 write-all-requires : tie.Need-write-all-requires
 write-all-requires c κs = search needs
 
--- src/main.rt:28:1
 returns : tie.Need-returns
 returns c = search needs
 
