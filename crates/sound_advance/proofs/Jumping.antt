@@ -1,6 +1,6 @@
 -- Many pulses at once are as many pulses: of count + n, every TF + 1 toggle the tone, and what is left is the count.
 use Prim.Native.Nat.{ℕ, zero, suc, _+_, _/_, _%_, _<_, _≤_}
-use mathlib.Core.Path.{_≡_, refl, sym, ap, _∙_}
+use mathlib.Core.Path.{_≡_, refl, sym, _∙_}
 use mathlib.Core.Bool.{Bool, true, false, not}
 use native.Mathlib.Nat.{mod-eq-of-lt, div-eq-of-lt, add-div-left, add-mod-left}
 use native.Mathlib.Numerals.{add-one}
@@ -9,7 +9,7 @@ use native.Mathlib.Omega.{arith}
 use lib.Dec.{eqb, ltb}
 use borrow.Author.Tests.{lt-ltb, le-ltb}
 use Rattle.laws.specs.Choice.{pick}
-use Rattle.sound_random.specs.Random.{withNext, after}
+use Rattle.sound_random.specs.Random.{after}
 use Rattle.sound_generator.specs.declared.Sound.{Sound}
 use Rattle.sound_advance.specs.Advance.{runs, counted, toggled, pulse, pulses}
 use Rattle.sound_advance.specs.Jump.{flipped}

@@ -1,5 +1,5 @@
 -- The request of the sound pin: the state "advanced by a number of pulses of the basic frequency".
-use Prim.Native.Nat.{ℕ, zero, suc, _+_, _<_}
+use Prim.Native.Nat.{ℕ, zero, suc, _+_}
 use mathlib.Core.Bool.{Bool, not}
 use lib.Dec.{eqb, ltb}
 use Rattle.laws.specs.Choice.{pick, both}

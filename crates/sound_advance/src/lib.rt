@@ -2,6 +2,8 @@
 // Advancing by a and then by b is advancing by a + b, and two answers to the same are equal: proofs/Advancing.antt.
 use laws::both;
 use sound_generator::Answer;
+use sound_generator::DISABLED;
+use sound_generator::OUTSIDE_THE_RANGES;
 use sound_generator::Sound;
 use sound_generator::in_ranges;
 use sound_generator::refuse;
@@ -9,18 +11,12 @@ use sound_generator::taken;
 use sound_random::after;
 ghost use mathlib.Core.Path.{_≡_};
 ghost use mathlib.Core.Bool.{true};
-ghost use Prim.Native.Nat.{_≤_, _%_};
-ghost use lib.Dec.{eqb};
-ghost use Rattle.laws.specs.Choice.{pick};
+ghost use Prim.Native.Nat.{_≤_};
 ghost use Rattle.sound_generator.specs.Sound.{InRanges};
 ghost use Rattle.sound_advance.specs.Advance.{runs as advances, pulses, most-pulses, zeroWhileOn, advancedBy};
 ghost use Rattle.sound_advance.specs.Jump.{flipped};
 
-const DISABLED: u8 = 0;
-
 const MOST_PULSES: u32 = 65535;
-
-const OUTSIDE_THE_RANGES: u8 = 2;
 
 const PULSES_OVER_THE_LIMIT: u8 = 48;
 

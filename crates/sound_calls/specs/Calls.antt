@@ -1,6 +1,6 @@
 -- What the calls of include/em73862_sound.h answer, and leave in the state's bytes. A buffer that holds no state is refused with 2, and stays.
 use Prim.Native.Nat.{ℕ}
-use mathlib.Core.Bool.{Bool, false}
+use mathlib.Core.Bool.{false}
 use mathlib.Core.List.{List}
 use mathlib.Core.Path.{_≡_}
 use lib.Dec.{eqb}

@@ -4,6 +4,7 @@ use bits::bit_of;
 use bytes::copy;
 use laws::both;
 use sound_advance::advance;
+use sound_generator::OUTSIDE_THE_RANGES;
 use sound_generator::Sound;
 use sound_generator::output;
 use sound_generator::sleep;
@@ -21,8 +22,6 @@ ghost use Rattle.sound_calls.specs.Layout.{bytesOf, holdsState, stateAt}
 ghost use Rattle.sound_calls.specs.Calls.{changedBy, started, Leaves, levelAt, Shows};
 
 const STATE_BYTES: usize = 8;
-
-const OUTSIDE_THE_RANGES: u8 = 2;
 
 fn wide(b: u8) -> u16
     ensures { λ r. ⌜ (r ≡ b) × (r < 256) ⌝ }

@@ -1,20 +1,18 @@
 -- A line that is entered a character at a time: its word, its blank and its number with one character more.
-use Prim.Native.Nat.{ℕ, zero, suc, _+_, _-_, _*_, _<_, _≤_, min}
+use Prim.Native.Nat.{ℕ, _+_, _-_, _*_, _<_, _≤_, min}
 use mathlib.Core.Path.{_≡_, refl, sym, ap, _∙_}
 use mathlib.Core.Bool.{Bool, true, false, not}
 use mathlib.Core.List.{List, [], _∷_, _++_, append-nil}
-use native.Mathlib.Nat.{min-eq-right}
 use native.Mathlib.Numerals.{add-one}
-use native.Mathlib.Decide.{decLt}
 use native.Mathlib.Omega.{arith}
-use lib.Dec.{T, eqb, ltb, leb, eqb→eq}
+use lib.Dec.{T, eqb, ltb, eqb→eq}
 use lib.ListN.{length, take, set, length-append}
 use lib.Seq.{take-all, take-append-le, take-suc-set}
 use borrow.Author.Tests.{lt-ltb, le-ltb}
 use Rattle.laws.specs.Choice.{pick, both, either}
 use Rattle.laws.proofs.Choices.{both-false}
 use Rattle.laws.proofs.Computed.{at, where-at, true→T, T→true, both-right}
-use Rattle.words.specs.Words.{between, digitValue, allDigits, valueAfter, valueOf, isNumber}
+use Rattle.words.specs.Words.{between, digitValue, allDigits, valueAfter, isNumber}
 use Rattle.sound_command.specs.Commands.{isBlank, hasBlank, wordOf, numberIn, most, bare, numbered, commandOf}
 use Rattle.sound_command.specs.Entry.{Entered, Fits, Feeds}
 use Rattle.sound_command.specs.declared.Entry.{Entry}

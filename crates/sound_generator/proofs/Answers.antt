@@ -1,8 +1,7 @@
 -- Any two answers of a call on the state to the same are equal: each is what one definition gives.
 use Prim.Native.Nat.{ℕ}
 use mathlib.Core.Path.{_≡_, refl, sym, _∙_}
-use mathlib.Core.Bool.{true, false}
-use Rattle.laws.specs.Choice.{pick}
+use mathlib.Core.Bool.{true}
 use Rattle.sound_generator.specs.Sound.{startState, levelOf}
 use Rattle.sound_generator.specs.Answers.{p30Written, p24Written, p23Written, madeSleep, madeWake, outputOf}
 use Rattle.sound_generator.specs.declared.Sound.{Sound}

@@ -2,6 +2,7 @@
 // Each public call answers 0 and what comes of it, or a refusal's number and the state as it was; two answers to the same are equal: proofs/Answers.antt.
 use laws::both;
 use laws::either;
+use sound_random::NINE_BITS;
 ghost use mathlib.Core.Path.{_≡_};
 ghost use Rattle.sound_generator.specs.Sound.{inRanges, startState, levelOf};
 ghost use Rattle.sound_generator.specs.Answers.{takes as takesValue, answered, refused, p30Written, p24Written, p23Written, madeSleep, madeWake, outputOf};
@@ -27,19 +28,17 @@ pub struct Shown {
     pub high: bool,
 }
 
-const OUTSIDE_THE_RANGES: u8 = 2;
+pub const OUTSIDE_THE_RANGES: u8 = 2;
 
 const NIBBLES: u8 = 16;
 
-const DISABLED: u8 = 0;
+pub const DISABLED: u8 = 0;
 
 const TONE_OUTPUT: u8 = 1;
 
 const RANDOM_OUTPUT: u8 = 2;
 
 const MODES: u8 = 4;
-
-const NINE_BITS: u16 = 512;
 
 pub fn start() -> Sound
     ensures { λ r. ⌜ r ≡ startState ⌝ }

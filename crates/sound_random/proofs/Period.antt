@@ -1,13 +1,13 @@
 -- From any nine bits but nine zeros the random bits repeat after 511 and not earlier: one walk from each of them, that the checker computes.
 use Prim.Native.Nat.{ℕ, zero, suc, _+_, _-_, _*_, _/_, _%_, _<_, _≤_}
 use mathlib.Core.Path.{_≡_, refl, sym, ap, _∙_}
-use mathlib.Core.Bool.{Bool, true, not}
-use native.Mathlib.Nat.{not-suc-le-zero, mod-add-div'}
+use mathlib.Core.Bool.{Bool, not}
+use native.Mathlib.Nat.{not-suc-le-zero}
 use native.Mathlib.Omega.{arith}
-use lib.Dec.{T, eqb, eqb→eq, ltb, T-not, not-T}
-use borrow.Author.Tests.{eq-eqb, ltb-true}
+use lib.Dec.{T, eqb, eqb→eq, T-not}
+use borrow.Author.Tests.{eq-eqb}
 use Rattle.laws.specs.Choice.{both}
-use Rattle.laws.proofs.Computed.{below, at, true→T, T→true, both-left, both-right}
+use Rattle.laws.proofs.Computed.{at, true→T, both-left, both-right}
 use Rattle.sound_random.specs.Random.{withNext, after, Random, RepeatsAfter}
 
 -- from these bits, n more are never those of the start after any of them, and one more is

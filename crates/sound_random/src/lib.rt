@@ -4,7 +4,7 @@ ghost use Rattle.sound_random.specs.Random.{Random, withNext};
 ghost use Rattle.sound_random.specs.Random.{after as afterBits};
 
 // The numbers that nine bits make, and after how many bits they repeat.
-const NINE_BITS: u16 = 512;
+pub const NINE_BITS: u16 = 512;
 
 const PERIOD: u32 = 511;
 

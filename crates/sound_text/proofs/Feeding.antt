@@ -1,5 +1,5 @@
 -- The input, a character at a time: what is answered to it all does not depend on how it is cut.
-use Prim.Native.Nat.{ℕ, zero, suc, _+_, _<_, _≤_}
+use Prim.Native.Nat.{ℕ, _+_, _≤_}
 use mathlib.Core.Path.{_≡_, refl, sym, ap, _∙_}
 use mathlib.Core.Bool.{Bool, true, false, not}
 use mathlib.Core.List.{List, [], _∷_, _++_, append-assoc, append-nil}
@@ -7,7 +7,7 @@ use native.Mathlib.Omega.{arith}
 use lib.Dec.{T, ltb}
 use lib.ListN.{length}
 use borrow.Author.Tests.{lt-ltb, ne-eqb}
-use Rattle.laws.specs.Choice.{both, pick, either}
+use Rattle.laws.specs.Choice.{pick, either}
 use Rattle.laws.specs.Writing.{Wrote}
 use Rattle.laws.proofs.Computed.{true→T, both-left, both-right, both-i}
 use Rattle.laws.proofs.Writing.{wrote-then, wrote-none}
@@ -19,7 +19,7 @@ use Rattle.sound_command.specs.Entry.{Entered, Fits, Feeds as Enters}
 use Rattle.sound_command.specs.declared.Entry.{Entry}
 use Rattle.sound_command.specs.declared.Command.{Command}
 use Rattle.sound_text.specs.Telling.{performed, textOf, toldOver, soundOf}
-use Rattle.sound_text.specs.Feeding.{unended, Begun, Fed, Feeds}
+use Rattle.sound_text.specs.Feeding.{unended, Begun, Feeds}
 use Rattle.sound_command.proofs.Entering.{begun}
 use Rattle.sound_text.specs.declared.Performed.{Performed}
 use Rattle.sound_text.specs.declared.Progress.{Progress}

@@ -1,6 +1,6 @@
 -- What the program sound answers to its input. Sentences in quotation marks are of docs/PROGRAMS.md.
 use Prim.Native.Nat.{ℕ}
-use mathlib.Core.Bool.{Bool, true, false}
+use mathlib.Core.Bool.{true, false}
 use mathlib.Core.List.{List, [], _∷_, _++_}
 use lib.Dec.{eqb}
 use Rattle.laws.specs.Choice.{pick}

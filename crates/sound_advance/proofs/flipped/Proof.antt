@@ -1,5 +1,4 @@
 -- `sound_advance::flipped` meets its contract.
-use mathlib.Core.Path.{sym, _∙_}
 use borrow.Author.Tests.{eq-eqb, ne-eqb}
 use Rattle.sound_advance.proofs.Jumping.{flipped-by-parity}
 use Rattle.sound_advance.proofs.flipped.Statement.{statement}

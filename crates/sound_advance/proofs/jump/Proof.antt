@@ -1,5 +1,5 @@
 -- `sound_advance::jump` meets its contract.
-use mathlib.Core.Path.{sym, _∙_}
+use mathlib.Core.Path.{sym}
 use Prim.Native.Nat.{_+_}
 use native.Mathlib.Nat.{mod-lt}
 use native.Mathlib.Omega.{arith}

@@ -1,5 +1,5 @@
 -- `sound_calls::em73862_sound_advance` meets its contract.
-use mathlib.Core.Path.{sym, ap, _∙_}
+use mathlib.Core.Path.{sym, _∙_}
 use borrow.Author.Needs.{needs}
 use Rattle.sound_advance.specs.Advance.{advancedBy}
 use Rattle.sound_calls.proofs.OneAnswer.{held, changed, not-held}

@@ -1,7 +1,6 @@
 -- `sound_command::number_fed` meets its contract.
-use mathlib.Core.Path.{sym, ap, _∙_}
+use mathlib.Core.Path.{sym, _∙_}
 use native.Mathlib.Omega.{arith}
-use lib.Dec.{leb→le}
 use borrow.Author.Needs.{needs}
 use Rattle.words.proofs.Values.{between-from}
 use Rattle.sound_command.proofs.Entering.{digit-fed, other-fed}

@@ -1,5 +1,5 @@
 -- `sound_command::port` meets its contract.
-use mathlib.Core.Path.{sym, ap, _∙_}
+use mathlib.Core.Path.{sym, _∙_}
 use borrow.Author.Needs.{needs}
 use Rattle.sound_command.specs.Commands.{port}
 use Rattle.sound_command.proofs.Texts.{same-is}
