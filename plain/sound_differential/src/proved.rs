@@ -1,0 +1,11 @@
+//! The proved calls' answers: `Proved::new()` and `answers(&[Call]) -> Vec<Answer>`. See build.rs for the two ways.
+
+#[cfg(linked)]
+mod linked;
+#[cfg(linked)]
+pub use linked::Proved;
+
+#[cfg(not(linked))]
+mod served;
+#[cfg(not(linked))]
+pub use served::Proved;
