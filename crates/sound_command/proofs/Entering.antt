@@ -12,7 +12,8 @@ use borrow.Author.Tests.{lt-ltb, le-ltb}
 use Rattle.laws.specs.Choice.{pick, both, either}
 use Rattle.laws.proofs.Choices.{both-false}
 use Rattle.laws.proofs.Computed.{at, where-at, true→T, T→true, both-right}
-use Rattle.text_words.specs.Words.{between, digitValue, allDigits, valueAfter, isNumber}
+use Rattle.text_words.specs.Words.{allDigits, valueAfter, isNumber}
+use Rattle.hexadecimal.specs.Hexadecimal.{between, digitOf}
 use Rattle.sound_command.specs.Commands.{isBlank, hasBlank, wordOf, numberIn, most, bare, numbered, commandOf}
 use Rattle.sound_command.specs.Entry.{Entered, Fits, Feeds}
 use Rattle.sound_command.specs.declared.Entry.{Entry}
@@ -79,26 +80,26 @@ closed c (d ∷ l) h = by (isBlank d) (closed c l) h
     by false f g = (ap (λ (w : List ℕ). d ∷ w) (f g .0), f g .1)
 
 -- a digit more
-digits-more : (n : List ℕ) (c : ℕ) → allDigits 10 (n ++ (c ∷ [])) ≡ both (allDigits 10 n) (ltb (digitValue c) 10)
-digits-more [] c = by (ltb (digitValue c) 10)
+digits-more : (n : List ℕ) (c : ℕ) → allDigits 10 (n ++ (c ∷ [])) ≡ both (allDigits 10 n) (ltb (digitOf c) 10)
+digits-more [] c = by (ltb (digitOf c) 10)
   where
     by : (t : Bool) → both t true ≡ t
     by true = refl
     by false = refl
-digits-more (d ∷ n) c = by (ltb (digitValue d) 10) (digits-more n c)
+digits-more (d ∷ n) c = by (ltb (digitOf d) 10) (digits-more n c)
   where
-    by : (t : Bool) → allDigits 10 (n ++ (c ∷ [])) ≡ both (allDigits 10 n) (ltb (digitValue c) 10) → both t (allDigits 10 (n ++ (c ∷ []))) ≡ both (both t (allDigits 10 n)) (ltb (digitValue c) 10)
+    by : (t : Bool) → allDigits 10 (n ++ (c ∷ [])) ≡ both (allDigits 10 n) (ltb (digitOf c) 10) → both t (allDigits 10 (n ++ (c ∷ []))) ≡ both (both t (allDigits 10 n)) (ltb (digitOf c) 10)
     by true f = f
     by false f = refl
 
-value-more : (n : List ℕ) (v c : ℕ) → valueAfter 10 v (n ++ (c ∷ [])) ≡ valueAfter 10 v n * 10 + digitValue c
+value-more : (n : List ℕ) (v c : ℕ) → valueAfter 10 v (n ++ (c ∷ [])) ≡ valueAfter 10 v n * 10 + digitOf c
 value-more [] v c = refl
-value-more (d ∷ n) v c = value-more n (v * 10 + digitValue d) c
+value-more (d ∷ n) v c = value-more n (v * 10 + digitOf d) c
 
 -- the decimal digits among the characters
-pub digit-test : (c : ℕ) → c < 256 → ltb (digitValue c) 10 ≡ between 48 57 c
-unfolding digitValue
-digit-test c h = same (ltb (digitValue c) 10) (between 48 57 c) (at (λ c. agrees (ltb (digitValue c) 10) (between 48 57 c)) 256 tt c h)
+pub digit-test : (c : ℕ) → c < 256 → ltb (digitOf c) 10 ≡ between "0" "9" c
+unfolding digitOf
+digit-test c h = same (ltb (digitOf c) 10) (between "0" "9" c) (at (λ c. agrees (ltb (digitOf c) 10) (between "0" "9" c)) 256 tt c h)
   where
     same : (a b : Bool) → T (agrees a b) → a ≡ b
     same true true t = refl
@@ -106,13 +107,13 @@ digit-test c h = same (ltb (digitValue c) 10) (between 48 57 c) (at (λ c. agree
     same true false t = absurd t
     same false true t = absurd t
 
-digit-value : (c : ℕ) → c < 256 → between 48 57 c ≡ true → digitValue c ≡ c - 48
-unfolding digitValue
-digit-value c h b = eqb→eq (digitValue c) (c - 48) (where-at (between 48 57) (λ c. eqb (digitValue c) (c - 48)) 256 tt c h (true→T b))
+digit-value : (c : ℕ) → c < 256 → between "0" "9" c ≡ true → digitOf c ≡ c - 48
+unfolding digitOf
+digit-value c h b = eqb→eq (digitOf c) (c - 48) (where-at (between "0" "9") (λ c. eqb (digitOf c) (c - 48)) 256 tt c h (true→T b))
 
 module _ {e : Entry} {c : ℕ} (small : c < 256) (fits : Fits e) where
   -- a character of the number: a digit, or any other
-  pub digit-fed : e .spaced ≡ true → between 48 57 c ≡ true → Feeds e c (record { word = e .word; kept = e .kept; spaced = e .spaced; some = true; digits = e .digits; value = min most (e .value * 10 + (c - 48)) })
+  pub digit-fed : e .spaced ≡ true → between "0" "9" c ≡ true → Feeds e c (record { word = e .word; kept = e .kept; spaced = e .spaced; some = true; digits = e .digits; value = min most (e .value * 10 + (c - 48)) })
   digit-fed s d =
       record {
         fits = record { kept = fits .kept; value = omega arith };
@@ -131,7 +132,7 @@ module _ {e : Entry} {c : ℕ} (small : c < 256) (fits : Fits e) where
       both-true true = refl
       both-true false = refl
 
-  pub other-fed : e .spaced ≡ true → between 48 57 c ≡ false → Feeds e c (record { word = e .word; kept = e .kept; spaced = e .spaced; some = true; digits = false; value = e .value })
+  pub other-fed : e .spaced ≡ true → between "0" "9" c ≡ false → Feeds e c (record { word = e .word; kept = e .kept; spaced = e .spaced; some = true; digits = false; value = e .value })
   other-fed s d =
       record {
         fits = record { kept = fits .kept; value = fits .value };

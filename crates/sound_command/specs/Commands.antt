@@ -6,7 +6,7 @@ use mathlib.Core.List.{List, [], _∷_}
 use lib.Dec.{eqb, leb}
 use Rattle.laws.specs.Choice.{pick, both, either}
 use Rattle.text_digits.specs.Digits.{characters}
-use Rattle.text_words.specs.Words.{isNumber, valueOf}
+use Rattle.text_words.specs.Words.{isNumber, wordValue}
 use Rattle.sound_command.specs.declared.Command.{Command}
 use Rattle.sound_command.specs.declared.Command.the-variants.{P30, P24, P23, Sleep, Wake, Reset, Advance, Nothing}
 
@@ -56,5 +56,5 @@ numbered word n =
 unfoldable pub commandOf : List ℕ → Command
 commandOf line =
     pick (hasBlank line)
-    (pick (isNumber 10 (numberIn line)) (numbered (wordOf line) (min most (valueOf 10 (numberIn line)))) Nothing)
+    (pick (isNumber 10 (numberIn line)) (numbered (wordOf line) (min most (wordValue 10 (numberIn line)))) Nothing)
     (bare (wordOf line))

@@ -5,7 +5,7 @@ use mathlib.Core.Path.{_≡_}
 use mathlib.Core.List.{List, [], _∷_, _++_}
 use lib.Dec.{ltb}
 use lib.ListN.{length, take}
-use Rattle.text_words.specs.Words.{allDigits, valueOf}
+use Rattle.text_words.specs.Words.{allDigits, wordValue}
 use Rattle.sound_command.specs.Commands.{hasBlank, wordOf, numberIn, most}
 use Rattle.sound_command.specs.declared.Entry.{Entry}
 
@@ -19,7 +19,7 @@ pub record Entered (line : List ℕ) (e : Entry) : Type 0 where
   pub spaced : e .spaced ≡ hasBlank line
   pub some : e .some ≡ ltb 0 (length (numberIn line))
   pub digits : e .digits ≡ allDigits 10 (numberIn line)
-  pub value : e .digits ≡ true → e .value ≡ min most (valueOf 10 (numberIn line))
+  pub value : e .digits ≡ true → e .value ≡ min most (wordValue 10 (numberIn line))
 
 -- what any entry keeps to
 pub record Fits (e : Entry) : Type 0 where

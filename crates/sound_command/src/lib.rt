@@ -8,7 +8,7 @@ ghost use mathlib.Core.List.{List, []};
 ghost use Prim.Native.Nat.{ℕ, _≤_, min};
 ghost use lib.Dec.{ltb};
 ghost use Rattle.laws.specs.Choice.{either as eitherOf};
-ghost use Rattle.text_words.specs.Words.{between};
+ghost use Rattle.hexadecimal.specs.Hexadecimal.{between};
 ghost use Rattle.sound_command.specs.Commands.{isBlank, bare as bareOf, port as portOf, numbered as numberedOf, most, commandOf};
 ghost use Rattle.sound_command.specs.Entry.{Entered, Fits, Feeds};
 
@@ -60,7 +60,7 @@ pub fn is_begun(e: Entry) -> bool
 }
 
 fn is_digit(c: u8) -> bool
-    ensures { λ r. ⌜ r ≡ between 48 57 c ⌝ }
+    ensures { λ r. ⌜ r ≡ between "0" "9" c ⌝ }
 {
     if c < b'0' {
         return false;

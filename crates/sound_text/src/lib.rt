@@ -1,10 +1,5 @@
 // What the program sound writes: a line for each command, and the lines for a part of its input.
 use bits::bit_of;
-use text_digits::decimal;
-use text_digits::number;
-use text_digits::put;
-use text_digits::put_text;
-use text_runner::refused;
 use sound_advance::advance;
 use sound_command::Command;
 use sound_command::Entry;
@@ -22,6 +17,11 @@ use sound_generator::wake;
 use sound_generator::write_p23;
 use sound_generator::write_p24;
 use sound_generator::write_p30;
+use text_digits::decimal;
+use text_digits::number;
+use text_digits::put;
+use text_digits::put_text;
+use text_runner::refused;
 ghost use mathlib.Core.Path.{_≡_};
 ghost use mathlib.Core.Bool.{true};
 ghost use mathlib.Core.List.{[], _∷_, _++_};

@@ -80,7 +80,7 @@ sbcam = run (0x72 ∷ []) (withAcc 3 false (withNibble 5 freshMachine))
 
 -- SCALL n, E0h + n; LCALL 123h, 41h 23h; RET, 4Fh, each with SP
 abbrev pub scall : ℕ → Done
-scall n = run (0xE0 + n ∷ []) (withSp 1 freshMachine)
+scall n = run ((0xE0 + n) ∷ []) (withSp 1 freshMachine)
 
 abbrev pub lcall : ℕ → Done
 lcall level = run (0x41 ∷ 0x23 ∷ []) (withSp level freshMachine)
