@@ -72,7 +72,7 @@ module _ (w : Around) (l : Line) (m : Machine) (lr : m .core .regs .lr < 16) (ru
   work-keeps : (n : ℕ) (s : Step) (a : After) → T (both (fitsStep n s) (fitsAfter n a)) → writesP16 (w .insn) (Operation.work s a) ≡ false → performed m w l (Operation.work s a) .stop ≡ 0
       → Dec (w .insn .b ≡ 16) → performed m w l (Operation.work s a) .machine .core .mode ≡ m .core .mode
   work-keeps n s a f p z (yes e) = ordinary m w l (Operation.work s a) refl z .mode (both-off (writesPort (Operation.work s a)) (eqb (w .insn .b) 16) p (eq-eqb (w .insn .b) 16 e))
-  work-keeps n s a f p z (no ne) = work-mode w ne n m l s a f lr
+  work-keeps n s a f p z (no ne) = work-mode w n ne m l s a f lr
 
   module _ (known : Bool) (sf : known ≡ true → m .core .regs .sf ≡ true) where
     abbrev node : Way → Node

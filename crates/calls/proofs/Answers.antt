@@ -42,7 +42,7 @@ abbrev codeIn : Code → Written → Code
 codeIn c (written.Bytes d) = d
 codeIn c written.Refused = c
 
-pub spelt : (c : Code) → fromPaper (paperOf (written.Bytes c)) ≡ written.Bytes c → OfWrite (paperOf (written.Bytes c)) (record { number = 0; length = c .len; b0 = c .b0; b1 = c .b1; b2 = c .b2 })
+pub spelt : (c : Code) → fromPaper (paperOf (written.Bytes c)) ≡ written.Bytes c → OfWrite (paperOf (written.Bytes c)) (record { number = 0; count = c .len; b0 = c .b0; b1 = c .b1; b2 = c .b2 })
 spelt c e = record {
   number = refl;
   count = ap (λ (w : Written). codeIn c w .len) (sym e);

@@ -2,6 +2,7 @@
 // Two answers of a call to the same inputs are equal, for each of the nine: proofs/OneAnswer.antt. A step and a reset whose number is not 0 leave the record's bytes as they were: proofs/Kept.antt.
 use bound::bound;
 use display::display;
+use machine_bytes::RECORD_BYTES;
 use machine_bytes::pack;
 use machine_bytes::unpack;
 use machine_start::fresh;

@@ -1,9 +1,13 @@
 -- The value of a character, by the range that it is in.
-use mathlib.Core.Path.{_≡_}
+use mathlib.Core.Path.{_≡_, sym, _∙_}
+use mathlib.Core.Bool.{Bool, true}
+use Prim.Native.Char.{Char, code}
 use Prim.Native.Nat.{ℕ, _+_, _-_, _<_, _≤_}
 use native.Mathlib.Omega.{arith}
+use lib.Dec.{leb, leb→le}
 use borrow.Author.Tests.{le-leb, lt-leb}
-use Rattle.hexadecimal.specs.Hexadecimal.{digitOf}
+use Rattle.laws.proofs.Computed.{true→T, both-left}
+use Rattle.hexadecimal.specs.Hexadecimal.{between, digitOf}
 
 module _ (c : ℕ) where
   pub before-digits : c < 48 → digitOf c ≡ 16
@@ -33,3 +37,7 @@ module _ (c : ℕ) where
   pub past-small : 102 < c → digitOf c ≡ 16
   unfolding digitOf
   past-small h = rw (le-leb 48 c (omega arith), lt-leb c 57 (omega arith), le-leb 65 c (omega arith), lt-leb c 70 (omega arith), le-leb 97 c (omega arith), lt-leb c 102 h)
+
+-- a character that the test passes is not below the first
+pub between-from : (a z : Char) (c : ℕ) {t : Bool} → t ≡ between a z c → t ≡ true → code a ≤ c
+between-from a z c e h = leb→le (code a) c (both-left (leb (code a) c) (leb c (code z)) (true→T (sym e ∙ h)))

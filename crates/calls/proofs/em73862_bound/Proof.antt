@@ -8,11 +8,11 @@ use Rattle.calls.proofs.em73862_bound.Tie as tie
 bound-requires : tie.Need-bound-requires
 bound-requires c κs = search needs
 
-bound-numbers-requires : tie.Need-bound-numbers-requires
-bound-numbers-requires c κs = search needs
+numbers-of-requires : tie.Need-numbers-of-requires
+numbers-of-requires c κs = search needs
 
 cast-value : tie.Need-cast-value
-cast-value c = omega (arith, c .before .bound-numbers .ensures .value, answer-small (λ at. c .before .before .before .before .before .before .before .shared-slice-known .given at .fits) (c .before .before .before .before .bound .ensures))
+cast-value c = omega (arith, c .before .numbers-of .ensures .value, answer-small (λ at. c .before .before .before .before .before .before .before .shared-slice-known .given at .fits) (c .before .before .before .before .bound .ensures))
 
 same-length : tie.Need-same-length
 same-length c = search needs
@@ -22,4 +22,4 @@ returns c = search needs
 
 pub em73862-bound-spec : {M : Type 1} → statement M
 em73862-bound-spec =
-    tie.close (tie.spec bound-requires bound-numbers-requires cast-value same-length returns)
+    tie.close (tie.spec bound-requires numbers-of-requires cast-value same-length returns)

@@ -2,7 +2,7 @@
 use mathlib.Core.Path.{sym, _∙_}
 use native.Mathlib.Omega.{arith}
 use borrow.Author.Needs.{needs}
-use Rattle.text_words.proofs.Values.{between-from}
+use Rattle.hexadecimal.proofs.Values.{between-from}
 use Rattle.sound_command.proofs.Entering.{digit-fed, other-fed}
 use Rattle.sound_command.proofs.number_fed.Statement.{statement}
 use Rattle.sound_command.proofs.number_fed.Tie as tie
@@ -14,7 +14,7 @@ mul-at-most : tie.Need-mul-at-most
 mul-at-most c = search needs
 
 sub-wide : tie.Need-sub-wide
-sub-wide c = between-from 48 57 (c .before .before .before .args .c) (c .before .before .is-digit .ensures) (c .before .if1 .taken)
+sub-wide c = between-from "0" "9" (c .before .before .before .args .c) (c .before .before .is-digit .ensures) (c .before .if1 .taken)
 
 wide-requires : tie.Need-wide-requires
 wide-requires c κs = search needs
