@@ -71,7 +71,12 @@ same-length-4 c = search needs
 
 returns-3 : tie.Need-returns-3
 unfolding graphOf
-returns-3 c = back-other (c .before .before .before .before .before .before .before .before .before .before .before .before .before .before .before .before .before .before .before .if1 .left) (c .before .before .before .before .before .before .before .before .before .before .before .before .before .before .before .reach .ensures .0) (c .before .before .before .before .before .before .before .before .before .if2 .left) (c .before .before .before .before .before .reach2 .ensures .0)
+returns-3 c =
+    let if1 = c .before .before .before .before .before .before .before .before .before .before .before .before .before .before .before .before .before .before .before .if1 in
+    let reach = c .before .before .before .before .before .before .before .before .before .before .before .before .before .before .before .reach in
+    let if2 = c .before .before .before .before .before .before .before .before .before .if2 in
+    let reach2 = c .before .before .before .before .before .reach2 in
+    back-other (if1 .left) (reach .ensures .0) (if2 .left) (reach2 .ensures .0)
 
 pub comes-back-spec : {M : Type 1} → statement M
 comes-back-spec =

@@ -12,10 +12,17 @@ components-requires : tie.Need-components-requires
 components-requires c κs = (laid-at (sym (c .before .before .before .before .before .before .before .before .before .pre .7)) (c .before .before .before .before .before .before .before .before .before .pre .0), omega (arith, c .before .before .before .before .before .before .before .before .before .pre .1, c .before .before .before .before .before .before .before .before .before .pre .7), c .before .before .before .before .before .before .before .before .before .pre .4 ∙ c .before .before .before .before .before .before .before .before .before .pre .7)
 
 never-rises-requires : tie.Need-never-rises-requires
-never-rises-requires c κs = (laid-at (c .before .before .before .components .kept .1 .1 .1 .1 .0 ∙ c .before .before .before .before .before .before .before .before .before .before .before .before .before .pre .4) (c .before .before .before .before .before .before .before .before .before .before .before .before .before .pre .0), queue-at (c .before .before .before .components .kept .1 .1 .1 .1 .0 ∙ c .before .before .before .before .before .before .before .before .before .before .before .before .before .pre .4) (listed-queue (c .before .before .before .before .before .before .before .before .before .before .before .before .before .pre .3) (c .before .before .before .before .before .before .before .before .before .before .before .before .before .pre .0 .small)))
+never-rises-requires c κs =
+    let pre = c .before .before .before .before .before .before .before .before .before .before .before .before .before .pre in
+    let components = c .before .before .before .components in
+    (laid-at (components .kept .1 .1 .1 .1 .0 ∙ pre .4) (pre .0), queue-at (components .kept .1 .1 .1 .1 .0 ∙ pre .4) (listed-queue (pre .3) (pre .0 .small)))
 
 scan-requires : tie.Need-scan-requires
-scan-requires c κs = (laid-at (c .before .before .before .before .before .before .before .before .before .before .before .before .before .before .before .before .before .pre .5) (c .before .before .before .before .before .before .before .before .before .before .before .before .before .before .before .before .before .pre .0), c .before .before .before .before .before .before .before .before .before .before .before .before .before .before .before .before .before .pre .6 ∙ sym (c .before .before .before .before .before .before .before .before .before .before .before .before .before .before .before .before .before .pre .5), sym (c .before .before .before .before .before .before .before .before .before .before .before .before .before .before .before .before .before .pre .5), c .before .before .before .before .before .before .before .components .kept .1 .1 .1 .1 .0 ∙ c .before .before .before .before .before .before .before .before .before .before .before .before .before .before .before .before .before .pre .4 ∙ sym (c .before .before .before .before .before .before .before .before .before .before .before .before .before .before .before .before .before .pre .5), λ h. steady-of (c .before .before .before .before .before .before .before .before .before .before .before .before .before .before .before .before .before .pre .2) (c .before .before .before .before .before .before .before .before .before .before .before .before .before .before .before .before .before .pre .3) (c .before .before .before .never-rises .ensures h))
+scan-requires c κs =
+    let pre = c .before .before .before .before .before .before .before .before .before .before .before .before .before .before .before .before .before .pre in
+    let components = c .before .before .before .before .before .before .before .components in
+    let never-rises = c .before .before .before .never-rises in
+    (laid-at (pre .5) (pre .0), pre .6 ∙ sym (pre .5), sym (pre .5), components .kept .1 .1 .1 .1 .0 ∙ pre .4 ∙ sym (pre .5), λ h. steady-of (pre .2) (pre .3) (never-rises .ensures h))
 
 same-length : tie.Need-same-length
 same-length c = search needs

@@ -24,7 +24,10 @@ slice-read-r : tie.Need-slice-read-r
 slice-read-r c = successor-lt (c .before .before .before .before .before .before .before .before .before .before .pre .0) (c .before .before .before .before .before .before .before .before .before .before .pre .4) (c .before .successor .ensures)
 
 begin-requires : tie.Need-begin-requires
-begin-requires c κs = (c .before .before .before .before .before .before .before .before .before .before .before .before .before .before .pre .0 .small, c .before .before .before .before .before .before .before .before .before .before .before .before .before .before .pre .1, c .before .before .before .before .before .before .before .before .before .before .before .before .before .before .pre .2, successor-lt (c .before .before .before .before .before .before .before .before .before .before .before .before .before .before .pre .0) (c .before .before .before .before .before .before .before .before .before .before .before .before .before .before .pre .4) (c .before .before .before .before .before .successor .ensures), c .before .before .before .before .before .before .before .before .before .before .before .before .before .before .pre .4, c .before .before .before .before .before .before .before .before .before .before .before .before .before .before .pre .6)
+begin-requires c κs =
+    let pre = c .before .before .before .before .before .before .before .before .before .before .before .before .before .before .pre in
+    let successor = c .before .before .before .before .before .successor in
+    (pre .0 .small, pre .1, pre .2, successor-lt (pre .0) (pre .4) (successor .ensures), pre .4, pre .6)
 
 same-length : tie.Need-same-length
 same-length c = search needs

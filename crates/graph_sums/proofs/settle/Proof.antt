@@ -38,7 +38,11 @@ same-length c = search needs
 
 returns-2 : tie.Need-returns-2
 unfolding graphOf costOf
-returns-2 c = settle-new (c .before .before .before .before .before .before .before .before .before .before .args .kind .now) (c .before .before .before .before .before .before .before .before .before .before .args .next .now) (c .before .before .before .before .before .before .before .before .before .before .args .other .now) (c .before .before .before .before .before .before .before .before .before .before .args .cost .now) _ _ (c .before .before .before .before .before .before .before .before .before .before .pre .1) (c .before .before .before .before .before .before .before .before .before .before .pre .2) (c .before .before .before .before .before .before .before .before .before .before .pre .3) _ (c .before .before .before .if1 .left) (ends (c .before .if2 .taken) refl)
+returns-2 c =
+    let args = c .before .before .before .before .before .before .before .before .before .before .args in
+    let pre = c .before .before .before .before .before .before .before .before .before .before .pre in
+    let if1 = c .before .before .before .if1 in
+    settle-new (args .kind .now) (args .next .now) (args .other .now) (args .cost .now) _ _ (pre .1) (pre .2) (pre .3) _ (if1 .left) (ends (c .before .if2 .taken) refl)
 
 returns-3 : tie.Need-returns-3
 unfolding graphOf
@@ -92,7 +96,9 @@ shared-slice-read-d-2 : tie.Need-shared-slice-read-d-2
 shared-slice-read-d-2 c = search needs
 
 add-d : tie.Need-add-d
-add-d c = sum-fits _ _ _ _ _ _ (c .before .before .before .before .before .before .before .before .before .before .before .before .before .before .before .before .before .before .pre .1) (c .before .before .before .before .before .before .before .before .before .before .before .before .before .before .before .before .before .before .pre .2) (c .before .before .before .before .before .before .before .before .before .before .before .before .before .before .before .before .before .before .pre .3) (c .before .before .before .before .before .before .before .before .before .before .before .before .before .before .before .before .before .before .pre .0) _ (c .before .greater .ensures)
+add-d c =
+    let pre = c .before .before .before .before .before .before .before .before .before .before .before .before .before .before .before .before .before .before .pre in
+    sum-fits _ _ _ _ _ _ (pre .1) (pre .2) (pre .3) (pre .0) _ (c .before .greater .ensures)
 
 mul-d-4 : tie.Need-mul-d-4
 mul-d-4 c = search needs
@@ -105,7 +111,11 @@ same-length-2 c = search needs
 
 returns-6 : tie.Need-returns-6
 unfolding graphOf costOf
-returns-6 c = settle-new (c .before .before .before .before .before .before .before .before .before .before .before .before .before .before .before .before .before .before .args .kind .now) (c .before .before .before .before .before .before .before .before .before .before .before .before .before .before .before .before .before .before .args .next .now) (c .before .before .before .before .before .before .before .before .before .before .before .before .before .before .before .before .before .before .args .other .now) (c .before .before .before .before .before .before .before .before .before .before .before .before .before .before .before .before .before .before .args .cost .now) _ _ (c .before .before .before .before .before .before .before .before .before .before .before .before .before .before .before .before .before .before .pre .1) (c .before .before .before .before .before .before .before .before .before .before .before .before .before .before .before .before .before .before .pre .2) (c .before .before .before .before .before .before .before .before .before .before .before .before .before .before .before .before .before .before .pre .3) _ (c .before .before .before .before .before .before .before .before .before .before .before .if1 .left)
+returns-6 c =
+    let args = c .before .before .before .before .before .before .before .before .before .before .before .before .before .before .before .before .before .before .args in
+    let pre = c .before .before .before .before .before .before .before .before .before .before .before .before .before .before .before .before .before .before .pre in
+    let if1 = c .before .before .before .before .before .before .before .before .before .before .before .if1 in
+    settle-new (args .kind .now) (args .next .now) (args .other .now) (args .cost .now) _ _ (pre .1) (pre .2) (pre .3) _ (if1 .left)
     (forks (c .before .before .before .before .before .before .before .before .if3 .left) (omega (arith, c .before .before .before .before .before .if4 .left)) (omega (arith, c .before .before .if5 .left)) (omega (arith, c .before .greater .ensures)))
 
 pub settle-spec : {M : Type 1} → statement M

@@ -25,7 +25,12 @@ same-length : tie.Need-same-length
 same-length c = search needs
 
 returns : tie.Need-returns
-returns c = bad-line _ _ _ _ (record { core = c .before .before .before .before .before .before .before .before .before .before .pre .1; ram = c .before .before .before .before .before .before .before .before .before .before .pre .2 }) (sym (c .before .before .before .before .before .before .frame-of .ensures) ∙ c .before .before .before .before .enum-told .given .1) (c .before .before .refused .ensures .0) (c .before .before .refused .ensures .1)
+returns c =
+    let pre = c .before .before .before .before .before .before .before .before .before .before .pre in
+    let frame-of = c .before .before .before .before .before .before .frame-of in
+    let enum-told = c .before .before .before .before .enum-told in
+    let refused = c .before .before .refused in
+    bad-line _ _ _ _ (record { core = pre .1; ram = pre .2 }) (sym (frame-of .ensures) ∙ enum-told .given .1) (refused .ensures .0) (refused .ensures .1)
 
 advance-requires : tie.Need-advance-requires
 advance-requires c κs = (c .before .before .before .before .before .before .before .before .pre .1, c .before .before .before .before .before .before .before .before .pre .2, c .before .before .before .before .before .before .before .before .pre .0, seen-in-range _ _ (sym (c .before .before .before .before .frame-of .ensures) ∙ c .before .before .pins .given .1))

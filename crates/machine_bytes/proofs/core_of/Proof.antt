@@ -62,7 +62,15 @@ mode-of-requires : tie.Need-mode-of-requires
 mode-of-requires c κs = c .before .before .before .before .before .before .before .before .before .before .before .before .before .before .before .before .before .before .pre .1 .mode
 
 returns : tie.Need-returns
-returns c = head-laid _ _ _ _ _ _ _ _ (c .before .before .before .before .before .before .before .before .before .before .before .before .before .before .before .before .before .before .before .pre .0) (c .before .before .before .before .before .before .before .registers-of .ensures) (c .before .before .before .timers-of .ensures) (c .before .before .ports-of .ensures) (c .before .before .before .before .from-two2 .ensures) (c .before .before .before .before .before .before .before .before .before .before .before .before .before .before .before .from-two .ensures) (c .before .before .before .before .before .before .before .before .before .before .before .before .before .flag .ensures) (c .mode-of .ensures)
+returns c =
+    let pre = c .before .before .before .before .before .before .before .before .before .before .before .before .before .before .before .before .before .before .before .pre in
+    let from-two = c .before .before .before .before .before .before .before .before .before .before .before .before .before .before .before .from-two in
+    let flag = c .before .before .before .before .before .before .before .before .before .before .before .before .before .flag in
+    let registers-of = c .before .before .before .before .before .before .before .registers-of in
+    let from-two2 = c .before .before .before .before .from-two2 in
+    let timers-of = c .before .before .before .timers-of in
+    let ports-of = c .before .before .ports-of in
+    head-laid _ _ _ _ _ _ _ _ (pre .0) (registers-of .ensures) (timers-of .ensures) (ports-of .ensures) (from-two2 .ensures) (from-two .ensures) (flag .ensures) (c .mode-of .ensures)
 
 pub core-of-spec : {M : Type 1} → statement M
 core-of-spec =

@@ -35,13 +35,25 @@ run-refused-requires-4 : tie.Need-run-refused-requires-4
 run-refused-requires-4 c κs = search needs
 
 returns-4 : tie.Need-returns-4
-returns-4 c = refused-3 _ _ _ _ _ (c .before .before .before .before .before .before .if1 .left) (c .before .before .before .before .before .is-valid .ensures .sound (passes (c .before .before .before .before .before .is-valid .result) (c .before .before .before .before .if2 .left))) (c .before .before .before .if3 .left) (sym (c .before .before .are-frames .ensures) ∙ not-true _ (c .before .if4 .taken)) (c .run-refused4 .ensures)
+returns-4 c =
+    let if1 = c .before .before .before .before .before .before .if1 in
+    let is-valid = c .before .before .before .before .before .is-valid in
+    let if2 = c .before .before .before .before .if2 in
+    let if3 = c .before .before .before .if3 in
+    let are-frames = c .before .before .are-frames in
+    refused-3 _ _ _ _ _ (if1 .left) (is-valid .ensures .sound (passes (is-valid .result) (if2 .left))) (if3 .left) (sym (are-frames .ensures) ∙ not-true _ (c .before .if4 .taken)) (c .run-refused4 .ensures)
 
 run-frames-requires : tie.Need-run-frames-requires
 run-frames-requires c κs = (c .before .before .before .before .is-valid .ensures .sound (passes (c .before .before .before .before .is-valid .result) (c .before .before .before .if2 .left)), c .before .before .before .before .before .if1 .left, c .before .before .if3 .left, sym (c .before .are-frames .ensures) ∙ not-false _ (c .if4 .left))
 
 returns-5 : tie.Need-returns-5
-returns-5 c = ran _ _ _ _ _ (c .before .before .before .before .before .before .if1 .left) (c .before .before .before .before .before .is-valid .ensures .sound (passes (c .before .before .before .before .before .is-valid .result) (c .before .before .before .before .if2 .left))) (c .before .before .before .if3 .left) (sym (c .before .before .are-frames .ensures) ∙ not-false _ (c .before .if4 .left)) (c .run-frames .ensures)
+returns-5 c =
+    let if1 = c .before .before .before .before .before .before .if1 in
+    let is-valid = c .before .before .before .before .before .is-valid in
+    let if2 = c .before .before .before .before .if2 in
+    let if3 = c .before .before .before .if3 in
+    let are-frames = c .before .before .are-frames in
+    ran _ _ _ _ _ (if1 .left) (is-valid .ensures .sound (passes (is-valid .result) (if2 .left))) (if3 .left) (sym (are-frames .ensures) ∙ not-false _ (c .before .if4 .left)) (c .run-frames .ensures)
 
 pub run-spec : {M : Type 1} → statement M
 run-spec =

@@ -24,7 +24,12 @@ show-requires : tie.Need-show-requires
 show-requires c κs = search needs
 
 add-next : tie.Need-add-next
-add-next c = record { fits = goes-on-fits (now (c .before .before .before .before .before .before .before .before .before .before .before .before .before .before .args .part)) (c .before .before .before .before .before .before .before .before .before .before .before .before .before .before .args .from) (c .before .before .before .before .before .before .before .before .before .before .before .before .before .before .args .to) _ (c .before .before .before .before .before .before .before .before .before .before .before .before .before .before .pre .3) (c .before .before .before .before .before .before .before .before .before .before .before .before .before .before .pre .4) (c .before .before .before .before .before .before .feed .ensures .used) (c .before .before .before .before .before .before .before .before .before .before .before .before .before .before .good .1 .1 .1 .0 .0) }
+add-next c =
+    let args = c .before .before .before .before .before .before .before .before .before .before .before .before .before .before .args in
+    let pre = c .before .before .before .before .before .before .before .before .before .before .before .before .before .before .pre in
+    let good = c .before .before .before .before .before .before .before .before .before .before .before .before .before .before .good in
+    let feed = c .before .before .before .before .before .before .feed in
+    record { fits = goes-on-fits (now (args .part)) (args .from) (args .to) _ (pre .3) (pre .4) (feed .ensures .used) (good .1 .1 .1 .0 .0) }
 
 same-length : tie.Need-same-length
 same-length c = search needs
@@ -33,7 +38,11 @@ same-length-2 : tie.Need-same-length-2
 same-length-2 c = search needs
 
 returns : tie.Need-returns
-returns c = (λ e. absurd (true→T (sym e)), goes-on (now (c .before .before .before .before .before .before .before .before .before .before .before .before .before .before .before .args .part)) (c .before .before .before .before .before .before .before .before .before .before .before .before .before .before .before .args .from) (c .before .before .before .before .before .before .before .before .before .before .before .before .before .before .before .args .to) _ (c .before .before .before .before .before .before .before .before .before .before .before .before .before .before .before .pre .3) (c .before .before .before .before .before .before .before .before .before .before .before .before .before .before .before .pre .4) (c .before .before .before .before .before .before .before .feed .ensures .used), c .before .before .before .before .before .before .before .before .before .before .before .before .before .before .before .pre .4)
+returns c =
+    let args = c .before .before .before .before .before .before .before .before .before .before .before .before .before .before .before .args in
+    let pre = c .before .before .before .before .before .before .before .before .before .before .before .before .before .before .before .pre in
+    let feed = c .before .before .before .before .before .before .before .feed in
+    (λ e. absurd (true→T (sym e)), goes-on (now (args .part)) (args .from) (args .to) _ (pre .3) (pre .4) (feed .ensures .used), pre .4)
 
 more-requires : tie.Need-more-requires
 more-requires c κs = (c .before .before .before .before .before .before .before .before .before .before .before .before .before .before .before .before .before .before .before .pre .0, c .before .before .before .before .before .before .before .before .before .before .before .feed .ensures .valid .core, c .before .before .before .before .before .before .before .before .before .before .before .feed .ensures .valid .ram, c .before .before .before .before .before .before .before .before .before .before .before .before .before .before .before .before .before .before .before .pre .3, c .before .before .before .before .before .before .before .before .before .before .before .before .before .before .before .before .before .before .before .pre .4, omega (arith, c .before .before .before .before .before .before .before .before .before .before .before .feed .ensures .wrote .size, c .before .before .before .before .before .before .before .before .before .before .before .before .before .before .before .before .before .before .before .pre .5))
@@ -54,7 +63,11 @@ same-length-6 : tie.Need-same-length-6
 same-length-6 c = search needs
 
 returns-3 : tie.Need-returns-3
-returns-3 c = (λ e. (c .before .before .before .before .before .before .before .before .feed .ensures .valid .core, c .before .before .before .before .before .before .before .before .feed .ensures .valid .ram), goes-on (now (c .before .before .before .before .before .before .before .before .before .before .before .before .before .before .before .before .args .part)) (c .before .before .before .before .before .before .before .before .before .before .before .before .before .before .before .before .args .from) (c .before .before .before .before .before .before .before .before .before .before .before .before .before .before .before .before .args .to) _ (c .before .before .before .before .before .before .before .before .before .before .before .before .before .before .before .before .pre .3) (c .before .before .before .before .before .before .before .before .before .before .before .before .before .before .before .before .pre .4) (c .before .before .before .before .before .before .before .before .feed .ensures .used), c .before .before .before .before .before .before .before .before .before .before .before .before .before .before .before .before .pre .4)
+returns-3 c =
+    let args = c .before .before .before .before .before .before .before .before .before .before .before .before .before .before .before .before .args in
+    let pre = c .before .before .before .before .before .before .before .before .before .before .before .before .before .before .before .before .pre in
+    let feed = c .before .before .before .before .before .before .before .before .feed in
+    (λ e. (feed .ensures .valid .core, feed .ensures .valid .ram), goes-on (now (args .part)) (args .from) (args .to) _ (pre .3) (pre .4) (feed .ensures .used), pre .4)
 
 pub turn-spec : {M : Type 1} → statement M
 turn-spec =

@@ -18,10 +18,20 @@ stopped-requires : tie.Need-stopped-requires
 stopped-requires c κs = search needs
 
 returns : tie.Need-returns
-returns c = rw (c .stopped .ensures) (stops _ _ _ _ _ _ (sees _ _ _ _ (c .before .before .before .before .before .seen .ensures) (sym (c .before .before .before .before .before .before .before .is-running .ensures) ∙ c .before .before .before .before .before .before .if1 .taken)) _ _ (sym (c .before .before .before .before .before .before .before .is-running .ensures) ∙ c .before .before .before .before .before .before .if1 .taken) (c .before .before .before .act .ensures) (c .before .if2 .taken))
+returns c =
+    let is-running = c .before .before .before .before .before .before .before .is-running in
+    let if1 = c .before .before .before .before .before .before .if1 in
+    let seen = c .before .before .before .before .before .seen in
+    let act = c .before .before .before .act in
+    rw (c .stopped .ensures) (stops _ _ _ _ _ _ (sees _ _ _ _ (seen .ensures) (sym (is-running .ensures) ∙ if1 .taken)) _ _ (sym (is-running .ensures) ∙ if1 .taken) (act .ensures) (c .before .if2 .taken))
 
 returns-2 : tie.Need-returns-2
-returns-2 c = acted _ _ _ _ _ _ (sees _ _ _ _ (c .before .before .before .before .seen .ensures) (sym (c .before .before .before .before .before .before .is-running .ensures) ∙ c .before .before .before .before .before .if1 .taken)) _ _ (sym (c .before .before .before .before .before .before .is-running .ensures) ∙ c .before .before .before .before .before .if1 .taken) (c .before .before .act .ensures) (c .if2 .left)
+returns-2 c =
+    let is-running = c .before .before .before .before .before .before .is-running in
+    let if1 = c .before .before .before .before .before .if1 in
+    let seen = c .before .before .before .before .seen in
+    let act = c .before .before .act in
+    acted _ _ _ _ _ _ (sees _ _ _ _ (seen .ensures) (sym (is-running .ensures) ∙ if1 .taken)) _ _ (sym (is-running .ensures) ∙ if1 .taken) (act .ensures) (c .if2 .left)
 
 waited-requires : tie.Need-waited-requires
 waited-requires c κs = search needs

@@ -33,13 +33,30 @@ step-refused-requires-3 : tie.Need-step-refused-requires-3
 step-refused-requires-3 c κs = search needs
 
 returns-3 : tie.Need-returns-3
-returns-3 c = step-refused-3 _ _ _ _ _ (c .before .before .before .before .before .before .if1 .left) (c .before .before .before .before .before .is-valid .ensures .sound (passes (c .before .before .before .before .before .is-valid .result) (c .before .before .before .before .if2 .left))) (sym (c .before .before .before .frame-of .ensures) ∙ c .before .enum-told .given .1) (c .step-refused3 .ensures)
+returns-3 c =
+    let if1 = c .before .before .before .before .before .before .if1 in
+    let is-valid = c .before .before .before .before .before .is-valid in
+    let if2 = c .before .before .before .before .if2 in
+    let frame-of = c .before .before .before .frame-of in
+    step-refused-3 _ _ _ _ _ (if1 .left) (is-valid .ensures .sound (passes (is-valid .result) (if2 .left))) (sym (frame-of .ensures) ∙ c .before .enum-told .given .1) (c .step-refused3 .ensures)
 
 advance-requires : tie.Need-advance-requires
-advance-requires c κs = (c .before .before .before .before .before .before .before .before .is-valid .ensures .sound (passes (c .before .before .before .before .before .before .before .before .is-valid .result) (c .before .before .before .before .before .before .before .if2 .left)) .core, c .before .before .before .before .before .before .before .before .is-valid .ensures .sound (passes (c .before .before .before .before .before .before .before .before .is-valid .result) (c .before .before .before .before .before .before .before .if2 .left)) .ram, c .before .before .before .before .before .before .before .before .before .if1 .left, seen-in-range _ _ (sym (c .before .before .before .before .before .before .frame-of .ensures) ∙ c .before .before .before .before .pins .given .1))
+advance-requires c κs =
+    let if1 = c .before .before .before .before .before .before .before .before .before .if1 in
+    let is-valid = c .before .before .before .before .before .before .before .before .is-valid in
+    let if2 = c .before .before .before .before .before .before .before .if2 in
+    let frame-of = c .before .before .before .before .before .before .frame-of in
+    let pins = c .before .before .before .before .pins in
+    (is-valid .ensures .sound (passes (is-valid .result) (if2 .left)) .core, is-valid .ensures .sound (passes (is-valid .result) (if2 .left)) .ram, if1 .left, seen-in-range _ _ (sym (frame-of .ensures) ∙ pins .given .1))
 
 returns-4 : tie.Need-returns-4
-returns-4 c = step-made _ _ _ _ _ _ _ (c .before .before .before .before .before .before .before .before .before .before .before .if1 .left) (c .before .before .before .before .before .before .before .before .before .before .is-valid .ensures .sound (passes (c .before .before .before .before .before .before .before .before .before .before .is-valid .result) (c .before .before .before .before .before .before .before .before .before .if2 .left))) (sym (c .before .before .before .before .before .before .before .before .frame-of .ensures) ∙ c .before .before .before .before .before .before .pins .given .1) (c .before .advance .ensures)
+returns-4 c =
+    let if1 = c .before .before .before .before .before .before .before .before .before .before .before .if1 in
+    let is-valid = c .before .before .before .before .before .before .before .before .before .before .is-valid in
+    let if2 = c .before .before .before .before .before .before .before .before .before .if2 in
+    let frame-of = c .before .before .before .before .before .before .before .before .frame-of in
+    let pins = c .before .before .before .before .before .before .pins in
+    step-made _ _ _ _ _ _ _ (if1 .left) (is-valid .ensures .sound (passes (is-valid .result) (if2 .left))) (sym (frame-of .ensures) ∙ pins .given .1) (c .before .advance .ensures)
 
 pub step-spec : {M : Type 1} → statement M
 step-spec =

@@ -24,7 +24,13 @@ returns : tie.Need-returns
 returns c = rw (c .stopped .ensures) (none-read _ _ _ _ (sym (c .before .before .before .read-at .ensures) ∙ c .before .enum-told .given .1))
 
 perform-requires : tie.Need-perform-requires
-perform-requires c κs = (record { core = c .before .before .before .before .before .before .pre .0; ram = c .before .before .before .before .before .before .pre .1; insn = read-in-fields (romOf (now (c .before .before .before .before .before .before .args .image))) _ _ (sym (c .before .before .before .before .read-at .ensures) ∙ c .before .before .insn .given .1) (λ at. c .before .before .before .before .before .shared-slice-known .given at .fits) }, c .before .before .before .before .before .before .pre .2)
+perform-requires c κs =
+    let pre = c .before .before .before .before .before .before .pre in
+    let args = c .before .before .before .before .before .before .args in
+    let shared-slice-known = c .before .before .before .before .before .shared-slice-known in
+    let read-at = c .before .before .before .before .read-at in
+    let the-insn = c .before .before .insn in
+    (record { core = pre .0; ram = pre .1; insn = read-in-fields (romOf (now (args .image))) _ _ (sym (read-at .ensures) ∙ the-insn .given .1) (λ at. shared-slice-known .given at .fits) }, pre .2)
 
 returns-2 : tie.Need-returns-2
 returns-2 c = row-read _ _ _ _ _ _ _ (sym (c .before .before .before .before .before .read-at .ensures) ∙ c .before .before .before .insn .given .1) (c .perform .ensures)

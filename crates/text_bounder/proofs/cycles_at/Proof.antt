@@ -30,7 +30,12 @@ cast-result : tie.Need-cast-result
 cast-result c = search needs
 
 returns-2 : tie.Need-returns-2
-returns-2 c = cycles-shown (romOf (now (c .before .before .before .before .before .before .before .args .image))) (c .before .before .before .before .before .before .before .args .at) (λ at. c .before .before .before .before .before .before .shared-slice-known .given at .fits) (sym (c .before .before .before .before .before .read-at .ensures) ∙ c .before .before .before .enum-told .given .1) (c .before .timing .ensures)
+returns-2 c =
+    let args = c .before .before .before .before .before .before .before .args in
+    let shared-slice-known = c .before .before .before .before .before .before .shared-slice-known in
+    let read-at = c .before .before .before .before .before .read-at in
+    let enum-told = c .before .before .before .enum-told in
+    cycles-shown (romOf (now (args .image))) (args .at) (λ at. shared-slice-known .given at .fits) (sym (read-at .ensures) ∙ enum-told .given .1) (c .before .timing .ensures)
 
 pub cycles-at-spec : {M : Type 1} → statement M
 cycles-at-spec =

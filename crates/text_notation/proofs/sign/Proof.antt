@@ -92,7 +92,10 @@ same-length-8 c = search needs
 
 returns-8 : tie.Need-returns-8
 unfolding sign
-returns-8 c = rw (ne-eqb _ _ (c .before .before .before .before .match .rest .0 .0 .0 .0 .0 .0 .1), ne-eqb _ _ (c .before .before .before .before .match .rest .0 .0 .0 .0 .0 .1), ne-eqb _ _ (c .before .before .before .before .match .rest .0 .0 .0 .0 .1), ne-eqb _ _ (c .before .before .before .before .match .rest .0 .0 .0 .1), ne-eqb _ _ (c .before .before .before .before .match .rest .0 .0 .1), ne-eqb _ _ (c .before .before .before .before .match .rest .0 .1), ne-eqb _ _ (c .before .before .before .before .match .rest .1)) (c .before .before .put .ensures)
+returns-8 c =
+    let match = c .before .before .before .before .match in
+    let put = c .before .before .put in
+    rw (ne-eqb _ _ (match .rest .0 .0 .0 .0 .0 .0 .1), ne-eqb _ _ (match .rest .0 .0 .0 .0 .0 .1), ne-eqb _ _ (match .rest .0 .0 .0 .0 .1), ne-eqb _ _ (match .rest .0 .0 .0 .1), ne-eqb _ _ (match .rest .0 .0 .1), ne-eqb _ _ (match .rest .0 .1), ne-eqb _ _ (match .rest .1)) (put .ensures)
 
 pub sign-spec : {M : Type 1} → statement M
 sign-spec =

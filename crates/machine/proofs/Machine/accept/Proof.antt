@@ -25,7 +25,14 @@ push-requires c κs = search needs
 
 returns : tie.Need-returns
 unfolding accepted
-returns c = rw (c .before .before .before .push .ensures, c .before .before .before .before .top-of .ensures, c .before .before .before .before .before .interrupts-of .ensures, c .before .before .before .before .before .before .without-bit .ensures, c .before .before .before .before .before .before .before .weight .ensures, c .before .before .before .before .before .before .before .before .entry-of .ensures)
+returns c =
+    let entry-of = c .before .before .before .before .before .before .before .before .entry-of in
+    let weight = c .before .before .before .before .before .before .before .weight in
+    let without-bit = c .before .before .before .before .before .before .without-bit in
+    let interrupts-of = c .before .before .before .before .before .interrupts-of in
+    let top-of = c .before .before .before .before .top-of in
+    let push = c .before .before .before .push in
+    rw (push .ensures, top-of .ensures, interrupts-of .ensures, without-bit .ensures, weight .ensures, entry-of .ensures)
 
 pub accept-spec : {M : Type 1} → statement M
 accept-spec =

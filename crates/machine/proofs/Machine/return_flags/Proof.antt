@@ -24,7 +24,14 @@ pop-requires c κs = search needs
 
 returns : tie.Need-returns
 unfolding flagsReturned
-returns c = rw (c .before .before .before .before .before .pop .ensures, c .before .before .before .before .before .before .interrupts-of .ensures, c .before .before .before .before .before .before .before .bit-at3 .ensures, c .before .before .before .before .before .before .before .before .bit-at2 .ensures, c .before .before .before .before .before .before .before .before .before .bit-at .ensures, c .before .before .before .before .before .before .before .before .before .before .top-at .ensures .value)
+returns c =
+    let top-at = c .before .before .before .before .before .before .before .before .before .before .top-at in
+    let bit-at = c .before .before .before .before .before .before .before .before .before .bit-at in
+    let bit-at2 = c .before .before .before .before .before .before .before .before .bit-at2 in
+    let bit-at3 = c .before .before .before .before .before .before .before .bit-at3 in
+    let interrupts-of = c .before .before .before .before .before .before .interrupts-of in
+    let pop = c .before .before .before .before .before .pop in
+    rw (pop .ensures, interrupts-of .ensures, bit-at3 .ensures, bit-at2 .ensures, bit-at .ensures, top-at .ensures .value)
 
 pub return-flags-spec : {M : Type 1} → statement M
 return-flags-spec =

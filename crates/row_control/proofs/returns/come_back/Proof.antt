@@ -42,7 +42,14 @@ returns-2 : tie.Need-returns-2
 returns-2 c = rw (c .before .before .before .before .before .match .keys1) (ret _ _ _ _ (rw (← c .before .before .before .before .before .before .before .can-pop .ensures) (not-false _ (c .before .before .before .before .before .before .if1 .left))) (same-given (c .before .before .pop .ensures ∙ ap popped (c .before .before .before .held .ensures)) (c .moved-on .ensures)))
 
 returns-3 : tie.Need-returns-3
-returns-3 c = rw (first (86 ∷ 73 ∷ []) _ (c .before .before .before .before .before .before .before .before .pre .1) (c .before .before .before .before .before .match .rest)) (rti _ _ _ _ (rw (← c .before .before .before .before .before .before .before .can-pop .ensures) (not-false _ (c .before .before .before .before .before .before .if1 .left))) (rw (← c .before .before .before .held2 .ensures, ← c .before .before .return-flags .ensures) (c .moved-on2 .ensures)))
+returns-3 c =
+    let pre = c .before .before .before .before .before .before .before .before .pre in
+    let can-pop = c .before .before .before .before .before .before .before .can-pop in
+    let if1 = c .before .before .before .before .before .before .if1 in
+    let match = c .before .before .before .before .before .match in
+    let held2 = c .before .before .before .held2 in
+    let return-flags = c .before .before .return-flags in
+    rw (first (86 ∷ 73 ∷ []) _ (pre .1) (match .rest)) (rti _ _ _ _ (rw (← can-pop .ensures) (not-false _ (if1 .left))) (rw (← held2 .ensures, ← return-flags .ensures) (c .moved-on2 .ensures)))
 
 pub come-back-spec : {M : Type 1} → statement M
 come-back-spec =

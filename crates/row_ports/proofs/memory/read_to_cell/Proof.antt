@@ -33,7 +33,13 @@ left-requires : tie.Need-left-requires
 left-requires c κs = search needs
 
 returns-3 : tie.Need-returns-3
-returns-3 c = rw (c .left .ensures, c .before .tested .ensures, c .before .before .before .before .poke .ensures, c .before .before .before .before .before .before .before .before .read-port .ensures, c .before .before .before .before .before .before .before .before .before .before .before .at-hl .ensures) (inm _ _ _ _ (rw (← c .before .before .before .before .before .before .before .before .before .before .before .at-hl .ensures) (lt-ltb _ 372 (c .before .before .before .before .before .before .before .if1 .left))) (rw (← c .before .before .before .before .before .before .before .before .read-port .ensures) (eq-eqb _ _ (c .before .before .before .before .before .before .if2 .left))))
+returns-3 c =
+    let at-hl = c .before .before .before .before .before .before .before .before .before .before .before .at-hl in
+    let read-port = c .before .before .before .before .before .before .before .before .read-port in
+    let if1 = c .before .before .before .before .before .before .before .if1 in
+    let if2 = c .before .before .before .before .before .before .if2 in
+    let poke = c .before .before .before .before .poke in
+    rw (c .left .ensures, c .before .tested .ensures, poke .ensures, read-port .ensures, at-hl .ensures) (inm _ _ _ _ (rw (← at-hl .ensures) (lt-ltb _ 372 (if1 .left))) (rw (← read-port .ensures) (eq-eqb _ _ (if2 .left))))
 
 pub read-to-cell-spec : {M : Type 1} → statement M
 read-to-cell-spec =
