@@ -17,18 +17,15 @@ pub const PINS: usize = 26;
 
 const MODE: usize = 27;
 
-// An option and no field of the record: it has a name, and a case sets it.
-pub const SOUND: usize = 28;
-
 // Five characters a name.
-const NAMES: [u8; 145] = *b"\
+const NAMES: [u8; 140] = *b"\
     PC   ACC  HR   LR   CF   ZF   SF   \
     SP   DP   EI   IL   MASK base TA   TB   \
     P4   P8   P9   P16  P23  P24  P25  P27  P28  P29  P30  \
-    pins mode SOUND";
+    pins mode ";
 
 // How many hexadecimal digits a field has.
-const PLACES: [u8; 29] = *b"41111111316163311111111111311";
+const PLACES: [u8; 28] = *b"4111111131616331111111111131";
 
 fn letter(text: &[u8], at: usize, i: usize) -> u8 {
     if at < text.len() {
@@ -41,7 +38,7 @@ fn letter(text: &[u8], at: usize, i: usize) -> u8 {
 
 // Whether a word is the field's name with '=' behind it.
 fn is_named(text: &[u8], at: usize, f: usize) -> bool
-    requires { ⌜ f < 29 ⌝ }
+    requires { ⌜ f < 28 ⌝ }
 {
     for i in 0..5 {
         let c = NAMES[5 * f + i];
@@ -55,20 +52,20 @@ fn is_named(text: &[u8], at: usize, f: usize) -> bool
     letter(text, at, 5) == b'='
 }
 
-// The field that a word names, 29 where it names none.
+// The field that a word names, 28 where it names none.
 pub fn named(text: &[u8], at: usize) -> usize
-    ensures { λ r. ⌜ r ≤ 29 ⌝ }
+    ensures { λ r. ⌜ r ≤ 28 ⌝ }
 {
-    for f in 0..29 {
+    for f in 0..28 {
         if is_named(text, at, f) {
             return f;
         }
     }
-    29
+    28
 }
 
 pub fn say_name(f: usize)
-    requires { ⌜ f < 29 ⌝ }
+    requires { ⌜ f < 28 ⌝ }
 {
     for i in 0..5 {
         let c = NAMES[5 * f + i];
@@ -164,7 +161,7 @@ fn say_mode(v: u32) {
 
 // One digit as it is, more with the paper's h; the latches in binary.
 pub fn say_value(f: usize, v: u32)
-    requires { ⌜ f < 29 ⌝ }
+    requires { ⌜ f < 28 ⌝ }
 {
     if f == IL {
         say_number(2, 6, v);

@@ -5,10 +5,10 @@ use Rattle.values_fields.proofs.named.Statement.{statement}
 use Rattle.values_fields.proofs.named.Tie as tie
 
 abbrev Inv-loop : tie.InvT-loop
-Inv-loop text at f₀ f = f ≤ 29
+Inv-loop text at f₀ f = f ≤ 28
 
 abbrev μ-loop : tie.MeasureT-loop
-μ-loop text at f₀ f = 29 - f
+μ-loop text at f₀ f = 28 - f
 
 loop-holds : tie.Need-loop-holds Inv-loop μ-loop
 loop-holds c = search needs
