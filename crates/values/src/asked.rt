@@ -1,11 +1,6 @@
 // The lines that set a value up and run it.
 use crate::bench::Bench;
 use crate::bench::with_machine;
-use fields::cursor::decimal_at;
-use fields::cursor::hexadecimal_at;
-use fields::cursor::next_word;
-use fields::cursor::word_end;
-use fields::say::say;
 use laws::both;
 use machine::Core;
 use machine::Machine;
@@ -15,6 +10,11 @@ use numbers::ADDRESSES;
 use numbers::IMAGE_BYTES;
 use step::Options;
 use step::step;
+use values_fields::cursor::decimal_at;
+use values_fields::cursor::hexadecimal_at;
+use values_fields::cursor::next_word;
+use values_fields::cursor::word_end;
+use values_fields::say::say;
 ghost use mathlib.Core.Path.{_≡_};
 ghost use Prim.Native.Nat.{_<_, _≤_};
 ghost use lib.ListN.{length};
@@ -147,7 +147,7 @@ pub fn nibble(b: Bench, text: &[u8], from: usize) -> Bench
 fn is_field(text: &[u8], at: usize) -> bool
     requires { ⌜ at < length (now text) ⌝ }
 {
-    if fields::named(text, at) < 28 {
+    if values_fields::named(text, at) < 28 {
         return true;
     }
     say(b"  no field\n");
@@ -163,7 +163,7 @@ pub fn with(b: Bench, text: &[u8], from: usize) -> Bench
     let mut at = next_word(text, from);
     while at < text.len() {
         same = both(is_field(text, at), same);
-        core = fields::settings::with_word(core, text, at);
+        core = values_fields::settings::with_word(core, text, at);
         at = next_word(text, at);
     }
     Bench {

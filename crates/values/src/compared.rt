@@ -2,16 +2,16 @@
 use crate::asked::place_of;
 use crate::bench::Bench;
 use bits::bit_at;
-use fields::cursor::decimal_at;
-use fields::cursor::hexadecimal_at;
-use fields::cursor::next_word;
-use fields::cursor::value_of;
-use fields::say::say;
-use fields::say::say_decimal;
-use fields::say::say_number;
 use laws::both;
 use machine::Core;
 use numbers::IMAGE_BYTES;
+use values_fields::cursor::decimal_at;
+use values_fields::cursor::hexadecimal_at;
+use values_fields::cursor::next_word;
+use values_fields::cursor::value_of;
+use values_fields::say::say;
+use values_fields::say::say_decimal;
+use values_fields::say::say_number;
 ghost use Prim.Native.Nat.{_<_, _≤_};
 ghost use lib.ListN.{length};
 
@@ -39,16 +39,16 @@ pub fn nothing(b: Bench) -> Bench {
 fn field(core: Core, text: &[u8], at: usize) -> bool
     requires { ⌜ at < length (now text) ⌝ }
 {
-    let f = fields::named(text, at);
+    let f = values_fields::named(text, at);
     if 28 <= f {
         say(b" no field");
         return false;
     }
-    let v = fields::value(core, f);
+    let v = values_fields::value(core, f);
     say(b" ");
-    fields::say_name(f);
+    values_fields::say_name(f);
     say(b"=");
-    fields::say_value(f, v);
+    values_fields::say_value(f, v);
     v == value_of(text, at)
 }
 

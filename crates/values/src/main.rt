@@ -16,11 +16,11 @@ mod bench;
 mod compared;
 
 use bench::Bench;
-use fields::cursor::next_line;
-use fields::say::say;
 use libc::STDIN_FILENO;
 use libc::STDOUT_FILENO;
 use numbers::IMAGE_BYTES;
+use values_fields::cursor::next_line;
+use values_fields::say::say;
 ghost use Prim.Native.Nat.{_<_};
 ghost use lib.ListN.{length};
 

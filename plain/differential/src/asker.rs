@@ -54,7 +54,7 @@ impl Asker {
         assert_eq!(proved.len(), calls.len());
         for ((call, plain), proved) in calls.iter().zip(&plain).zip(&proved) {
             self.compared += 1;
-            if let Some(what) = first_difference(call.kind(), plain, proved) {
+            if let Some(what) = first_difference(call.kind(), ("plain", plain), ("proved", proved)) {
                 return Err(Difference { turn: self.compared, kind: call.kind(), inputs: in_short(call), what });
             }
         }
@@ -62,29 +62,32 @@ impl Asker {
     }
 }
 
-fn first_difference(kind: Kind, plain: &Answer, proved: &Answer) -> Option<String> {
-    let differs = |field: &str, plain: u32, proved: u32| Some(format!("{field}: plain {plain}, proved {proved}"));
-    if plain.number != proved.number {
-        return differs("number", plain.number.into(), proved.number.into());
+/// What is not the same in two answers to a call, each with the words for the side that it is from; the second was asked.
+pub fn first_difference(kind: Kind, one: (&str, &Answer), other: (&str, &Answer)) -> Option<String> {
+    let ((one_side, one), (other_side, other)) = (one, other);
+    let differs = |field: &str, one: u32, other: u32| Some(format!("{field}: {one_side} {one}, {other_side} {other}"));
+    if one.number != other.number {
+        return differs("number", one.number.into(), other.number.into());
     }
     for (place, name) in kind.values().iter().enumerate() {
-        if plain.values[place] != proved.values[place] {
-            return differs(name, plain.values[place], proved.values[place]);
+        if one.values[place] != other.values[place] {
+            return differs(name, one.values[place], other.values[place]);
         }
     }
-    if let Some(place) = (0..plain.buffer.len()).find(|place| plain.buffer[*place] != proved.buffer[*place]) {
+    let bytes = one.buffer.iter().zip(&other.buffer).enumerate();
+    if let Some((place, (one, other))) = bytes.into_iter().find(|(_, (one, other))| one != other) {
         let field = match kind {
             Kind::Display => format!("dots, byte {place}"),
             Kind::Bound => format!("path, byte {place}"),
             _ => format!("record, byte {place}, {}", layout::field_at(place)),
         };
-        return differs(&field, plain.buffer[place].into(), proved.buffer[place].into());
+        return differs(&field, (*one).into(), (*other).into());
     }
-    if !proved.others_kept {
-        return Some("the proved call changed bytes outside its buffer".to_string());
+    if !other.others_kept {
+        return Some(format!("the {other_side} call changed bytes outside its buffer"));
     }
     // All that there is was compared: the rest of both answers is the same by its form.
-    (plain != proved).then(|| "the form of the answers".to_string())
+    (one != other).then(|| "the form of the answers".to_string())
 }
 
 /// The inputs in one line: what is needed to see the case. The seed and the turn give the rest.
@@ -146,7 +149,8 @@ mod tests {
     #[test]
     fn every_part_of_an_answer_is_compared() {
         let answer = Answer { number: 0, values: [7, 8, 0, 0], buffer: vec![1; RECORD_BYTES], others_kept: true };
-        assert_eq!(first_difference(Kind::Run, &answer, &answer), None);
+        let difference = |other: &Answer| first_difference(Kind::Run, ("plain", &answer), ("proved", other));
+        assert_eq!(difference(&answer), None);
         type Change = fn(&mut Answer);
         let changes: [(Change, &str); 6] = [
             (|answer| answer.number = 30, "number: plain 0, proved 30"),
@@ -159,7 +163,7 @@ mod tests {
         for (change, what) in changes {
             let mut changed = answer.clone();
             change(&mut changed);
-            assert_eq!(first_difference(Kind::Run, &answer, &changed).as_deref(), Some(what));
+            assert_eq!(difference(&changed).as_deref(), Some(what));
         }
     }
 }

@@ -1,6 +1,7 @@
 //! The record as the 409 bytes of include/em73862.h.
 
 use plain::{Frame, Machine, Mode, Ports, RAM_SIZE};
+use std::ops::Range;
 
 pub const RECORD_BYTES: usize = 409;
 
@@ -94,6 +95,13 @@ pub fn field_at(place: usize) -> String {
     }
 }
 
+/// The bytes of the field that the header calls so; none where it calls none so.
+pub fn places_of(name: &str) -> Option<Range<usize>> {
+    let first = (0..RECORD_BYTES).find(|place| field_at(*place) == name)?;
+    let bytes = (first..RECORD_BYTES).take_while(|place| field_at(*place) == name).count();
+    Some(first..first + bytes)
+}
+
 #[cfg(test)]
 mod tests {
     use super::*;
@@ -154,5 +162,7 @@ mod tests {
         assert_eq!(record[33..37], [15, 15, 1, 0]);
         assert_eq!((field_at(15), field_at(408)), ("P30".to_string(), "RAM 17Fh".to_string()));
         assert_eq!((field_at(37 + 0xF3), field_at(37 + 0xF4)), ("RAM 0F3h".to_string(), "RAM 100h".to_string()));
+        assert_eq!((places_of("P30"), places_of("DP"), places_of("time base")), (Some(15..16), Some(18..20), Some(29..33)));
+        assert_eq!((places_of("RAM 000h"), places_of("RAM 0F4h"), places_of("RAM 17Fh")), (Some(37..38), None, Some(408..409)));
     }
 }

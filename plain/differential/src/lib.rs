@@ -1,5 +1,5 @@
 //! The proved calls of include/em73862.h beside the plain emulator: the same inputs to both, and every number and byte of
-//! the two answers compared.
+//! the two answers compared, with each other and, for the cases of `cases`, with an answer written from the documents.
 
 pub mod ask_bounds;
 pub mod ask_codes;
@@ -7,6 +7,7 @@ pub mod ask_records;
 pub mod ask_steps;
 pub mod asker;
 pub mod calls;
+pub mod cases;
 pub mod chance;
 pub mod coverage;
 pub mod frames;

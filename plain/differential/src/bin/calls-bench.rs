@@ -1,5 +1,5 @@
 //! `calls-bench IMAGE`: times the proved calls and the plain emulator in one process, by turns. IMAGE is that of the steps,
-//! crates/bench/data/loop.bin. On another processor than x86-64 it says only that times there mean nothing.
+//! plain/differential/data/loop.bin. On another processor than x86-64 it says only that times there mean nothing.
 
 #[cfg(not(linked))]
 fn main() {

@@ -1,0 +1,97 @@
+//! Calls whose whole answers were written from the documents: tables, a group of cases a module.
+
+pub mod dots;
+pub mod frames;
+pub mod memory;
+pub mod paths;
+pub mod record;
+pub mod refused_records;
+pub mod rows;
+pub mod sound;
+pub mod waking;
+
+use crate::asker::first_difference;
+use crate::calls::{Answer, Call, Image, MOST_VALUES};
+use crate::plainly;
+use crate::proved::Proved;
+use plain::IMAGE_SIZE;
+
+pub const NOP: u8 = 0x56;
+
+/// Every wake pin enabled.
+pub const ALL_WAKE: u8 = 0xFF;
+
+pub const SOUND_OFF: u8 = 0;
+pub const SOUND_ON: u8 = 1;
+
+/// A call, and all that must come back.
+pub struct Case {
+    pub name: String,
+    pub call: Call,
+    pub expected: Answer,
+}
+
+/// The answer with this number, these values and this buffer, all other bytes kept.
+pub fn answer(number: u8, values: &[u32], buffer: Vec<u8>) -> Answer {
+    let mut all_values = [0; MOST_VALUES];
+    all_values[..values.len()].copy_from_slice(values);
+    Answer { number, values: all_values, buffer, others_kept: true }
+}
+
+/// "A refusal changes no buffer, and sets the numbers that come back to 0."
+pub fn refused(number: u8, call: &Call) -> Answer {
+    answer(number, &[], call.changing().to_vec())
+}
+
+/// An image of NOPs that begins with a code.
+pub fn image_from(code: &[u8]) -> Image {
+    let mut image = vec![NOP; IMAGE_SIZE];
+    image[..code.len()].copy_from_slice(code);
+    image.into()
+}
+
+/// A step at the image's start, or where the record's PC is.
+pub struct Step<'a> {
+    pub code: &'a [u8],
+    pub wake: u8,
+    pub sound: u8,
+    pub before: Vec<u8>,
+    pub frame: &'a [u8; 3],
+}
+
+impl Step<'_> {
+    /// The case in which the step spends cycles and changes fields. "The last frame is always updated."
+    pub fn changes(self, name: &str, cycles: u32, changes: &[(&str, u32)]) -> Case {
+        let after = record::with_last_frame(&record::with(&self.before, changes), self.frame);
+        self.answered(name, answer(0, &[cycles], after))
+    }
+
+    /// The case in which the step stops: the record stays.
+    pub fn stops(self, name: &str, number: u8) -> Case {
+        let before = self.before.clone();
+        self.answered(name, answer(number, &[0], before))
+    }
+
+    fn answered(self, name: &str, expected: Answer) -> Case {
+        let Step { code, wake, sound, before, frame } = self;
+        let call = Call::Step { image: image_from(code), wake, sound, record: before, frame: frame.to_vec() };
+        Case { name: name.to_string(), call, expected }
+    }
+}
+
+/// Puts the cases to the proved calls and to the plain emulator; gives what is not as expected.
+pub fn failures(proved: &mut Proved, cases: &[Case]) -> Vec<String> {
+    let calls: Vec<Call> = cases.iter().map(|case| case.call.clone()).collect();
+    let answers = proved.answers(&calls);
+    assert_eq!(answers.len(), cases.len());
+    let mut failures = Vec::new();
+    for (case, proved) in cases.iter().zip(&answers) {
+        let kind = case.call.kind();
+        let plain = plainly::answer(&case.call);
+        for (side, found) in [("proved", proved), ("plain", &plain)] {
+            let difference = first_difference(kind, ("expected", &case.expected), (side, found));
+            failures.extend(difference.map(|what| format!("{}, {}: {what}", case.name, kind.name())));
+        }
+    }
+    failures
+}

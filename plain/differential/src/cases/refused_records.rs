@@ -1,0 +1,127 @@
+//! Document 01, "The record": one record a field and a tie that is outside its range, which every call that takes a record
+//! refuses with 2; and records that are within it and not fresh.
+
+use super::record::{fresh, with, with_last_frame, HOLD, RUNNING, SLEEP};
+use super::{answer, image_from, refused, Case, ALL_WAKE, NOP, SOUND_OFF};
+use crate::calls::Call;
+use plain::numbers::RECORD_RANGE;
+use plain::{DISPLAY_SIZE, RAM_SIZE};
+
+/// The fields of the fresh record that are another: numbers just over their range, IL4, and a time base that is no multiple of 8.
+const OVER: [(&str, u32); 16] = [
+    ("ACC", 16),
+    ("HR", 16),
+    ("LR", 16),
+    ("PC", 8192),
+    ("SP", 16),
+    ("DP", 4096),
+    ("mask", 16),
+    ("IL", 0b01_0000),
+    ("IL", 0b100_0000),
+    ("time base", 4),
+    ("time base", 1 << 22),
+    ("TA", 4096),
+    ("TB", 4096),
+    ("P0 of the last frame", 16),
+    ("P8 of the last frame", 16),
+    ("P4.0 of the last frame", 2),
+];
+
+const LATCHES: [&str; 11] = ["P4", "P8", "P9", "P16", "P23", "P24", "P25", "P27", "P28", "P29", "P30"];
+
+/// "P25 and P27 never hold 10xx."
+const RESERVED: [(&str, u32); 4] = [("P25", 8), ("P25", 11), ("P27", 8), ("P27", 11)];
+
+/// Of RAM's two parts the first and the last nibbles.
+const RAM_ENDS: [&str; 4] = ["RAM 000h", "RAM 0F3h", "RAM 100h", "RAM 17Fh"];
+
+/// The mode and P16: "Sleep needs P16 bit 2 set and bits 1..0 not 3; hold needs bit 2 set and bits 1..0 = 3."
+const UNTIED: [(u32, u32); 5] = [(SLEEP, 7), (SLEEP, 0), (SLEEP, 8), (HOLD, 4), (HOLD, 3)];
+const TIED: [(u32, u32); 2] = [(SLEEP, 6), (HOLD, 7)];
+
+const FRAME: &[u8; 3] = b"FF1";
+
+pub fn cases() -> Vec<Case> {
+    let mut cases = Vec::new();
+    let latches = LATCHES.map(|latch| (latch, 16));
+    let nibbles = RAM_ENDS.map(|nibble| (nibble, 16));
+    for field in [&OVER[..], &latches, &RESERVED, &nibbles].concat() {
+        cases.extend(all_refuse(&format!("{} {}", field.0, field.1), &with(&fresh(), &[field])));
+    }
+    for (mode, p16) in UNTIED {
+        cases.extend(all_refuse(&format!("mode {mode}, P16 {p16}"), &in_mode(mode, p16)));
+    }
+    for (mode, p16) in TIED {
+        cases.extend(all_take(&format!("mode {mode}, P16 {p16}"), &still(&in_mode(mode, p16))));
+    }
+    cases.extend(all_take("greatest record", &greatest()));
+    cases
+}
+
+fn in_mode(mode: u32, p16: u32) -> Vec<u8> {
+    with(&fresh(), &[("mode", mode), ("P16", p16)])
+}
+
+/// The five calls that take a record: step, run, reset, display, is_valid.
+fn calls(record: &[u8]) -> [Call; 5] {
+    let (image, record) = (image_from(&[NOP]), record.to_vec());
+    let (wake, sound) = (ALL_WAKE, SOUND_OFF);
+    [
+        Call::Step { image: image.clone(), wake, sound, record: record.clone(), frame: FRAME.to_vec() },
+        Call::Run { image, wake, sound, record: record.clone(), frames: FRAME.to_vec() },
+        Call::Reset { record: record.clone() },
+        Call::Display { record: record.clone(), dots: vec![0xAA; DISPLAY_SIZE] },
+        Call::IsValid { record },
+    ]
+}
+
+fn all_refuse(name: &str, record: &[u8]) -> Vec<Case> {
+    let case = |call: Call| Case { name: name.to_string(), expected: refused(RECORD_RANGE, &call), call };
+    calls(record).into_iter().map(case).collect()
+}
+
+/// A record, the cycles of a step with the frame FF1 and the record that it leaves, the one that reset leaves, and the dots.
+struct Taken {
+    record: Vec<u8>,
+    cycles: u32,
+    stepped: Vec<u8>,
+    reset: Vec<u8>,
+    dots: Vec<u8>,
+}
+
+fn all_take(name: &str, taken: &Taken) -> Vec<Case> {
+    let cycles = taken.cycles;
+    let answers = [
+        answer(0, &[cycles], taken.stepped.clone()),
+        answer(0, &[1, cycles], taken.stepped.clone()),
+        answer(0, &[], taken.reset.clone()),
+        answer(0, &[], taken.dots.clone()),
+        answer(0, &[], taken.record.clone()),
+    ];
+    let case = |(call, expected)| Case { name: name.to_string(), call, expected };
+    calls(&taken.record).into_iter().zip(answers).map(case).collect()
+}
+
+/// The fresh record but for its mode and P16: no edge, so the step changes nothing.
+fn still(record: &[u8]) -> Taken {
+    let record = record.to_vec();
+    Taken { stepped: record.clone(), record, cycles: 0, reset: fresh(), dots: vec![0; DISPLAY_SIZE] }
+}
+
+/// The record whose every number is the greatest of its range. EI is clear, so that an instruction runs: with SP 15 an interrupt
+/// would stop. The NOP passes the end of PC, of the time base and of both timers, whose latches are set.
+fn greatest() -> Taken {
+    let kept = [("ACC", 15), ("HR", 15), ("LR", 15), ("CF", 1), ("ZF", 1), ("SP", 15), ("DP", 4095)];
+    let counts = [("PC", 8191), ("time base", (1 << 22) - 8), ("TA", 4095), ("TB", 4095)];
+    let others = [("SF", 0), ("EI", 0), ("IL", 0b10_1111), ("mask", 15), ("mode", RUNNING)];
+    let latches = LATCHES.map(|latch| (latch, 15));
+    let full_ram = |record: &[u8]| [&record[..record.len() - RAM_SIZE], &[15; RAM_SIZE][..]].concat();
+    let record = with(&full_ram(&with_last_frame(&fresh(), FRAME)), &[&kept[..], &counts, &others, &latches].concat());
+    Taken {
+        stepped: with(&record, &counts.map(|(count, _)| (count, 0))),
+        cycles: 1,
+        reset: full_ram(&with(&fresh(), &kept)),
+        dots: vec![0xFF; DISPLAY_SIZE],
+        record,
+    }
+}
