@@ -1,6 +1,6 @@
 /* The base calls of Bakethrush on numbers and byte buffers.
  *
- * Every call answers document 01's number: 0, a refusal or a stop. A refusal changes no buffer, and sets the numbers
+ * Every call answers document 01's number: 0, a refusal or a stop; beside each stand those that it can give, in their order. A refusal changes no buffer, and sets the numbers
  * that come back to 0, but for the value that comes with 21, 22 and 23.
  * A slice is a pointer and a length; a slice of no bytes may have any pointer. No two arguments of a call overlap.
  * crates/calls/specs/Calls.antt says what each call answers, and crates/machine_bytes/specs/Layout.antt the bytes of a record.
@@ -24,28 +24,65 @@
 #include <stddef.h>
 #include <stdint.h>
 
+#define EM73862_IMAGE_BYTES 8192
 #define EM73862_RECORD_BYTES 409
+#define EM73862_FRAME_CHARACTERS 3
+#define EM73862_MOST_FRAMES 65536
+#define EM73862_DISPLAY_BYTES 40
+/* A path buffer of this length is never too short. */
+#define EM73862_LONGEST_PATH_BYTES 32768
 
+/* What comes back: refusals. */
+#define EM73862_OTHER_IMAGE_SIZE 1
+#define EM73862_OUTSIDE_RANGES 2
+#define EM73862_NO_FRAME 3
+#define EM73862_TOO_MANY_FRAMES 4
+#define EM73862_SHORT_DISPLAY 5
+#define EM73862_NOT_WRITABLE 11
+#define EM73862_ADDRESS_RANGE 20
+#define EM73862_EXCLUDED_REACHABLE 21
+#define EM73862_REPETITION_REACHABLE 22
+#define EM73862_SHORT_PATH 23
+/* Stops; the reader gives 30 too. */
+#define EM73862_UNASSIGNED 30
+#define EM73862_ABSENT_RAM 31
+#define EM73862_STACK_LEVEL 32
+#define EM73862_ABSENT_PORT 33
+#define EM73862_RESERVED_10XX 34
+
+#ifdef __cplusplus
+extern "C" {
+#endif
+
+/* The fresh record. 2 where the buffer is not a record's length. */
 uint8_t em73862_fresh(uint8_t *record, size_t record_length);
+/* 2. */
 uint8_t em73862_reset(uint8_t *record, size_t record_length);
 /* 0 where the buffer holds a record within its ranges, else 2. */
 uint8_t em73862_is_valid(const uint8_t *record, size_t record_length);
+/* One step. 1, 2, 3; stops 30 to 34, which leave the record. */
 uint8_t em73862_step(const uint8_t *image, size_t image_length, uint8_t wake, uint8_t sound,
                      uint8_t *record, size_t record_length,
                      const uint8_t *frame, size_t frame_length, uint32_t *cycles);
+/* One step a frame, up to a stop. 1, 2, 4, 3; stops 30 to 34. */
 uint8_t em73862_run(const uint8_t *image, size_t image_length, uint8_t wake, uint8_t sound,
                     uint8_t *record, size_t record_length,
                     const uint8_t *frames, size_t frames_length, uint32_t *steps, uint32_t *cycles);
-/* The first 40 bytes of dots; later bytes stay. */
+/* The first 40 bytes of dots; later bytes stay. 2, 5. */
 uint8_t em73862_display(const uint8_t *record, size_t record_length, uint8_t *dots, size_t dots_length);
-/* row 1 to 107; a and b are the operands, 0 where the row has none: a is x, k, the address, the bit, r or n; b is y or p. */
+/* row 1 to 107; a and b are the operands, 0 where the row has none: a is x, k, the address, the bit, r or n; b is y or p.
+ * 1, 20, 30. */
 uint8_t em73862_read(const uint8_t *image, size_t image_length, uint32_t address,
                      uint8_t *row, uint16_t *a, uint8_t *b);
-/* length bytes of b0, b1, b2; the others are 0. */
+/* length bytes of b0, b1, b2; the others are 0. 11. */
 uint8_t em73862_write(uint8_t row, uint16_t a, uint8_t b,
                       uint8_t *length, uint8_t *b0, uint8_t *b1, uint8_t *b2);
 /* path: the addresses of the longest path, two bytes each, low first; later bytes stay.
- * value: N where the answer is 0; the lowest address for 21 and 22; the bytes needed for 23; else 0. */
+ * value: N where the answer is 0; the lowest address for 21 and 22; the bytes needed for 23; else 0. 1, 20, 21, 22, 23. */
 uint8_t em73862_bound(const uint8_t *image, size_t image_length, uint32_t address,
                       uint8_t *path, size_t path_length, uint32_t *value);
+
+#ifdef __cplusplus
+}
+#endif
 #endif
