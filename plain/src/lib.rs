@@ -10,6 +10,7 @@ mod ports;
 mod rows;
 mod stack;
 mod step;
+mod surroundings;
 mod worst;
 
 pub mod numbers;

@@ -1,10 +1,11 @@
 //! One step, as document 01's "One step" numbers its phases.
 
 use crate::code::{fetch, whole_image};
-use crate::execute::{execute, Surroundings};
+use crate::execute::execute;
 use crate::frame::{Frame, FRAME_LENGTH};
 use crate::machine::{is_valid, Machine, Mode, Options, TIME_BASE_SIZE};
 use crate::numbers;
+use crate::surroundings::Surroundings;
 
 const IL5: u8 = 1 << 5;
 const IL3: u8 = 1 << 3;
