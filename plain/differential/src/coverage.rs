@@ -89,12 +89,13 @@ pub struct Coverage {
     longest_runs: u64,
 }
 
-impl Coverage {
-    #[allow(clippy::new_without_default)]
-    pub fn new() -> Coverage {
+impl Default for Coverage {
+    fn default() -> Coverage {
         Coverage { answers: [[0; NUMBERS]; 9], rows: [0; 108], events: [0; EVENTS.len()], longest_runs: 0 }
     }
+}
 
+impl Coverage {
     pub fn count(&mut self, call: &Call, answer: &Answer) {
         self.answers[call.kind() as usize][answer.number as usize] += 1;
         if call.kind() == Kind::Run && answer.values[0] as usize == MOST_FRAMES {

@@ -76,6 +76,7 @@ mod linked {
         let proved = || {
             for _ in 0..RUNS {
                 let (mut steps, mut cycles) = (0, 0);
+                // SAFETY: each pointer is that of a whole slice with its length beside it, or of a number.
                 let number = unsafe {
                     header::em73862_run(
                         image.as_ptr(),
@@ -109,6 +110,7 @@ mod linked {
         let mut proved = || {
             for _ in 0..STEPS {
                 let mut cycles = 0;
+                // SAFETY: each pointer is that of a whole slice with its length beside it, or of a number.
                 let number = unsafe {
                     header::em73862_step(
                         image.as_ptr(),
@@ -177,6 +179,7 @@ mod linked {
         let proved = || {
             for _ in 0..count {
                 let mut value = 0;
+                // SAFETY: each pointer is that of a whole slice with its length beside it, or of a number.
                 let number = unsafe {
                     header::em73862_bound(image.as_ptr(), image.len(), address, path.as_mut_ptr(), path.len(), &mut value)
                 };
@@ -208,6 +211,7 @@ mod linked {
         let proved = || {
             for address in (0..PASSES).flat_map(|_| 0..IMAGE_SIZE as u32) {
                 let (mut row, mut a, mut b) = (0, 0, 0);
+                // SAFETY: each pointer is that of a whole slice with its length beside it, or of a number.
                 black_box(unsafe { header::em73862_read(image.as_ptr(), image.len(), address, &mut row, &mut a, &mut b) });
             }
         };
@@ -226,6 +230,7 @@ mod linked {
         let proved = || {
             for (row, a, b) in (0..PASSES).flat_map(|_| &slots) {
                 let [mut length, mut b0, mut b1, mut b2] = [0; 4];
+                // SAFETY: each pointer is that of a number.
                 black_box(unsafe { header::em73862_write(*row, *a, *b, &mut length, &mut b0, &mut b1, &mut b2) });
             }
         };

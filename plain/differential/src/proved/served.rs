@@ -24,9 +24,9 @@ pub struct Proved {
     image: Option<Image>,
 }
 
-impl Proved {
-    #[allow(clippy::new_without_default)]
-    pub fn new() -> Proved {
+impl Default for Proved {
+    /// Starts the server.
+    fn default() -> Proved {
         let here = Path::new(env!("CARGO_MANIFEST_DIR"));
         let program = here.join("../target/server/em73862-server");
         assert!(program.exists(), "there is no {}: tools/build-server makes it", program.display());
@@ -41,7 +41,9 @@ impl Proved {
         let answers = BufReader::with_capacity(BUFFER, server.stdout.take().expect("the server's output is a pipe"));
         Proved { server, requests, answers, image: None }
     }
+}
 
+impl Proved {
     pub fn answers(&mut self, calls: &[Call]) -> Vec<Answer> {
         let Proved { requests, answers, image, .. } = self;
         let requests = requests.as_mut().expect("the server's input is a pipe");
