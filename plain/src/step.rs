@@ -14,13 +14,7 @@ const IL1: u8 = 1 << 1;
 const IL0: u8 = 1 << 0;
 
 /// The interrupt sources, first to last: latch and entry.
-const SOURCES: [(u8, u16); 5] = [
-    (IL5, 0x002),
-    (IL3, 0x006),
-    (IL2, 0x008),
-    (IL1, 0x00A),
-    (IL0, 0x00C),
-];
+const SOURCES: [(u8, u16); 5] = [(IL5, 0x002), (IL3, 0x006), (IL2, 0x008), (IL1, 0x00A), (IL0, 0x00C)];
 
 const ACCEPTANCE_CYCLES: u32 = 2;
 

@@ -156,7 +156,8 @@ fn ask(call: &Call, buffer: &mut [u8]) -> (u8, [u32; MOST_VALUES]) {
         Call::Read { image, address } => {
             let (mut row, mut a, mut b) = (UNSET, UNSET_16, UNSET);
             // SAFETY: each pointer is that of a whole slice with its length beside it, or of a number; only `buffer` and the numbers change.
-            let number = unsafe { header::em73862_read(image.as_ptr(), image.len(), *address, &mut row, &mut a, &mut b) };
+            let number =
+                unsafe { header::em73862_read(image.as_ptr(), image.len(), *address, &mut row, &mut a, &mut b) };
             (number, [row as u32, a as u32, b as u32, 0])
         }
         Call::Write { row, a, b } => {

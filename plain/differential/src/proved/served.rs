@@ -80,7 +80,13 @@ fn send(requests: &mut impl Write, held: &mut Option<Image>, calls: &[Call]) -> 
 }
 
 /// server.c's `struct request`, then the two buffers.
-fn send_request(requests: &mut impl Write, code: u32, numbers: [u32; 3], changing: &[u8], steady: &[u8]) -> io::Result<()> {
+fn send_request(
+    requests: &mut impl Write,
+    code: u32,
+    numbers: [u32; 3],
+    changing: &[u8],
+    steady: &[u8],
+) -> io::Result<()> {
     let [first, second, third] = numbers;
     let words = [code, first, second, third, changing.len() as u32, steady.len() as u32];
     let mut head = [0; 24];
