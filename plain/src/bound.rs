@@ -369,16 +369,8 @@ mod tests {
 
     #[test]
     fn excluded_rows() {
-        let excluded: [&[u8]; 8] = [
-            &[0x40, 0x00],
-            &[0xE1],
-            &[0x4F],
-            &[0x54],
-            &[0x63, 0x40],
-            &[0x6F, 0x10],
-            &[0x6F, 0x90],
-            &[0x6E, 0x00],
-        ];
+        let excluded: [&[u8]; 8] =
+            [&[0x40, 0x00], &[0xE1], &[0x4F], &[0x54], &[0x63, 0x40], &[0x6F, 0x10], &[0x6F, 0x90], &[0x6E, 0x00]];
         for code in excluded {
             let image = image_with(&[(0x100, &[0x56]), (0x101, code), (0x103, &[0x4D])]);
             assert_eq!(bounded(&image, 0x100), Err(Bound::Excluded(0x101)), "{code:02X?}");

@@ -2,17 +2,10 @@
 //! stopped row has changed nothing.
 
 use crate::code::{Decoded, Image};
-use crate::frame::Frame;
-use crate::machine::{Machine, Options};
+use crate::machine::Machine;
 use crate::numbers;
 use crate::rows::Row;
-
-/// Everything a row looks at besides the record.
-pub struct Surroundings<'a> {
-    pub image: &'a Image,
-    pub options: Options,
-    pub frame: Frame,
-}
+use crate::surroundings::Surroundings;
 
 /// Executes one row: changes the record, or gives the number of the stop.
 pub fn execute(m: &mut Machine, around: &Surroundings, decoded: Decoded) -> Result<(), u8> {

@@ -18,11 +18,7 @@ impl Frame {
     /// The frame that these characters are, if they are one and nothing more.
     pub fn parse(text: &[u8]) -> Option<Frame> {
         let [p0, p8, p4_0] = text else { return None };
-        let frame = Frame {
-            p0: hexadecimal_digit(*p0)?,
-            p8: hexadecimal_digit(*p8)?,
-            p4_0: hexadecimal_digit(*p4_0)?,
-        };
+        let frame = Frame { p0: hexadecimal_digit(*p0)?, p8: hexadecimal_digit(*p8)?, p4_0: hexadecimal_digit(*p4_0)? };
         frame.is_valid().then_some(frame)
     }
 

@@ -11,6 +11,7 @@ mod rows;
 mod sound;
 mod stack;
 mod step;
+mod surroundings;
 mod worst;
 
 pub mod numbers;

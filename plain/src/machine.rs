@@ -87,19 +87,7 @@ pub fn fresh() -> Machine {
         il: 0,
         time_base: 0,
         ram: [0; RAM_SIZE],
-        ports: Ports {
-            p4: 15,
-            p8: 15,
-            p9: 0,
-            p16: 0,
-            p23: 15,
-            p24: 15,
-            p25: 0,
-            p27: 0,
-            p28: 0,
-            p29: 0,
-            p30: 0,
-        },
+        ports: Ports { p4: 15, p8: 15, p9: 0, p16: 0, p23: 15, p24: 15, p25: 0, p27: 0, p28: 0, p29: 0, p30: 0 },
         last_frame: Frame::IDLE,
         mode: Mode::Running,
     }
@@ -161,13 +149,9 @@ pub fn is_reserved_setting(value: u8) -> bool {
 
 impl Ports {
     fn are_valid(&self) -> bool {
-        let latches = [
-            self.p4, self.p8, self.p9, self.p16, self.p23, self.p24, self.p25, self.p27,
-            self.p28, self.p29, self.p30,
-        ];
-        latches.iter().all(|latch| *latch < 16)
-            && !is_reserved_setting(self.p25)
-            && !is_reserved_setting(self.p27)
+        let latches =
+            [self.p4, self.p8, self.p9, self.p16, self.p23, self.p24, self.p25, self.p27, self.p28, self.p29, self.p30];
+        latches.iter().all(|latch| *latch < 16) && !is_reserved_setting(self.p25) && !is_reserved_setting(self.p27)
     }
 }
 

@@ -1,8 +1,8 @@
 //! The ports.
 
-use crate::execute::Surroundings;
 use crate::machine::{is_reserved_setting, mode_entered_by, Machine, Mode};
 use crate::numbers;
+use crate::surroundings::Surroundings;
 
 impl Machine {
     /// "Readable ports: 0, 4, 8, 9." Reading or testing P4 or P8 sets the latch to 15.

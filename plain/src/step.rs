@@ -1,10 +1,11 @@
 //! One step, as document 01's "One step" numbers its phases.
 
 use crate::code::{fetch, whole_image};
-use crate::execute::{execute, Surroundings};
+use crate::execute::execute;
 use crate::frame::{Frame, FRAME_LENGTH};
 use crate::machine::{is_valid, Machine, Mode, Options, TIME_BASE_SIZE};
 use crate::numbers;
+use crate::surroundings::Surroundings;
 
 const IL5: u8 = 1 << 5;
 const IL3: u8 = 1 << 3;
@@ -13,13 +14,7 @@ const IL1: u8 = 1 << 1;
 const IL0: u8 = 1 << 0;
 
 /// The interrupt sources, first to last: latch and entry.
-const SOURCES: [(u8, u16); 5] = [
-    (IL5, 0x002),
-    (IL3, 0x006),
-    (IL2, 0x008),
-    (IL1, 0x00A),
-    (IL0, 0x00C),
-];
+const SOURCES: [(u8, u16); 5] = [(IL5, 0x002), (IL3, 0x006), (IL2, 0x008), (IL1, 0x00A), (IL0, 0x00C)];
 
 const ACCEPTANCE_CYCLES: u32 = 2;
 

@@ -115,14 +115,8 @@ fn dots_17_and_19() {
 #[test]
 fn the_listing_of_document_01() {
     let image = image_of(&[0xD0, 0xD3, 0x6E, 0x55, 0x6E, 0x5D, 0x6E, 0x5E, 0x08]);
-    let expected = [
-        (1, 0, 0b011, 1),
-        (2, 3, 0b001, 1),
-        (4, 8, 0b001, 2),
-        (6, 5, 0b000, 2),
-        (8, 3, 0b000, 2),
-        (9, 3, 0b001, 1),
-    ];
+    let expected =
+        [(1, 0, 0b011, 1), (2, 3, 0b001, 1), (4, 8, 0b001, 2), (6, 5, 0b000, 2), (8, 3, 0b000, 2), (9, 3, 0b001, 1)];
     let mut machine = fresh();
     for (pc, acc, flags, cycles) in expected {
         let stepped = step(&image, OPTIONS, &machine, b"FF1").unwrap();

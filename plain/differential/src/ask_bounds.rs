@@ -92,8 +92,11 @@ fn handler(chance: &mut Chance, codes: &Codes, start: usize) -> Image {
             let row = chance.pick(&[Row::Ret, Row::Scall, Row::Lcall, Row::Eicil]);
             put(&mut image, &mut at, codes.any_of(chance, row));
         } else if chance.one_in(4) {
-            let target =
-                if chance.one_in(backward_one_in) { at.wrapping_sub(chance.below(12)) } else { at + 1 + chance.below(24) };
+            let target = if chance.one_in(backward_one_in) {
+                at.wrapping_sub(chance.below(12))
+            } else {
+                at + 1 + chance.below(24)
+            };
             let code = branch(chance, at % IMAGE_SIZE, target % IMAGE_SIZE);
             put(&mut image, &mut at, &code);
         } else if !has_its_own_turn(row) {

@@ -26,7 +26,8 @@ pub fn reads(asker: &mut Asker, chance: &mut Chance, codes: &Codes, wanted: u64)
 /// All 65,536 pairs of a first and a second byte.
 fn every_pair(asker: &mut Asker) -> Result<(), Difference> {
     for sixteen in 0..16 {
-        let image: Image = (0..IMAGE_SIZE / 2).flat_map(|pair| [(16 * sixteen + pair / 256) as u8, pair as u8]).collect();
+        let image: Image =
+            (0..IMAGE_SIZE / 2).flat_map(|pair| [(16 * sixteen + pair / 256) as u8, pair as u8]).collect();
         for address in (0..IMAGE_SIZE as u32).step_by(2) {
             asker.ask(Call::Read { image: image.clone(), address })?;
         }
@@ -69,8 +70,8 @@ fn a_row(chance: &mut Chance) -> (u8, u16, u8) {
 /// Every row number, of the sheet or not, with operands at, below and over the ends of every field.
 fn every_row(asker: &mut Asker) -> Result<(), Difference> {
     const A: [u16; 23] = [
-        0, 1, 3, 4, 5, 15, 16, 31, 63, 64, 0xF0, 0xF3, 0xF4, 0xF7, 0xFB, 0xFF, 0x100, 0x7FF, 0x800, 0xFFF, 0x1FFF, 0x2000,
-        0xFFFF,
+        0, 1, 3, 4, 5, 15, 16, 31, 63, 64, 0xF0, 0xF3, 0xF4, 0xF7, 0xFB, 0xFF, 0x100, 0x7FF, 0x800, 0xFFF, 0x1FFF,
+        0x2000, 0xFFFF,
     ];
     const B: [u8; 10] = [0, 1, 3, 4, 15, 16, 17, 31, 32, 255];
     for row in 0..=255 {

@@ -31,7 +31,7 @@ pub struct Asker {
 
 impl Asker {
     pub fn new(proved: Proved) -> Asker {
-        Asker { proved, queue: Vec::new(), queued_bytes: 0, compared: 0, coverage: Coverage::new() }
+        Asker { proved, queue: Vec::new(), queued_bytes: 0, compared: 0, coverage: Coverage::default() }
     }
 
     /// Puts a call into the queue and gives the plain answer, so that a walk can go on from it.

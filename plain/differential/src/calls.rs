@@ -117,9 +117,10 @@ impl Call {
 
     pub fn image(&self) -> Option<&Image> {
         match self {
-            Call::Step { image, .. } | Call::Run { image, .. } | Call::Read { image, .. } | Call::Bound { image, .. } => {
-                Some(image)
-            }
+            Call::Step { image, .. }
+            | Call::Run { image, .. }
+            | Call::Read { image, .. }
+            | Call::Bound { image, .. } => Some(image),
             _ => None,
         }
     }

@@ -20,8 +20,18 @@ const AT_LEAST: [(Kind, &[(u8, u64)]); 9] = [
 ];
 const STEP_AT_LEAST: [(u8, u64); 9] =
     [(0, 400_000), (1, 5_000), (2, 5_000), (3, 5_000), (30, 3_000), (31, 5_000), (32, 5_000), (33, 5_000), (34, 500)];
-const RUN_AT_LEAST: [(u8, u64); 10] =
-    [(0, 20_000), (1, 300), (2, 1_000), (3, 3_000), (4, 50), (30, 1_000), (31, 1_000), (32, 1_000), (33, 1_000), (34, 300)];
+const RUN_AT_LEAST: [(u8, u64); 10] = [
+    (0, 20_000),
+    (1, 300),
+    (2, 1_000),
+    (3, 3_000),
+    (4, 50),
+    (30, 1_000),
+    (31, 1_000),
+    (32, 1_000),
+    (33, 1_000),
+    (34, 300),
+];
 
 /// Each row is executed so often at least by single steps that do not stop.
 const EACH_ROW: u64 = 300;
@@ -89,12 +99,13 @@ pub struct Coverage {
     longest_runs: u64,
 }
 
-impl Coverage {
-    #[allow(clippy::new_without_default)]
-    pub fn new() -> Coverage {
+impl Default for Coverage {
+    fn default() -> Coverage {
         Coverage { answers: [[0; NUMBERS]; 9], rows: [0; 108], events: [0; EVENTS.len()], longest_runs: 0 }
     }
+}
 
+impl Coverage {
     pub fn count(&mut self, call: &Call, answer: &Answer) {
         self.answers[call.kind() as usize][answer.number as usize] += 1;
         if call.kind() == Kind::Run && answer.values[0] as usize == MOST_FRAMES {

@@ -17,9 +17,9 @@ pub const MODE: usize = 36;
 pub const RAM: usize = 37;
 
 const NAMES: [&str; RAM] = [
-    "ACC", "HR", "LR", "SP", "mask", "P4", "P8", "P9", "P16", "P23", "P24", "P25", "P27", "P28", "P29", "P30", "PC", "PC",
-    "DP", "DP", "TA", "TA", "TB", "TB", "CF", "ZF", "SF", "EI", "IL", "time base", "time base", "time base", "time base",
-    "P0 of the last frame", "P8 of the last frame", "P4.0 of the last frame", "mode",
+    "ACC", "HR", "LR", "SP", "mask", "P4", "P8", "P9", "P16", "P23", "P24", "P25", "P27", "P28", "P29", "P30", "PC",
+    "PC", "DP", "DP", "TA", "TA", "TB", "TB", "CF", "ZF", "SF", "EI", "IL", "time base", "time base", "time base",
+    "time base", "P0 of the last frame", "P8 of the last frame", "P4.0 of the last frame", "mode",
 ];
 
 pub fn record_of(m: &Machine) -> Vec<u8> {
@@ -162,7 +162,13 @@ mod tests {
         assert_eq!(record[33..37], [15, 15, 1, 0]);
         assert_eq!((field_at(15), field_at(408)), ("P30".to_string(), "RAM 17Fh".to_string()));
         assert_eq!((field_at(37 + 0xF3), field_at(37 + 0xF4)), ("RAM 0F3h".to_string(), "RAM 100h".to_string()));
-        assert_eq!((places_of("P30"), places_of("DP"), places_of("time base")), (Some(15..16), Some(18..20), Some(29..33)));
-        assert_eq!((places_of("RAM 000h"), places_of("RAM 0F4h"), places_of("RAM 17Fh")), (Some(37..38), None, Some(408..409)));
+        assert_eq!(
+            (places_of("P30"), places_of("DP"), places_of("time base")),
+            (Some(15..16), Some(18..20), Some(29..33))
+        );
+        assert_eq!(
+            (places_of("RAM 000h"), places_of("RAM 0F4h"), places_of("RAM 17Fh")),
+            (Some(37..38), None, Some(408..409))
+        );
     }
 }

@@ -36,7 +36,9 @@ mod linked {
             std::process::exit(2);
         }
         println!("The proved calls of include/em73862.h beside the plain emulator, in one process on one thread:");
-        println!("{TURNS} turns of each, taken alternately, and the medians. Records and paths are not cleared between");
+        println!(
+            "{TURNS} turns of each, taken alternately, and the medians. Records and paths are not cleared between"
+        );
         println!("calls: a call finds what the one before left. What a call clears for itself is in its time.");
         println!();
         println!("{:<63} {:>14} {:>14} {:>7}", "", "proved a second", "plain a second", "ratio");
@@ -47,7 +49,9 @@ mod linked {
         println!();
         println!("A ratio over 1: the proved call is faster. em73862_run and em73862_step take the 409 bytes of the");
         println!("record apart and put them together in each call, which counts for a single step and not for a run");
-        println!("of 65,536. Plain's step and run copy their Machine instead, but for the line with the record's bytes.");
+        println!(
+            "of 65,536. Plain's step and run copy their Machine instead, but for the line with the record's bytes."
+        );
     }
 
     /// Times `count` of something on each side by turns, and prints both and the ratio.
@@ -76,6 +80,7 @@ mod linked {
         let proved = || {
             for _ in 0..RUNS {
                 let (mut steps, mut cycles) = (0, 0);
+                // SAFETY: each pointer is that of a whole slice with its length beside it, or of a number.
                 let number = unsafe {
                     header::em73862_run(
                         image.as_ptr(),
@@ -109,6 +114,7 @@ mod linked {
         let mut proved = || {
             for _ in 0..STEPS {
                 let mut cycles = 0;
+                // SAFETY: each pointer is that of a whole slice with its length beside it, or of a number.
                 let number = unsafe {
                     header::em73862_step(
                         image.as_ptr(),
@@ -177,8 +183,16 @@ mod linked {
         let proved = || {
             for _ in 0..count {
                 let mut value = 0;
+                // SAFETY: each pointer is that of a whole slice with its length beside it, or of a number.
                 let number = unsafe {
-                    header::em73862_bound(image.as_ptr(), image.len(), address, path.as_mut_ptr(), path.len(), &mut value)
+                    header::em73862_bound(
+                        image.as_ptr(),
+                        image.len(),
+                        address,
+                        path.as_mut_ptr(),
+                        path.len(),
+                        &mut value,
+                    )
                 };
                 assert_eq!(number, expected);
             }
@@ -208,7 +222,10 @@ mod linked {
         let proved = || {
             for address in (0..PASSES).flat_map(|_| 0..IMAGE_SIZE as u32) {
                 let (mut row, mut a, mut b) = (0, 0, 0);
-                black_box(unsafe { header::em73862_read(image.as_ptr(), image.len(), address, &mut row, &mut a, &mut b) });
+                // SAFETY: each pointer is that of a whole slice with its length beside it, or of a number.
+                black_box(unsafe {
+                    header::em73862_read(image.as_ptr(), image.len(), address, &mut row, &mut a, &mut b)
+                });
             }
         };
         let plain = || {
@@ -226,6 +243,7 @@ mod linked {
         let proved = || {
             for (row, a, b) in (0..PASSES).flat_map(|_| &slots) {
                 let [mut length, mut b0, mut b1, mut b2] = [0; 4];
+                // SAFETY: each pointer is that of a number.
                 black_box(unsafe { header::em73862_write(*row, *a, *b, &mut length, &mut b0, &mut b1, &mut b2) });
             }
         };

@@ -20,7 +20,7 @@ fn main() {
         ("records outside their ranges, and at the ends of them", refused_records::cases()),
         ("path buffers", paths::cases()),
     ];
-    let mut proved = Proved::new();
+    let mut proved = Proved::default();
     let (mut passed, mut failed) = (0, gaps.len());
     for gap in gaps {
         println!("{gap}");

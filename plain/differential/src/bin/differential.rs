@@ -21,7 +21,7 @@ fn main() {
         eprintln!("usage: differential [SEED [FACTOR]]");
         exit(2);
     };
-    let mut asker = Asker::new(Proved::new());
+    let mut asker = Asker::new(Proved::default());
     if let Err(difference) = ask_all(&mut asker, seed, factor) {
         println!(
             "differential: seed {seed}, factor {factor}, call {}: {} differs",

@@ -55,7 +55,8 @@ fn waits(name: &str, wake: u8, before: Vec<u8>, frame: &[u8; 3], wakes: Option<u
 fn pins() -> Vec<Case> {
     let mut cases = Vec::new();
     for (pin, bit, frame) in PINS {
-        let enabled = [("all", ALL_WAKE, Some(32_768)), ("this one", bit, Some(32_768)), ("all but this one", !bit, None)];
+        let enabled =
+            [("all", ALL_WAKE, Some(32_768)), ("this one", bit, Some(32_768)), ("all but this one", !bit, None)];
         for (which, wake, wakes) in enabled {
             cases.push(waits(&format!("{pin} falls in sleep, {which} enabled"), wake, in_mode(SLEEP, 4), frame, wakes));
         }

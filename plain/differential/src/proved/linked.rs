@@ -60,17 +60,13 @@ const UNSET_32: u32 = 0xAAAA_AAAA;
 
 const MARGIN: [u8; 16] = [0xA5; 16];
 
+#[derive(Default)]
 pub struct Proved {
     /// The image of the last call that had one, and a copy of it that no call sees.
     image: Option<(Image, Vec<u8>)>,
 }
 
 impl Proved {
-    #[allow(clippy::new_without_default)]
-    pub fn new() -> Proved {
-        Proved { image: None }
-    }
-
     pub fn answers(&mut self, calls: &[Call]) -> Vec<Answer> {
         calls.iter().map(|call| self.answer(call)).collect()
     }
@@ -100,16 +96,25 @@ impl Proved {
     }
 }
 
-/// Makes the call with `buffer` for the one that it may change. Every pointer below is that of a whole slice or of a
-/// number, with the slice's length beside it, as the header asks.
+/// Makes the call with `buffer` for the one that it may change.
 fn ask(call: &Call, buffer: &mut [u8]) -> (u8, [u32; MOST_VALUES]) {
     let (changing, length) = (buffer.as_mut_ptr(), buffer.len());
     match call {
-        Call::Fresh { .. } => (unsafe { header::em73862_fresh(changing, length) }, [0; 4]),
-        Call::Reset { .. } => (unsafe { header::em73862_reset(changing, length) }, [0; 4]),
-        Call::IsValid { .. } => (unsafe { header::em73862_is_valid(changing, length) }, [0; 4]),
+        Call::Fresh { .. } => {
+            // SAFETY: `changing` and `length` are those of `buffer`, which is lent to this call alone.
+            (unsafe { header::em73862_fresh(changing, length) }, [0; 4])
+        }
+        Call::Reset { .. } => {
+            // SAFETY: `changing` and `length` are those of `buffer`, which is lent to this call alone.
+            (unsafe { header::em73862_reset(changing, length) }, [0; 4])
+        }
+        Call::IsValid { .. } => {
+            // SAFETY: `changing` and `length` are those of `buffer`, which is lent to this call alone.
+            (unsafe { header::em73862_is_valid(changing, length) }, [0; 4])
+        }
         Call::Step { image, wake, sound, frame, .. } => {
             let mut cycles = UNSET_32;
+            // SAFETY: each pointer is that of a whole slice with its length beside it, or of a number; only `buffer` and the numbers change.
             let number = unsafe {
                 header::em73862_step(
                     image.as_ptr(),
@@ -127,6 +132,7 @@ fn ask(call: &Call, buffer: &mut [u8]) -> (u8, [u32; MOST_VALUES]) {
         }
         Call::Run { image, wake, sound, frames, .. } => {
             let (mut steps, mut cycles) = (UNSET_32, UNSET_32);
+            // SAFETY: each pointer is that of a whole slice with its length beside it, or of a number; only `buffer` and the numbers change.
             let number = unsafe {
                 header::em73862_run(
                     image.as_ptr(),
@@ -144,20 +150,25 @@ fn ask(call: &Call, buffer: &mut [u8]) -> (u8, [u32; MOST_VALUES]) {
             (number, [steps, cycles, 0, 0])
         }
         Call::Display { record, .. } => {
+            // SAFETY: each pointer is that of a whole slice with its length beside it, or of a number; only `buffer` and the numbers change.
             (unsafe { header::em73862_display(record.as_ptr(), record.len(), changing, length) }, [0; 4])
         }
         Call::Read { image, address } => {
             let (mut row, mut a, mut b) = (UNSET, UNSET_16, UNSET);
-            let number = unsafe { header::em73862_read(image.as_ptr(), image.len(), *address, &mut row, &mut a, &mut b) };
+            // SAFETY: each pointer is that of a whole slice with its length beside it, or of a number; only `buffer` and the numbers change.
+            let number =
+                unsafe { header::em73862_read(image.as_ptr(), image.len(), *address, &mut row, &mut a, &mut b) };
             (number, [row as u32, a as u32, b as u32, 0])
         }
         Call::Write { row, a, b } => {
             let [mut written, mut b0, mut b1, mut b2] = [UNSET; 4];
+            // SAFETY: each pointer is that of a number of this function.
             let number = unsafe { header::em73862_write(*row, *a, *b, &mut written, &mut b0, &mut b1, &mut b2) };
             (number, [written, b0, b1, b2].map(u32::from))
         }
         Call::Bound { image, address, .. } => {
             let mut value = UNSET_32;
+            // SAFETY: each pointer is that of a whole slice with its length beside it, or of a number; only `buffer` and the numbers change.
             let number =
                 unsafe { header::em73862_bound(image.as_ptr(), image.len(), *address, changing, length, &mut value) };
             (number, [value, 0, 0, 0])

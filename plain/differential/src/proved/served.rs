@@ -24,9 +24,9 @@ pub struct Proved {
     image: Option<Image>,
 }
 
-impl Proved {
-    #[allow(clippy::new_without_default)]
-    pub fn new() -> Proved {
+impl Default for Proved {
+    /// Starts the server.
+    fn default() -> Proved {
         let here = Path::new(env!("CARGO_MANIFEST_DIR"));
         let program = here.join("../target/server/em73862-server");
         assert!(program.exists(), "there is no {}: tools/build-server makes it", program.display());
@@ -41,7 +41,9 @@ impl Proved {
         let answers = BufReader::with_capacity(BUFFER, server.stdout.take().expect("the server's output is a pipe"));
         Proved { server, requests, answers, image: None }
     }
+}
 
+impl Proved {
     pub fn answers(&mut self, calls: &[Call]) -> Vec<Answer> {
         let Proved { requests, answers, image, .. } = self;
         let requests = requests.as_mut().expect("the server's input is a pipe");
@@ -78,7 +80,13 @@ fn send(requests: &mut impl Write, held: &mut Option<Image>, calls: &[Call]) -> 
 }
 
 /// server.c's `struct request`, then the two buffers.
-fn send_request(requests: &mut impl Write, code: u32, numbers: [u32; 3], changing: &[u8], steady: &[u8]) -> io::Result<()> {
+fn send_request(
+    requests: &mut impl Write,
+    code: u32,
+    numbers: [u32; 3],
+    changing: &[u8],
+    steady: &[u8],
+) -> io::Result<()> {
     let [first, second, third] = numbers;
     let words = [code, first, second, third, changing.len() as u32, steady.len() as u32];
     let mut head = [0; 24];
