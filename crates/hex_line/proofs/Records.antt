@@ -1,21 +1,22 @@
 -- A record by the places of its fields in the line: RECLEN at 1, LOAD OFFSET at 3, RECTYP at 7, DATA at 9.
 use mathlib.Core.Path.{_≡_, refl, sym, ap, _∙_}
 use mathlib.Core.Bool.{Bool, true, false, not}
-use mathlib.Core.List.{List}
-use Prim.Native.Nat.{ℕ, _+_, _*_, _%_, _<_, _≤_}
+use mathlib.Core.List.{List, [], _∷_}
+use Prim.Native.Nat.{ℕ, zero, suc, _+_, _*_, _%_, _<_, _≤_}
 use Prim.Native.Char.{code}
+use native.Mathlib.Nat.{not-suc-le-zero}
 use native.Mathlib.Omega.{arith}
 use borrow.Author.Tests.{ne-eqb}
-use lib.Dec.{T, eqb, eqb→eq}
+use lib.Dec.{T, eqb, eqb→eq, ltb, ltb→lt}
 use lib.ListN.{length, getD, take, drop, length-drop}
 use lib.Seq.{getD-drop, drop-drop}
 use Rattle.laws.specs.Choice.{pick, both}
 use Rattle.laws.proofs.Computed.{true→T, both-left, both-right}
 use Rattle.laws.proofs.Choices.{both-false}
-use Rattle.words.specs.Words.{allDigits}
+use Rattle.words.specs.Words.{digitValue, allDigits}
 use Rattle.hex_line.specs.Refusals.{malformed-line-or-end-with-bytes, record-sum, record-type}
 use Rattle.hex_line.specs.Record.{Judged, data-record, end-record, faulty, byteOf, bytesOf, reclen, isData, isEnd, total, isRecord, recordOf, lineOf}
-use Rattle.hex_line.specs.Reads.{bytesAt}
+use Rattle.hex_line.specs.Reads.{bytesAt, Stands}
 use Rattle.hex_line.proofs.Pairs.{byte-of-pair, bytes-drop, bytes-take}
 
 -- the byte of the two digits at a place
@@ -42,6 +43,11 @@ unfolding isRecord
 by-places line h =
     let e : 1 + 2 * (5 + reclen (bytesOf (drop 1 line))) ≡ 11 + 2 * fieldAt line 1 = omega (arith, reclen-at line h) in rw e
 
+digit-in : (l : List ℕ) (k : ℕ) → T (allDigits 16 l) → k < length l → digitValue (getD l k 0) < 16
+digit-in [] k t h = absurd (not-suc-le-zero h)
+digit-in (c ∷ l) zero t h = ltb→lt (digitValue c) 16 (both-left (ltb (digitValue c) 16) (allDigits 16 l) t)
+digit-in (c ∷ l) (suc k) t h = digit-in l k (both-right (ltb (digitValue c) 16) (allDigits 16 l) t) (omega arith)
+
 module _ (line : List ℕ) (r : isRecord line ≡ true) where
   sized : T (both (allDigits 16 (drop 1 line)) (eqb (length line) (1 + 2 * (5 + reclen (bytesOf (drop 1 line))))))
   unfolding isRecord
@@ -55,6 +61,25 @@ module _ (line : List ℕ) (r : isRecord line ≡ true) where
 
   pub record-long : 11 ≤ length line
   record-long = omega (arith, record-length)
+
+  -- each character after the mark is a digit
+  digit-at : (i : ℕ) → i + 1 < length line → digitValue (getD line (1 + i) 0) < 16
+  digit-at i h = rw (← getD-drop 1 line i 0) (digit-in (drop 1 line) i record-digits (omega (arith, length-drop 1 line)))
+
+  byte-below : (i : ℕ) → i + 2 < length line → fieldAt line (1 + i) < 256
+  byte-below i h =
+      let e : 1 + i + 1 ≡ 1 + (i + 1) = omega arith in rw e (omega (arith, digit-at i (omega arith), digit-at (i + 1) (omega arith)))
+
+  pub record-stands : Stands line (256 * fieldAt line 3 + fieldAt line 5) (fieldAt line 1) 9
+  record-stands =
+      let n = record-length in
+      let l = reclen-at line record-long in
+      record {
+        within = omega arith;
+        bytes = λ k h. let e : 9 + 2 * k ≡ 1 + (8 + 2 * k) = omega arith in rw e (byte-below (8 + 2 * k) (omega arith));
+        address-fits = omega (arith, byte-below 2 (omega arith), byte-below 4 (omega arith));
+        count-fits = byte-below 0 (omega arith);
+      }
 
 -- a record's judgement by its fields
 abbrev pub typed : List ℕ → Judged

@@ -5,8 +5,8 @@ ghost use mathlib.Core.Bool.{true};
 ghost use Prim.Native.Nat.{_+_, _<_, _≤_, _%_};
 ghost use lib.ListN.{length, getD, drop};
 ghost use Rattle.words.specs.Words.{digitValue, allDigits};
-ghost use Rattle.hex_line.specs.Record.{byteOf, bytesOf, total, isRecord, lineOf};
-ghost use Rattle.hex_line.specs.Reads.{meaningOf};
+ghost use Rattle.hex_line.specs.Record.{byteOf, bytesOf, total, isRecord};
+ghost use Rattle.hex_line.specs.Reads.{Judges};
 
 // The refusals of document 02, Q-3.
 pub const MALFORMED_OR_END_WITH_BYTES: u8 = 40;
@@ -125,7 +125,7 @@ fn is_record(line: &[u8]) -> bool
 
 fn judge_record(line: &[u8]) -> Line
     requires { ⌜ isRecord (now line) ≡ true ⌝ }
-    ensures { λ r. ⌜ meaningOf (now (line .entry)) r ≡ lineOf (now (line .entry)) ⌝ }
+    ensures { λ r. ⌜ Judges (now (line .entry)) r ⌝ }
 {
     let count = byte_at(line, RECLEN);
     let kind = byte_at(line, RECTYP);
@@ -149,7 +149,7 @@ fn judge_record(line: &[u8]) -> Line
 }
 
 pub fn judge(line: &[u8]) -> Line
-    ensures { λ r. ⌜ meaningOf (now (line .entry)) r ≡ lineOf (now (line .entry)) ⌝ }
+    ensures { λ r. ⌜ Judges (now (line .entry)) r ⌝ }
 {
     if is_record(line) {
         return judge_record(line);

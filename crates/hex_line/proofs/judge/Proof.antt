@@ -16,7 +16,7 @@ returns : tie.Need-returns
 returns c = search needs
 
 returns-2 : tie.Need-returns-2
-returns-2 c = sym (no-record (now (c .before .before .before .args .line)) (sym (c .before .is-record .ensures) ∙ c .if1 .left))
+returns-2 c = record { meaning = sym (no-record (now (c .before .before .before .args .line)) (sym (c .before .is-record .ensures) ∙ c .if1 .left)); placed = tt; long = tt }
 
 pub judge-spec : {M : Type 1} → statement M
 judge-spec = tie.close (tie.spec is-record-requires judge-record-requires returns returns-2)
