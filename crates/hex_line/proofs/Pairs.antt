@@ -1,17 +1,19 @@
 -- Digits in pairs: the byte at a place, the bytes from a place on and up to one.
-use mathlib.Core.Path.{_≡_, refl, ap}
+use mathlib.Core.Path.{_≡_, refl, ap, _∙_}
 use mathlib.Core.List.{List, [], _∷_}
 use Prim.Native.Nat.{ℕ, zero, suc, _+_, _-_, _*_, _<_, _≤_}
 use Prim.Native.Char.{code}
 use native.Mathlib.Nat.{not-suc-le-zero}
 use native.Mathlib.Omega.{arith}
 use lib.Dec.{leb, leb→le}
-use lib.ListN.{length, getD, take, drop}
+use lib.ListN.{length, getD, take, drop, length-take, length-drop}
+use lib.Seq.{getD-take, getD-drop}
 use Rattle.laws.specs.Choice.{pick}
 use Rattle.laws.proofs.Computed.{both-right}
 use Rattle.laws.proofs.Choices.{picked-by}
 use Rattle.words.specs.Words.{between, digitValue}
 use Rattle.hex_line.specs.Record.{byteOf, bytesOf}
+use Rattle.hex_line.specs.Reads.{bytesAt}
 
 -- a choice of values, each at most 16
 up-to-16 : (first last c v w : ℕ) → (c ≤ last → v ≤ 16) → w ≤ 16 → pick (between first last c) v w ≤ 16
@@ -52,3 +54,26 @@ bytes-take (suc k) (c ∷ []) = let e : 2 * suc k ≡ suc (suc (2 * k)) = omega 
 bytes-take (suc k) (c ∷ d ∷ digits) =
     let e : 2 * suc k ≡ suc (suc (2 * k)) = omega arith in
     rw e (ap (λ (l : List ℕ). byteOf c d ∷ l) (bytes-take k digits))
+
+-- the bytes at a place of a text: how many, and each of them
+bytes-length : (n : ℕ) (digits : List ℕ) → length digits ≡ 2 * n → length (bytesOf digits) ≡ n
+bytes-length zero [] h = refl
+bytes-length zero (c ∷ digits) h = absurd (let z : ⊥ = omega arith in z)
+bytes-length (suc n) [] h = absurd (let z : ⊥ = omega arith in z)
+bytes-length (suc n) (c ∷ []) h = absurd (let z : ⊥ = omega arith in z)
+bytes-length (suc n) (c ∷ d ∷ digits) h = ap suc (bytes-length n digits (omega arith))
+
+module _ (text : List ℕ) (first n : ℕ) (h : first + 2 * n ≤ length text) where
+  digits-length : length (take (2 * n) (drop first text)) ≡ 2 * n
+  digits-length = omega (arith, length-take (2 * n) (drop first text), length-drop first text)
+
+  pub bytes-at-length : length (bytesAt text first n) ≡ n
+  bytes-at-length = bytes-length n (take (2 * n) (drop first text)) digits-length
+
+  digit-of : (i : ℕ) → i < 2 * n → getD (take (2 * n) (drop first text)) i 0 ≡ getD text (first + i) 0
+  digit-of i l = getD-take (2 * n) (drop first text) i 0 l ∙ getD-drop first text i 0
+
+  pub byte-of-text : (i : ℕ) → i < n → getD (bytesAt text first n) i 0 ≡ byteOf (getD text (first + 2 * i) 0) (getD text (first + 2 * i + 1) 0)
+  byte-of-text i l =
+      let e : first + 2 * i + 1 ≡ first + (2 * i + 1) = omega arith in
+      rw (e, ← digit-of (2 * i) (omega arith), ← digit-of (2 * i + 1) (omega arith)) (byte-of-pair i (take (2 * n) (drop first text)) (omega (arith, digits-length)))
