@@ -1,6 +1,7 @@
 -- How far a text was read, as the code has it: a stage, and the data records in the work buffer.
 use Prim.Native.Nat.{ℕ}
 use mathlib.Core.Path.{_≡_}
+use mathlib.Core.Bool.{Bool, true, false}
 use mathlib.Core.List.{List}
 use lib.ListN.{length}
 use Rattle.hex_line.specs.Record.{lineOf}
@@ -28,6 +29,11 @@ Reached (Stopped number line) work p = p ≡ stopped number line
 abbrev pub Concluded : Outcome → List ℕ → Reading → Type 0
 Concluded Good work r = Held good work r
 Concluded (Refused number line) work r = r ≡ refused number line
+
+abbrev pub isStopped : Stage → Bool
+isStopped Going = false
+isStopped Ended = false
+isStopped (Stopped number line) = true
 
 -- line n takes the stage on, whatever was reached before, and whatever line the answer about it means
 pub record Advances (text : List ℕ) (line : Line) (n : ℕ) (stage : Stage) (before after : List ℕ) (r : Stage) : Type 0 where

@@ -8,7 +8,7 @@ ghost use Prim.Native.Nat.{ℕ};
 ghost use lib.ListN.{length};
 ghost use Rattle.hex_line.specs.Reads.{Placed};
 ghost use Rattle.hex_progress.specs.Progress.{Progress, atEnd};
-ghost use Rattle.hex_progress.specs.Reached.{Reached, Concluded, Advances};
+ghost use Rattle.hex_progress.specs.Reached.{Reached, Concluded, Advances, isStopped};
 
 // Before the end record, after it, or stopped by the first fault.
 pub enum Stage {
@@ -64,6 +64,16 @@ pub fn after_line(text: &[u8], line: Line, n: usize, stage: Stage, work: &mut [u
             number: number,
             line: at,
         },
+    }
+}
+
+pub fn is_stopped(stage: Stage) -> bool
+    ensures { λ r. ⌜ r ≡ isStopped stage ⌝ }
+{
+    match stage {
+        Stage::Going => false,
+        Stage::Ended => false,
+        Stage::Stopped { number: _, line: _ } => true,
     }
 }
 
