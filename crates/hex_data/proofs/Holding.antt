@@ -18,13 +18,13 @@ module _ (a : ℕ) (bytes : List ℕ) (x : ℕ) where
   abbrev d : Given
   d = record { address = a; bytes = bytes }
 
-  gives-in : a ≤ x → x < a + length bytes → gives d x ≡ true
+  pub gives-in : a ≤ x → x < a + length bytes → gives d x ≡ true
   gives-in g h = rw (le-leb a x g, lt-ltb x (a + length bytes) h)
 
-  gives-before : x < a → gives d x ≡ false
+  pub gives-before : x < a → gives d x ≡ false
   gives-before h = rw (lt-leb a x h)
 
-  gives-after : a + length bytes ≤ x → gives d x ≡ false
+  pub gives-after : a + length bytes ≤ x → gives d x ≡ false
   gives-after h = rw (le-ltb x (a + length bytes) h, both-false (leb a x))
 
 -- of a record the first i bytes
