@@ -1,0 +1,3 @@
+pub mod Some
+pub mod Holding
+pub mod Taking

@@ -1,0 +1,47 @@
+-- A fault stops the reading, and no line changes that.
+use mathlib.Core.Path.{_≡_, refl, sym, _∙_}
+use mathlib.Core.Bool.{Bool, true, false}
+use mathlib.Core.List.{List, [], _∷_}
+use Prim.Native.Nat.{ℕ, suc, _≤_}
+use native.Mathlib.Omega.{arith}
+use Rattle.hex_line.specs.Record.{faulty, lineOf}
+use Rattle.hex_line.specs.Reads.{meaningOf, Long}
+use Rattle.hex_line.specs.declared.Line.{Line}
+use Rattle.hex_line.specs.declared.Line.the-variants.{Data, End, Fault}
+use Rattle.hex_progress.specs.Progress.{Progress, going, ended, stopped, Reading, refused, afterLine, afterLines, atEnd, readLines}
+use Rattle.hex_progress.specs.Reached.{Held, Reached, Concluded, isStopped}
+use Rattle.hex_progress.specs.declared.Stage.{Stage}
+use Rattle.hex_progress.specs.declared.Stage.the-variants.{Going, Ended, Stopped}
+
+pub stays : (number at n : ℕ) (ls : List (List ℕ)) → afterLines (stopped number at) n ls ≡ stopped number at
+stays number at n [] = refl
+stays number at n (l ∷ ls) = stays number at (suc n) ls
+
+-- a stage that is stopped is what the whole text comes to
+pub stopped-reads : (s : Stage) (w : List ℕ) (p : Progress) → isStopped s ≡ true → Reached s w p → (n m : ℕ) (ls : List (List ℕ)) → readLines p n ls ≡ atEnd p m
+stopped-reads Going w p e r n m ls = absurd (let z : _≡_ {A = ℕ} 0 1 = cc in omega arith)
+stopped-reads Ended w p e r n m ls = absurd (let z : _≡_ {A = ℕ} 0 1 = cc in omega arith)
+stopped-reads (Stopped number line) w p e r n m ls = rw (r, stays number line n ls)
+
+-- after a faulty line there is no going on
+abbrev goesOn : Progress → Bool
+goesOn (going ds) = true
+goesOn (ended ds) = true
+goesOn (stopped number at) = false
+
+fault-stops : (p : Progress) (n k : ℕ) (l : List ℕ) → faulty k ≡ lineOf l → goesOn (afterLine p n l) ≡ false
+fault-stops (going ds) n k l e = rw (← e)
+fault-stops (ended ds) n k l e = refl
+fault-stops (stopped number at) n k l e = refl
+
+reached-on : (s : Stage) (w : List ℕ) (p : Progress) → isStopped s ≡ false → Reached s w p → goesOn p ≡ true
+reached-on Going w p e r = rw (r .is)
+reached-on Ended w p e r = rw (r .is)
+reached-on (Stopped number line) w p e r = absurd (let z : _≡_ {A = ℕ} 0 1 = cc in omega arith)
+
+-- so a line after which it goes on is not short
+pub good-long : (text : List ℕ) (line : Line) (s : Stage) (w : List ℕ) (p : Progress) (n size : ℕ) (l : List ℕ) → isStopped s ≡ false → Reached s w (afterLine p n l) → meaningOf text line ≡ lineOf l → Long size line → 11 ≤ size
+good-long text (Data address count first) s w p n size l e r m h = h
+good-long text End s w p n size l e r m h = h
+good-long text (Fault k) s w p n size l e r m h =
+    absurd (let t = reached-on s w (afterLine p n l) e r in let f = fault-stops p n k l m in let z : _≡_ {A = ℕ} 0 1 = cc in omega arith)

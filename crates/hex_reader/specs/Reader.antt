@@ -1,0 +1,32 @@
+-- Document 02, Q-3: what the reader of a whole text answers, and leaves in the image buffer.
+use Prim.Native.Nat.{ℕ}
+use mathlib.Core.Path.{_≡_}
+use mathlib.Core.List.{List}
+use lib.Dec.{eqb}
+use lib.ListN.{length}
+use Rattle.laws.specs.Choice.{pick}
+use Rattle.numbers.specs.ComesBack.{image-is-not-8192-bytes}
+use Rattle.hex_work.specs.Given.{imageSize, imageOf}
+use Rattle.hex_progress.specs.Progress.{Reading, good, refused, readOf}
+use Rattle.hex_reader.specs.declared.HexRead.{HexRead}
+
+-- the answer's number, the line of the first fault, and the image buffer; no line is 0
+pub record Result : Type 0 where
+  pub number : ℕ
+  pub line : ℕ
+  pub image : List ℕ
+
+-- "A refused read leaves the image buffer unchanged."
+abbrev pub resultOf : List ℕ → Reading → Result
+resultOf before (good ds) = record { number = 0; line = 0; image = imageOf ds }
+resultOf before (refused number line) = record { number = number; line = line; image = before }
+
+-- document 01's refusal 1 is of the buffer and comes first: it has no line
+unfoldable pub readInto : List ℕ → List ℕ → Result
+readInto text before =
+    pick (eqb (length before) imageSize) (resultOf before (readOf text))
+    (record { number = image-is-not-8192-bytes; line = 0; image = before })
+
+-- what the call answers and leaves is that
+abbrev pub ReadHex : List ℕ → List ℕ → List ℕ → HexRead → Type 0
+ReadHex text before after r = record { number = r .number; line = r .line; image = after } ≡ readInto text before

@@ -1,0 +1,102 @@
+// An image written as Intel HEX.
+use hex_work::IMAGE_SIZE;
+use text_digits::number;
+use text_digits::put;
+ghost use mathlib.Core.Path.{_≡_};
+ghost use mathlib.Core.List.{List, [], _∷_, _++_};
+ghost use Prim.Native.Nat.{_+_, _*_, _<_, _≤_, _%_, _/_};
+ghost use lib.ListN.{length, drop};
+ghost use Rattle.laws.specs.Writing.{Wrote};
+ghost use Rattle.hex_line.specs.Record.{total};
+ghost use Rattle.hex_writer.specs.Writer.{hexBytes, recordText, textOf, WriteHex};
+
+pub const OUTPUT_BUFFER_UNDER_22540_BYTES: u8 = 46;
+
+pub const IMAGE_IS_NOT_8192_BYTES: u8 = 1;
+
+pub const TEXT_SIZE: usize = 22540;
+
+const DATA_RECORD: u8 = 0;
+
+const END_RECORD: u8 = 1;
+
+// Bytes a record, and how many records an image has.
+const EACH: usize = 16;
+
+const RECORDS: usize = 512;
+
+// The sum of bytes and of what was summed before, modulo 256.
+fn sum_of(bytes: &[u8], before: u32) -> u32
+    requires { ⌜ before < 256 ⌝ }
+    ensures { λ r. ⌜ r ≡ (before + total (now (bytes .entry))) % 256 ⌝ }
+{
+    let mut sum = before;
+    let mut i = 0;
+    while i < bytes.len() {
+        sum = (sum + bytes[i] as u32) % 256;
+        i += 1;
+    }
+    sum
+}
+
+fn put_bytes(out: &mut [u8], from: usize, bytes: &[u8]) -> usize
+    requires { ⌜ from + 2 * length (now bytes) ≤ length (now out) ⌝ }
+    ensures { λ r. ⌜ (Wrote (now (out .entry)) (now (out .exit)) from r (hexBytes (now (bytes .entry)))) × (r ≡ from + 2 * length (now (bytes .entry))) ⌝ }
+{
+    let mut next = from;
+    let mut i = 0;
+    while i < bytes.len() {
+        next = number(out, next, 16, 2, bytes[i] as u32);
+        i += 1;
+    }
+    next
+}
+
+// A record of the four bytes before its data, and its data.
+fn put_record(out: &mut [u8], from: usize, head: &[u8; 4], bytes: &[u8]) -> usize
+    requires { ⌜ from + 12 + 2 * length (now bytes) ≤ length (now out) ⌝ }
+    ensures { λ r. ⌜ (Wrote (now (out .entry)) (now (out .exit)) from r (recordText (now (head .entry) ++ now (bytes .entry)))) × (r ≡ from + 12 + 2 * length (now (bytes .entry))) ⌝ }
+{
+    let sum = sum_of(bytes, sum_of(head, 0));
+    let mut next = put(out, from, b':');
+    next = put_bytes(out, next, head);
+    next = put_bytes(out, next, bytes);
+    next = number(out, next, 16, 2, (256 - sum) % 256);
+    put(out, next, b'\n')
+}
+
+fn write_text(image: &[u8], out: &mut [u8])
+    requires { ⌜ (length (now image) ≡ 8192) × (22540 ≤ length (now out)) ⌝ }
+    ensures { λ _. ⌜ now (out .exit) ≡ textOf (now (image .entry)) ++ drop 22540 (now (out .entry)) ⌝ }
+{
+    let mut next = 0;
+    let mut k = 0;
+    while k < RECORDS {
+        let address = EACH * k;
+        let end = address + EACH;
+        let head = [
+            EACH as u8,
+            (address / 256) as u8,
+            (address % 256) as u8,
+            DATA_RECORD,
+        ];
+        next = put_record(out, next, &head, &image[address..end]);
+        k += 1;
+    }
+    let head = [0, 0, 0, END_RECORD];
+    put_record(out, next, &head, &image[..0]);
+}
+
+// 0 and the text, or a refusal and the buffer as it was.
+pub fn write_hex(image: &[u8], out: &mut [u8]) -> u8
+    ensures { λ r. ⌜ WriteHex (now (image .entry)) (now (out .entry)) (now (out .exit)) r ⌝ }
+{
+    if image.len() != IMAGE_SIZE {
+        return IMAGE_IS_NOT_8192_BYTES;
+    }
+    if out.len() < TEXT_SIZE {
+        return OUTPUT_BUFFER_UNDER_22540_BYTES;
+    }
+    write_text(image, out);
+    0
+}

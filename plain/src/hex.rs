@@ -1,0 +1,146 @@
+//! Images as Intel HEX: document 02, Q-3.
+
+use crate::code::IMAGE_SIZE;
+use crate::numbers;
+
+/// 512 records of 44 characters, and the end record's 12.
+pub const TEXT_SIZE: usize = 22_540;
+
+// Document 02's refusals.
+const MALFORMED_LINE: u8 = 40;
+const RECORD_SUM: u8 = 41;
+const RECORD_TYPE: u8 = 42;
+const PAST_1FFF: u8 = 43;
+const GIVEN_TWICE: u8 = 44;
+const END_MISSING_OR_TEXT_AFTER: u8 = 45;
+const OUTPUT_BUFFER: u8 = 46;
+
+const BYTES_A_RECORD: usize = 16;
+const DATA: u8 = 0;
+const END: u8 = 1;
+
+/// A refusal, and the line that it speaks of; 0 where it speaks of no line.
+#[derive(Clone, Copy, Debug, PartialEq, Eq)]
+pub struct HexRefusal {
+    pub number: u8,
+    pub line: usize,
+}
+
+enum Record {
+    Data { address: usize, bytes: Vec<u8> },
+    End,
+}
+
+/// "A refused read leaves the image buffer unchanged."
+pub fn read_hex(text: &[u8], image: &mut [u8]) -> Result<(), HexRefusal> {
+    if image.len() != IMAGE_SIZE {
+        return Err(HexRefusal { number: numbers::IMAGE_SIZE, line: 0 });
+    }
+    let cells = read_cells(text)?;
+    for (byte, cell) in image.iter_mut().zip(cells) {
+        *byte = cell.unwrap_or(0xFF);
+    }
+    Ok(())
+}
+
+/// The bytes that the text mentions, by address.
+fn read_cells(text: &[u8]) -> Result<Vec<Option<u8>>, HexRefusal> {
+    let mut cells = vec![None; IMAGE_SIZE];
+    let mut ended = false;
+    let mut line = 0;
+    for characters in text.split_inclusive(|&c| c == b'\n') {
+        line += 1;
+        let refuse = |number| HexRefusal { number, line };
+        if ended {
+            return Err(refuse(END_MISSING_OR_TEXT_AFTER));
+        }
+        match read_record(without_ending(characters)).map_err(refuse)? {
+            Record::End => ended = true,
+            Record::Data { address, bytes } => take(&mut cells, address, &bytes).map_err(refuse)?,
+        }
+    }
+    if ended {
+        Ok(cells)
+    } else {
+        Err(HexRefusal { number: END_MISSING_OR_TEXT_AFTER, line: line + 1 })
+    }
+}
+
+/// "lines ending in LF or CRLF, the last perhaps in none"
+fn without_ending(line: &[u8]) -> &[u8] {
+    match line.strip_suffix(b"\n") {
+        Some(rest) => rest.strip_suffix(b"\r").unwrap_or(rest),
+        None => line,
+    }
+}
+
+fn digit(character: u8) -> Option<u8> {
+    (character as char).to_digit(16).map(|value| value as u8)
+}
+
+fn read_record(line: &[u8]) -> Result<Record, u8> {
+    let digits = line.strip_prefix(b":").ok_or(MALFORMED_LINE)?;
+    if digits.len() % 2 != 0 {
+        return Err(MALFORMED_LINE);
+    }
+    let pairs = digits.chunks_exact(2).map(|pair| Some(digit(pair[0])? << 4 | digit(pair[1])?));
+    let bytes = pairs.collect::<Option<Vec<u8>>>().ok_or(MALFORMED_LINE)?;
+    let (Some(&count), Some(&kind)) = (bytes.first(), bytes.get(3)) else {
+        return Err(MALFORMED_LINE);
+    };
+    if bytes.len() != count as usize + 5 || (kind == END && count != 0) {
+        return Err(MALFORMED_LINE);
+    }
+    if bytes.iter().fold(0u8, |sum, &byte| sum.wrapping_add(byte)) != 0 {
+        return Err(RECORD_SUM);
+    }
+    match kind {
+        DATA => Ok(Record::Data {
+            address: u16::from_be_bytes([bytes[1], bytes[2]]) as usize,
+            bytes: bytes[4..bytes.len() - 1].to_vec(),
+        }),
+        END => Ok(Record::End),
+        _ => Err(RECORD_TYPE),
+    }
+}
+
+fn take(cells: &mut [Option<u8>], address: usize, bytes: &[u8]) -> Result<(), u8> {
+    if bytes.is_empty() {
+        return Ok(());
+    }
+    let taken = cells.get_mut(address..address + bytes.len()).ok_or(PAST_1FFF)?;
+    if taken.iter().any(Option::is_some) {
+        return Err(GIVEN_TWICE);
+    }
+    for (cell, &byte) in taken.iter_mut().zip(bytes) {
+        *cell = Some(byte);
+    }
+    Ok(())
+}
+
+/// "512 records of sixteen bytes in address order and the end record, upper case, LF"; later bytes stay.
+pub fn write_hex(image: &[u8], text: &mut [u8]) -> Result<(), u8> {
+    if image.len() != IMAGE_SIZE {
+        return Err(numbers::IMAGE_SIZE);
+    }
+    if text.len() < TEXT_SIZE {
+        return Err(OUTPUT_BUFFER);
+    }
+    let mut written = String::with_capacity(TEXT_SIZE);
+    for (place, bytes) in image.chunks_exact(BYTES_A_RECORD).enumerate() {
+        written += &hex_record(BYTES_A_RECORD * place, DATA, bytes);
+    }
+    written += &hex_record(0, END, &[]);
+    text[..TEXT_SIZE].copy_from_slice(written.as_bytes());
+    Ok(())
+}
+
+/// A record's line, with LF.
+pub fn hex_record(address: usize, kind: u8, bytes: &[u8]) -> String {
+    let [high, low] = (address as u16).to_be_bytes();
+    let mut fields = vec![bytes.len() as u8, high, low, kind];
+    fields.extend(bytes);
+    fields.push(fields.iter().fold(0u8, |sum, &byte| sum.wrapping_sub(byte)));
+    let digits: String = fields.iter().map(|byte| format!("{byte:02X}")).collect();
+    format!(":{digits}\n")
+}
