@@ -1,16 +1,16 @@
 -- Laws of single bits: what setting and clearing one keeps, the highest of six, and bits joined. The bit at i has the weight 2 ^ i.
-use mathlib.Core.Path.{_≡_, refl, ap, subst, _∙_}
+use mathlib.Core.Path.{_≡_, ap, subst, _∙_}
 use mathlib.Core.Bool.{Bool, true, false}
 use Prim.Native.Nat.{ℕ, suc, _+_, _-_, _*_, _/_, _%_, _^_, _<_, _≤_}
 use native.Mathlib.Nat.{div-eq-of-lt, mod-lt, suc-mul, pow-suc, mod-eq-of-lt}
 use native.Mathlib.Decide.{decLt, ℕ-discrete}
 use native.Mathlib.Omega.{arith}
-use lib.Dec.{T, eqb, eqb→eq, leb, leb→le}
+use lib.Dec.{T, eqb, eqb→eq}
 use lib.Pow.{pow-add, pow-pos, shr-lt, split}
 use lib.Arith.{digits-lt}
 use lib.Bits.{bitOr, or-shifted}
 use lib.Count.{leadingZeros}
-use borrow.Author.Tests.{eqb-true, eq-eqb, ne-eqb}
+use borrow.Author.Tests.{eqb-true, ne-eqb}
 use Rattle.laws.specs.Choice.{pick}
 use Rattle.laws.proofs.Computed.{below, at}
 use Rattle.bits.specs.Bits.{hasBit, withBit, withoutBit, highestBit, bitOf}
@@ -69,19 +69,9 @@ placed f d t n i j hn hi hj =
 abbrev isOne : ℕ → Bool
 isOne d = eqb d 1
 
--- a bit that was set is there, one that was cleared is not
-pub with-same : (n i : ℕ) → n < 64 → i < 6 → hasBit (withBit n (2 ^ i)) (2 ^ i) ≡ true
-with-same n i hn hi = ap isOne (rw (eq-eqb i i refl) at (placed withBit 1 tt n i i hn hi hi))
-
-pub without-same : (n i : ℕ) → n < 64 → i < 6 → hasBit (withoutBit n (2 ^ i)) (2 ^ i) ≡ false
-without-same n i hn hi = ap isOne (rw (eq-eqb i i refl) at (placed withoutBit 0 tt n i i hn hi hi))
-
 -- and every other bit is as it was
 pub with-other : (n i j : ℕ) → n < 64 → i < 6 → j < 6 → (i ≡ j → ⊥) → hasBit (withBit n (2 ^ i)) (2 ^ j) ≡ hasBit n (2 ^ j)
 with-other n i j hn hi hj ne = ap isOne (rw (ne-eqb i j ne) at (placed withBit 1 tt n i j hn hi hj))
-
-pub without-other : (n i j : ℕ) → n < 64 → i < 6 → j < 6 → (i ≡ j → ⊥) → hasBit (withoutBit n (2 ^ i)) (2 ^ j) ≡ hasBit n (2 ^ j)
-without-other n i j hn hi hj ne = ap isOne (rw (ne-eqb i j ne) at (placed withoutBit 0 tt n i j hn hi hj))
 
 -- the highest bit of six, by leading zeros
 abbrev pub byZeros : ℕ → ℕ
@@ -90,10 +80,6 @@ byZeros n = pick (eqb (leadingZeros 32 n) 32) 6 (31 - leadingZeros 32 n)
 pub by-zeros : (n : ℕ) → n < 64 → highestBit n ≡ byZeros n
 unfolding leadingZeros highestBit
 by-zeros n h = eqb→eq (highestBit n) (byZeros n) (at (λ n. eqb (highestBit n) (byZeros n)) 64 tt n h)
-
-pub highest-le : (n : ℕ) → n < 64 → highestBit n ≤ 6
-unfolding highestBit
-highest-le n h = leb→le (highestBit n) 6 (at (λ n. leb (highestBit n) 6) 64 tt n h)
 
 -- k bits joined to a number that was shifted up by k, within w bits
 pub joined : (w k n b : ℕ) → n * 2 ^ k < 2 ^ w → b < 2 ^ k → bitOr (n * 2 ^ k % 2 ^ w) b ≡ n * 2 ^ k + b

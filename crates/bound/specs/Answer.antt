@@ -3,7 +3,7 @@ use mathlib.Core.Path.{_≡_}
 use mathlib.Core.List.{List, [], _∷_, _++_}
 use Prim.Native.Nat.{ℕ, _+_, _*_, _/_, _%_, _≤_, _<_}
 use lib.ListN.{length, drop}
-use Rattle.numbers.specs.Sizes.{addresses, imageBytes, lastAddress}
+use Rattle.numbers.specs.Sizes.{imageBytes, lastAddress}
 use Rattle.numbers.specs.ComesBack.{Paper, answered, refused, refusedWith, image-is-not-8192-bytes, address-over-8191, excluded-instruction-reachable, repetition-reachable, path-buffer-too-short}
 use Rattle.sheet.specs.Reading.{romOf}
 use Rattle.graph.specs.Graph.{Least, Bad, Loops}

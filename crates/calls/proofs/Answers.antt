@@ -2,7 +2,6 @@
 use Prim.Native.Nat.{ℕ}
 use mathlib.Core.List.{List}
 use mathlib.Core.Path.{_≡_, refl, sym, ap, subst, _∙_}
-use lib.ListN.{length}
 use Rattle.numbers.specs.ComesBack.{Paper, valueAt}
 use Rattle.reader.specs.Answer.{readPaper}
 use Rattle.writer.specs.Writing.{paperOf, fromPaper}

@@ -4,11 +4,11 @@ use mathlib.Core.Bool.{not}
 use mathlib.Core.List.{List}
 use mathlib.Core.Path.{_≡_}
 use lib.Dec.{eqb}
-use lib.ListN.{length, getD}
+use lib.ListN.{length}
 use Rattle.machine_bytes.specs.Layout.{recordSize}
 use Rattle.numbers.specs.Sizes.{imageBytes}
 use Rattle.laws.specs.Choice.{pick}
-use Rattle.numbers.specs.ComesBack.{Paper, valueAt, image-is-not-8192-bytes, record-outside-the-ranges}
+use Rattle.numbers.specs.ComesBack.{valueAt, image-is-not-8192-bytes, record-outside-the-ranges}
 use Rattle.sheet.specs.declared.Insn.{Insn}
 use Rattle.reader.specs.Answer.{readPaper}
 use Rattle.writer.specs.Writing.{Writes}

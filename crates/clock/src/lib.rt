@@ -114,7 +114,7 @@ fn met(t: Time, r: Rates) -> Time
 }
 
 // One cycle: nothing happens but at a multiple of 256.
-pub fn tick(t: Time, r: Rates) -> Time
+fn tick(t: Time, r: Rates) -> Time
     requires { ⌜ (InRange t) × (r .p25 < 16) ⌝ }
     ensures { λ s. ⌜ s ≡ tick r t ⌝ }
 {

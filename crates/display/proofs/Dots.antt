@@ -12,9 +12,7 @@ use Rattle.laws.specs.Choice.{pick, both}
 use Rattle.laws.proofs.Computed.{below, at}
 use Rattle.bits.specs.Bits.{hasBit}
 use Rattle.machine.specs.Valid.{Nibbles, Valid}
-use Rattle.machine.specs.Ram.{placeOf}
 use Rattle.machine.specs.declared.Machine.{Machine}
-use Rattle.machine.proofs.Places.{place-low}
 use Rattle.display.specs.Display.{isOn, dotOf, pairAt, shownOf}
 use Rattle.display.proofs.Bytes.{shown-at}
 
@@ -51,10 +49,6 @@ in-half ram c s n hc hs (no h) =
 dot-in : (on : Bool) (ram : List ℕ) (c s : ℕ) → Nibbles ram → c < 8 → s < 40 → hasBit (pick on (pairAt ram (0x20 + 16 * c + 2 * (s / 8))) 0) (2 ^ (s % 8)) ≡ both on (hasBit (getD ram (0x20 + 16 * c + s / 4) 0) (2 ^ (s % 4)))
 dot-in true ram c s n hc hs = in-half ram c s n hc hs (decLt (s % 8) 4)
 dot-in false ram c s n hc hs = rw (zero-div (2 ^ (s % 8)))
-
--- an address of the display is its own place
-pub own-place : (c s : ℕ) → c < 8 → s < 40 → placeOf (0x20 + 16 * c + s / 4) ≡ 0x20 + 16 * c + s / 4
-own-place c s hc hs = place-low (0x20 + 16 * c + s / 4) (omega arith)
 
 -- the byte and the bit where a dot stands: "Row c, dot s .." and "Forty bytes, five a row, low nibble first" say the same
 pub dots : (m : Machine) (c s : ℕ) → Valid m → c < 8 → s < 40 → hasBit (getD (shownOf m) (5 * c + s / 8) 0) (2 ^ (s % 8)) ≡ dotOf m c s

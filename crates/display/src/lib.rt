@@ -3,6 +3,8 @@ use machine::Machine;
 use machine::Ram;
 use machine::ram::peek;
 use machine_valid::is_valid;
+use numbers::DISPLAY_BUFFER_UNDER_40_BYTES;
+use numbers::RECORD_OUTSIDE_THE_RANGES;
 ghost use mathlib.Core.Path.{_≡_};
 ghost use mathlib.Core.List.{_++_};
 ghost use Prim.Native.Nat.{_+_, _*_, _/_, _%_, _<_, _≤_};
@@ -10,6 +12,9 @@ ghost use lib.ListN.{length, drop};
 ghost use Rattle.laws.specs.Choice.{pick};
 ghost use Rattle.machine.specs.Valid.{Nibbles, Valid};
 ghost use Rattle.display.specs.Display.{pairAt, shownOf, DisplayOf};
+
+// "Forty bytes, five a row"
+const DOT_BYTES: usize = 40;
 
 fn pair(ram: &Ram, at: usize) -> u8
     requires { ⌜ (Nibbles (now ram)) × (at < 371) ⌝ }
@@ -38,7 +43,7 @@ fn show(m: Machine, out: &mut [u8])
     let ram = m.ram;
     let on = m.core.ports.p27 / 4 == 3;
     let mut j: usize = 0;
-    while j < 40 {
+    while j < DOT_BYTES {
         out[j] = byte(on, &ram, j);
         j += 1;
     }
@@ -49,10 +54,10 @@ pub fn display(m: Machine, out: &mut [u8]) -> u8
     ensures { λ r. ⌜ DisplayOf m (now (out .entry)) (now (out .exit)) r ⌝ }
 {
     if !is_valid(m) {
-        return 2;
+        return RECORD_OUTSIDE_THE_RANGES;
     }
-    if out.len() < 40 {
-        return 5;
+    if out.len() < DOT_BYTES {
+        return DISPLAY_BUFFER_UNDER_40_BYTES;
     }
     show(m, out);
     0

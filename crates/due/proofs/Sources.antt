@@ -1,11 +1,11 @@
 -- Laws of the due source: it is the highest of the allowed latch bits, and its latch is set.
 use Prim.Native.Nat.{ℕ, _*_, _%_, _^_, _<_, _≤_}
 use mathlib.Core.Path.{_≡_}
-use mathlib.Core.Bool.{Bool, true}
-use lib.Dec.{T, eqb, eqb→eq, leb, leb→le, ltb, lt→ltb}
+use mathlib.Core.Bool.{Bool}
+use lib.Dec.{T, eqb, eqb→eq}
 use lib.Bits.{bitAnd, bitOr}
-use Rattle.laws.proofs.Computed.{below, implies, at, modus, T→true}
-use Rattle.bits.specs.Bits.{hasBit, highestBit}
+use Rattle.laws.proofs.Computed.{below, at}
+use Rattle.bits.specs.Bits.{highestBit}
 use Rattle.due.specs.Due.{dueSource}
 
 -- a test of each set of latches and each mask
@@ -23,16 +23,3 @@ unfolding highestBit dueSource
 by-pattern il mask h k =
     eqb→eq (highestBit (allowed il mask)) (dueSource il mask)
     (each-at (λ il mask. eqb (highestBit (allowed il mask)) (dueSource il mask)) tt il mask h k)
-
-pub due-le : (il mask : ℕ) → il < 64 → mask < 16 → dueSource il mask ≤ 6
-unfolding dueSource
-due-le il mask h k = leb→le (dueSource il mask) 6 (each-at (λ il mask. leb (dueSource il mask) 6) tt il mask h k)
-
--- the latch of a source that is due is set
-pub due-set : (il mask : ℕ) → il < 64 → mask < 16 → dueSource il mask < 6 → hasBit il (2 ^ dueSource il mask) ≡ true
-unfolding dueSource
-due-set il mask h k l =
-    T→true (hasBit il (2 ^ dueSource il mask))
-    (modus (ltb (dueSource il mask) 6) (hasBit il (2 ^ dueSource il mask))
-    (each-at (λ il mask. implies (ltb (dueSource il mask) 6) (hasBit il (2 ^ dueSource il mask))) tt il mask h k)
-    (lt→ltb (dueSource il mask) 6 l))

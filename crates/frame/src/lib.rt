@@ -40,7 +40,7 @@ fn is_frame_at(s: &[u8], at: usize) -> bool
 }
 
 // The frame at a place of a sequence.
-pub fn frame_at(s: &[u8], at: usize) -> Frame
+fn frame_at(s: &[u8], at: usize) -> Frame
     requires { ⌜ at + 3 ≤ length (now s) ⌝ }
     ensures { λ r. ⌜ r ≡ frameAt (now (s .entry)) at ⌝ }
 {

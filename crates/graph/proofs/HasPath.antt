@@ -6,16 +6,10 @@ use Prim.Native.Nat.{ℕ, zero, suc, _<_}
 use native.Mathlib.Nat.{not-suc-le-zero}
 use native.Mathlib.Omega.{arith}
 use native.Mathlib.Decide.{ℕ-discrete}
-use Rattle.graph.specs.Graph.{Graph, GoesOn, Ends, Edge, Reach, here, ReachPlus, Path, ends, goes, sum, Sound}
+use Rattle.graph.specs.Graph.{Graph, GoesOn, Ends, Edge, Reach, here, ReachPlus, Path, ends, goes, Sound}
 use Rattle.graph.specs.Laid.{Inside}
 use Rattle.graph.proofs.Reach.{reach-snoc, reach-inside}
 use Rattle.graph.proofs.Pigeon.{Twice, pigeon}
-
--- a path from a place that costs something costs something
-pub path-pos : (c : ℕ → ℕ) {g : Graph} {v : ℕ} {l : List ℕ} → Path g v l → 0 < c v → 0 < sum c l
-unfolding sum
-path-pos c (ends k) h = omega arith
-path-pos c (goes e p) h = omega arith
 
 -- a place that is not excluded goes on or ends
 pub on-or-ends : {g : Graph} {s : ℕ} → Sound g s → (v : ℕ) → Reach g s v → GoesOn g v ⊎ Ends g v

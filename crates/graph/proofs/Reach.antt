@@ -27,9 +27,6 @@ pub laid-inside : {k nx o : List ℕ} {n : ℕ} → Laid k nx o n → Inside (gr
 unfolding graphOf
 laid-inside laid = record { edge = λ v w l e. ⊎-elim (λ h. rw h (laid .next-lt v l)) (λ h. rw h (laid .other-lt v l)) (e .1) }
 
-pub reach-lt : {k nx o : List ℕ} {n : ℕ} → Laid k nx o n → {u v : ℕ} → Reach (graphOf k nx o) u v → u < n → v < n
-reach-lt laid r l = reach-inside (laid-inside laid) r l
-
 -- what follows a place is a place
 pub successor-lt : {k nx o : List ℕ} {n v w : ℕ} → Laid k nx o n → v < n → (w ≡ getD nx v 0) ⊎ (w ≡ getD o v 0) → w < n
 successor-lt {v = v} laid l e = ⊎-elim (λ h. rw h (laid .next-lt v l)) (λ h. rw h (laid .other-lt v l)) e

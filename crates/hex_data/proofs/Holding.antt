@@ -1,5 +1,5 @@
 -- A buffer that holds what records give, and of one more record the bytes so far.
-use mathlib.Core.Path.{_≡_, refl, sym, ap, _∙_}
+use mathlib.Core.Path.{_≡_, sym, ap, _∙_}
 use mathlib.Core.Bool.{Bool, true, false}
 use mathlib.Core.List.{List, [], _∷_}
 use Prim.Native.Nat.{ℕ, _+_, _-_, _<_, _≤_}
@@ -9,7 +9,7 @@ use borrow.Author.Tests.{lt-ltb, le-ltb, le-leb, lt-leb}
 use lib.Dec.{leb}
 use lib.ListN.{length, getD, take}
 use lib.Seq.{take-all, length-take-le, getD-take}
-use Rattle.laws.specs.Choice.{pick, either}
+use Rattle.laws.specs.Choice.{either}
 use Rattle.laws.proofs.Choices.{both-false}
 use Rattle.hex_work.specs.Given.{Given, gives, isGiven, byteAt}
 use Rattle.hex_work.specs.Work.{bitOf, Holds, Puts}

@@ -1,6 +1,6 @@
 -- A record by the places of its fields in the line: RECLEN at 1, LOAD OFFSET at 3, RECTYP at 7, DATA at 9.
-use mathlib.Core.Path.{_≡_, refl, sym, ap, _∙_}
-use mathlib.Core.Bool.{Bool, true, false, not}
+use mathlib.Core.Path.{_≡_, sym, _∙_}
+use mathlib.Core.Bool.{true, false, not}
 use mathlib.Core.List.{List, [], _∷_}
 use Prim.Native.Nat.{ℕ, zero, suc, _+_, _*_, _%_, _<_, _≤_}
 use Prim.Native.Char.{code}
@@ -16,7 +16,7 @@ use Rattle.laws.proofs.Choices.{both-false}
 use Rattle.text_words.specs.Words.{allDigits}
 use Rattle.hexadecimal.specs.Hexadecimal.{digitOf}
 use Rattle.hex_line.specs.Refusals.{malformed-line-or-end-with-bytes, record-sum, record-type}
-use Rattle.hex_line.specs.Record.{Judged, data-record, end-record, faulty, byteOf, bytesOf, reclen, isData, isEnd, total, isRecord, recordOf, lineOf}
+use Rattle.hex_line.specs.Record.{Judged, data-record, end-record, faulty, byteOf, bytesOf, reclen, total, isRecord, recordOf, lineOf}
 use Rattle.hex_line.specs.Reads.{bytesAt, Stands}
 use Rattle.hex_line.proofs.Pairs.{byte-of-pair, bytes-drop, bytes-take}
 

@@ -1,19 +1,15 @@
 -- A line takes the stage on: by what it is, and by the stage.
-use mathlib.Core.Path.{_≡_, refl, sym, ap, _∙_}
+use mathlib.Core.Path.{_≡_, refl, sym, _∙_}
 use mathlib.Core.List.{List, _∷_}
 use Prim.Native.Nat.{ℕ}
 use borrow.Author.Tests.{eq-eqb, ne-eqb}
-use lib.ListN.{length}
-use Rattle.hex_line.specs.Record.{Judged, data-record, end-record, faulty, lineOf}
-use Rattle.hex_line.specs.Reads.{meaningOf}
+use Rattle.hex_line.specs.Record.{Judged, end-record, faulty, lineOf}
 use Rattle.hex_line.specs.declared.Line.{Line}
 use Rattle.hex_line.specs.declared.Line.the-variants.{Data, End, Fault}
-use Rattle.hex_work.specs.Given.{Given, refusalOf}
-use Rattle.hex_work.specs.Work.{Holds}
+use Rattle.hex_work.specs.Given.{refusalOf}
 use Rattle.hex_data.specs.Takes.{recordAt, Takes}
-use Rattle.hex_progress.specs.Progress.{Progress, going, ended, stopped, Reading, good, refused, afterData, afterJudged, afterLine, atEnd}
-use Rattle.hex_progress.specs.Reached.{Held, Reached, Concluded, Advances}
-use Rattle.hex_progress.specs.declared.Stage.{Stage}
+use Rattle.hex_progress.specs.Progress.{Progress, going, ended, good, refused, afterJudged, afterLine, atEnd}
+use Rattle.hex_progress.specs.Reached.{Held, Advances}
 use Rattle.hex_progress.specs.declared.Stage.the-variants.{Going, Ended, Stopped}
 
 -- from a stage that goes on, to what the line is judged

@@ -1,5 +1,5 @@
 -- A fault stops the reading, and no line changes that.
-use mathlib.Core.Path.{_≡_, refl, sym, _∙_}
+use mathlib.Core.Path.{_≡_, refl, _∙_}
 use mathlib.Core.Bool.{Bool, true, false}
 use mathlib.Core.List.{List, [], _∷_}
 use Prim.Native.Nat.{ℕ, suc, _≤_}
@@ -8,8 +8,8 @@ use Rattle.hex_line.specs.Record.{faulty, lineOf}
 use Rattle.hex_line.specs.Reads.{meaningOf, Long}
 use Rattle.hex_line.specs.declared.Line.{Line}
 use Rattle.hex_line.specs.declared.Line.the-variants.{Data, End, Fault}
-use Rattle.hex_progress.specs.Progress.{Progress, going, ended, stopped, Reading, refused, afterLine, afterLines, atEnd, readLines}
-use Rattle.hex_progress.specs.Reached.{Held, Reached, Concluded, isStopped}
+use Rattle.hex_progress.specs.Progress.{Progress, going, ended, stopped, afterLine, afterLines, atEnd, readLines}
+use Rattle.hex_progress.specs.Reached.{Reached, isStopped}
 use Rattle.hex_progress.specs.declared.Stage.{Stage}
 use Rattle.hex_progress.specs.declared.Stage.the-variants.{Going, Ended, Stopped}
 

@@ -3,8 +3,6 @@ use hex_data::take_data;
 use hex_line::END_MISSING_OR_TEXT_AFTER;
 use hex_line::Line;
 ghost use mathlib.Core.Path.{_≡_};
-ghost use mathlib.Core.List.{List};
-ghost use Prim.Native.Nat.{ℕ};
 ghost use lib.ListN.{length};
 ghost use Rattle.hex_line.specs.Reads.{Placed};
 ghost use Rattle.hex_progress.specs.Progress.{Progress, atEnd};

@@ -1,13 +1,13 @@
 -- What the reader's call answers; and that it has one answer.
-use mathlib.Core.Path.{_≡_, refl, sym, ap, _∙_}
+use mathlib.Core.Path.{_≡_, sym, ap, _∙_}
 use mathlib.Core.List.{List}
 use Prim.Native.Nat.{ℕ}
 use borrow.Author.Tests.{eq-eqb, ne-eqb}
 use lib.ListN.{length, take}
 use Rattle.hex_work.proofs.Fills.{held-image}
-use Rattle.hex_progress.specs.Progress.{Reading, good, refused, readOf}
+use Rattle.hex_progress.specs.Progress.{good, refused, readOf}
 use Rattle.hex_progress.specs.Reached.{Held}
-use Rattle.hex_reader.specs.Reader.{Result, resultOf, readInto, ReadHex}
+use Rattle.hex_reader.specs.Reader.{Result, readInto, ReadHex}
 use Rattle.hex_reader.specs.declared.HexRead.{HexRead}
 
 module _ (text before : List ℕ) where

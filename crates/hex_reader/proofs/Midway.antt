@@ -5,12 +5,11 @@ use mathlib.Core.List.{List, [], _∷_}
 use Prim.Native.Nat.{ℕ, suc, _+_, _-_, _*_, _≤_}
 use native.Mathlib.Omega.{arith}
 use lib.ListN.{length, drop, drop-of-length-le}
-use Rattle.hex_line.specs.Record.{lineOf}
 use Rattle.hex_line.specs.declared.Line.{Line}
 use Rattle.hex_lines.specs.Lines.{hexLines}
 use Rattle.hex_text.specs.Found.{RecordAt}
 use Rattle.hex_work.specs.Work.{Holds}
-use Rattle.hex_progress.specs.Progress.{Progress, going, Reading, afterLine, afterLines, atEnd, readLines, readOf}
+use Rattle.hex_progress.specs.Progress.{Progress, going, afterLine, afterLines, atEnd, readLines, readOf}
 use Rattle.hex_progress.specs.Reached.{Reached, Concluded, Advances, isStopped}
 use Rattle.hex_progress.specs.declared.Stage.{Stage}
 use Rattle.hex_progress.specs.declared.Stage.the-variants.{Going}

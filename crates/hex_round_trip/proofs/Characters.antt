@@ -1,17 +1,17 @@
 -- The characters of bytes: digits that read back as the bytes, and none that ends a line.
-use mathlib.Core.Path.{_≡_, refl, ap, _∙_}
-use mathlib.Core.Bool.{Bool, true}
+use mathlib.Core.Path.{_≡_, refl, _∙_}
+use mathlib.Core.Bool.{true}
 use mathlib.Core.List.{List, [], _∷_, _++_}
-use Prim.Native.Nat.{ℕ, zero, suc, _+_, _*_, _/_, _%_, _<_}
+use Prim.Native.Nat.{ℕ, suc, _+_, _*_, _/_, _%_, _<_}
 use native.Mathlib.Omega.{arith}
 use borrow.Author.Tests.{lt-ltb}
-use lib.Dec.{T, eqb, eqb→eq, ltb, ltb→lt}
+use lib.Dec.{eqb, eqb→eq, ltb, ltb→lt}
 use lib.ListN.{length, getD}
-use Rattle.laws.proofs.Computed.{below, at}
+use Rattle.laws.proofs.Computed.{at}
 use Rattle.text_words.specs.Words.{allDigits}
 use Rattle.hexadecimal.specs.Hexadecimal.{digitOf}
 use Rattle.text_digits.specs.Digits.{digit, inBase, hex}
-use Rattle.hex_line.specs.Record.{byteOf, bytesOf}
+use Rattle.hex_line.specs.Record.{bytesOf}
 use Rattle.hex_writer.specs.Writer.{hexBytes}
 
 -- each is a byte

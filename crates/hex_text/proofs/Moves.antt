@@ -2,12 +2,11 @@
 use mathlib.Core.Path.{_≡_, refl, sym, ap, _∙_}
 use mathlib.Core.List.{List, [], _∷_}
 use Prim.Native.Nat.{ℕ, zero, suc, _+_, _-_, _*_, _^_, _<_, _≤_}
-use native.Mathlib.Nat.{not-suc-le-zero}
 use native.Mathlib.Omega.{arith}
 use lib.ListN.{length, getD, take, drop, length-take, length-drop}
 use lib.Seq.{take-take, drop-drop, getD-take, getD-drop}
-use Rattle.hex_line.specs.Record.{data-record, bytesOf, byteOf, lineOf}
-use Rattle.hex_line.specs.Reads.{bytesAt, meaningOf, Stands, Placed, Long, Judges}
+use Rattle.hex_line.specs.Record.{data-record, bytesOf}
+use Rattle.hex_line.specs.Reads.{bytesAt, meaningOf, Placed, Long, Judges}
 use Rattle.hex_line.specs.declared.Line.{Line}
 use Rattle.hex_line.specs.declared.Line.the-variants.{Data, End, Fault}
 use Rattle.hex_lines.specs.Lines.{LineAt}

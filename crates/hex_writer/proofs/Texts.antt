@@ -1,5 +1,5 @@
 -- The text of bytes and of records, a part at a time.
-use mathlib.Core.Path.{_≡_, refl, sym, ap, _∙_}
+use mathlib.Core.Path.{_≡_, refl, sym, _∙_}
 use mathlib.Core.List.{List, [], _∷_, _++_, append-assoc, append-nil}
 use Prim.Native.Nat.{ℕ, suc, _+_, _-_, _*_, _/_, _%_, _<_, _≤_}
 use native.Mathlib.Numerals.{add-one}
@@ -11,7 +11,7 @@ use Rattle.laws.proofs.Writing.{wrote-then, writing-more, writing-none}
 use Rattle.text_digits.specs.Digits.{hex}
 use Rattle.text_digits.proofs.Numbers.{digits-length}
 use Rattle.hex_line.specs.Record.{total}
-use Rattle.hex_writer.specs.Writer.{hexBytes, chksum, recordLine, recordText, dataFields, endFields, sixteenAt, recordsFrom, textOf}
+use Rattle.hex_writer.specs.Writer.{hexBytes, chksum, recordText, dataFields, endFields, sixteenAt, recordsFrom, textOf}
 
 pub hex-append : (a b : List ℕ) → hexBytes (a ++ b) ≡ hexBytes a ++ hexBytes b
 hex-append [] b = refl

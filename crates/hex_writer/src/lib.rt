@@ -3,7 +3,7 @@ use hex_work::IMAGE_SIZE;
 use text_digits::number;
 use text_digits::put;
 ghost use mathlib.Core.Path.{_≡_};
-ghost use mathlib.Core.List.{List, [], _∷_, _++_};
+ghost use mathlib.Core.List.{_∷_, _++_};
 ghost use Prim.Native.Nat.{_+_, _*_, _<_, _≤_, _%_, _/_};
 ghost use lib.ListN.{length, drop};
 ghost use Rattle.laws.specs.Writing.{Wrote};

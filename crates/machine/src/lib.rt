@@ -1,5 +1,5 @@
 // The record: its types. ram.rt and pack.rt read and write RAM, stack.rt is for calls and interrupts.
-pub mod pack;
+mod pack;
 pub mod ram;
 pub mod stack;
 

@@ -13,7 +13,7 @@ ghost use Rattle.machine.specs.Ram.{Peeked};
 ghost use Rattle.machine.specs.Stack.{stored, topOf, pcAt, keptTop, level};
 
 // The nibble of PC12, CF, ZF, SF from bit 0 up.
-pub fn top_of(pc: u16, r: Registers) -> u8
+pub(crate) fn top_of(pc: u16, r: Registers) -> u8
     requires { ⌜ pc < addresses ⌝ }
     ensures { λ x. ⌜ x ≡ topOf pc r ⌝ }
 {
@@ -21,7 +21,7 @@ pub fn top_of(pc: u16, r: Registers) -> u8
 }
 
 // The nibble of PC12, with the flag bits of the one that stands there.
-pub fn kept_top(pc: u16, old: u8) -> u8
+pub(crate) fn kept_top(pc: u16, old: u8) -> u8
     requires { ⌜ (pc < addresses) × (old < 16) ⌝ }
     ensures { λ x. ⌜ x ≡ keptTop pc old ⌝ }
 {
@@ -43,7 +43,7 @@ fn place_of(n: u8) -> usize
 }
 
 // The four nibbles of level n.
-pub fn store(ram: &mut Ram, n: u8, pc: u16, top: u8)
+pub(crate) fn store(ram: &mut Ram, n: u8, pc: u16, top: u8)
     requires { ⌜ n ≤ 12 ⌝ }
     ensures { λ _. ⌜ now (ram .exit) ≡ stored (now (ram .entry)) n pc top ⌝ }
 {
@@ -54,7 +54,7 @@ pub fn store(ram: &mut Ram, n: u8, pc: u16, top: u8)
     poke(ram, at + 3, top);
 }
 
-pub fn pc_at(ram: &Ram, n: u8) -> u16
+pub(crate) fn pc_at(ram: &Ram, n: u8) -> u16
     requires { ⌜ (Nibbles (now ram)) × (n ≤ 12) ⌝ }
     ensures { λ x. ⌜ x ≡ pcAt (now (ram .entry)) n ⌝ }
 {
@@ -67,7 +67,7 @@ pub fn pc_at(ram: &Ram, n: u8) -> u16
     )
 }
 
-pub fn top_at(ram: &Ram, n: u8) -> u8
+pub(crate) fn top_at(ram: &Ram, n: u8) -> u8
     requires { ⌜ (Nibbles (now ram)) × (n ≤ 12) ⌝ }
     ensures { λ x. ⌜ Peeked (now (ram .entry)) (level n + 3) x ⌝ }
 {

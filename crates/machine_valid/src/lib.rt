@@ -73,7 +73,7 @@ fn mode_fits(mode: Mode, p16: u8) -> bool
     }
 }
 
-pub fn core_is_valid(m: Core) -> bool
+fn core_is_valid(m: Core) -> bool
     ensures { λ x. ⌜ Decides x (ValidCore m) ⌝ }
 {
     let mode = m.mode;

@@ -5,7 +5,7 @@ use mathlib.Core.List.{List}
 use mathlib.Core.Path.{_≡_, refl, _∙_}
 use lib.Dec.{eqb}
 use Rattle.laws.proofs.Choices.{picked, neither-left, neither-right}
-use Rattle.sheet.specs.Operation.{Register, Port, Pointer, Place, Step, After}
+use Rattle.sheet.specs.Operation.{Port, Pointer, Place, Step, After}
 use Rattle.sheet.specs.Table.{Line}
 use Rattle.ports.specs.declared.Ports.{Ports}
 use Rattle.machine.specs.declared.Registers.{Registers}

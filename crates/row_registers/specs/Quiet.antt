@@ -7,7 +7,6 @@ use Rattle.numbers.specs.Sizes.{addresses}
 use Rattle.sheet.specs.Reading.{insn}
 use Rattle.machine.specs.With.{assembled, coreWithRegs, coreWithPc}
 use Rattle.machine.specs.declared.Core.{Core}
-use Rattle.machine.specs.declared.Machine.{Machine}
 use Rattle.row.specs.Rows.{Done, executed}
 use Rattle.row_ends.specs.declared.Act.{Act}
 

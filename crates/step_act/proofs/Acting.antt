@@ -12,7 +12,6 @@ use Rattle.ports.specs.declared.Mode.{Mode}
 use Rattle.machine.specs.Stack.{canPush, accepted}
 use Rattle.machine.specs.Valid.{Valid}
 use Rattle.machine.specs.declared.Core.{Core}
-use Rattle.machine.specs.declared.Machine.{Machine}
 use Rattle.row.specs.Rows.{Done, spent}
 use Rattle.machine.specs.With.{assembled}
 use Rattle.row.specs.declared.Turn.{Turn}

@@ -1,8 +1,7 @@
 -- A look at a frame makes a valid record of a valid one, and leaves a running one running.
-use mathlib.Core.Path.{_≡_, refl, sym, _∙_}
-use mathlib.Core.Bool.{Bool, true, false}
+use mathlib.Core.Path.{_≡_, refl, _∙_}
+use mathlib.Core.Bool.{true}
 use Prim.Native.Nat.{ℕ}
-use Rattle.laws.specs.Choice.{pick}
 use Rattle.laws.proofs.Computed.{true→T}
 use Rattle.frame.specs.Frame.{PinsInRange}
 use Rattle.edges.specs.Edges.{rose, wakes}

@@ -3,7 +3,6 @@ use mathlib.Core.Path.{_≡_, sym, _∙_}
 use mathlib.Core.Bool.{false}
 use Prim.Native.Nat.{ℕ, _+_, _-_, _<_, _≤_}
 use denote.Ref.{now}
-use borrow.Author.Count.{below-more}
 use Rattle.hex_work.specs.Work.{bitOf}
 use Rattle.hex_data.proofs.Some.{some-true, some-false, clear-more}
 use native.Mathlib.Omega.{arith}

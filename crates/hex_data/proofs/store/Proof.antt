@@ -4,7 +4,7 @@ use mathlib.Core.Bool.{false}
 use mathlib.Core.List.{List, _∷_}
 use Prim.Native.Nat.{ℕ, _+_, _-_, _*_, _<_, _≤_}
 use denote.Ref.{now}
-use lib.ListN.{length, getD}
+use lib.ListN.{length}
 use Rattle.hex_line.specs.Reads.{bytesAt}
 use Rattle.hex_line.proofs.Pairs.{bytes-at-length, byte-of-text}
 use Rattle.hex_work.specs.Given.{Given}

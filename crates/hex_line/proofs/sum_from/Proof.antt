@@ -1,5 +1,5 @@
 -- `hex_line::sum_from` meets its contract: from i on the pairs are still to be added.
-use mathlib.Core.Path.{_≡_, refl, ap}
+use mathlib.Core.Path.{_≡_}
 use Prim.Native.Nat.{_+_, _-_, _%_, _<_, _≤_}
 use denote.Ref.{now}
 use lib.ListN.{length, getD, drop}

@@ -1,5 +1,4 @@
 -- `hex_work::clear` meets its contract.
-use denote.Ref.{now}
 use Rattle.hex_work.proofs.Fills.{cleared}
 use borrow.Author.Needs.{needs}
 use Rattle.hex_work.proofs.clear.Statement.{statement}

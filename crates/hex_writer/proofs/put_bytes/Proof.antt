@@ -1,7 +1,6 @@
 -- `hex_writer::put_bytes` meets its contract: from i on the bytes are still to be written.
 use mathlib.Core.Path.{_≡_}
 use Prim.Native.Nat.{_+_, _-_, _*_, _≤_}
-use denote.Ref.{now}
 use lib.ListN.{length, drop}
 use Rattle.laws.specs.Writing.{Writing}
 use Rattle.laws.proofs.Writing.{writing-all}
