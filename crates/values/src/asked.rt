@@ -34,7 +34,7 @@ pub fn begin(image: &mut [u8; IMAGE_BYTES], b: Bench) -> Bench {
 
 // An address's byte in the image; addresses wrap.
 fn put(image: &mut [u8; IMAGE_BYTES], address: u32, v: u32) {
-    image[(address % ADDRESSES) as usize] = (v % 256) as u8;
+    image[(address % (ADDRESSES as u32)) as usize] = (v % 256) as u8;
 }
 
 // The words from a place on, put into the image from an address on; the address after them.
@@ -46,7 +46,7 @@ fn put_words(image: &mut [u8; IMAGE_BYTES], text: &[u8], from: usize, address: u
     let mut to = address;
     while at < text.len() {
         put(image, to, hexadecimal_at(text, at));
-        to = (to + 1) % ADDRESSES;
+        to = (to + 1) % (ADDRESSES as u32);
         at = next_word(text, at);
     }
     to
@@ -62,7 +62,12 @@ fn put_all(image: &mut [u8; IMAGE_BYTES], text: &[u8], from: usize) -> u32
         return 0;
     }
     let bytes = next_word(text, at);
-    put_words(image, text, bytes, hexadecimal_at(text, at) % ADDRESSES)
+    put_words(
+        image,
+        text,
+        bytes,
+        hexadecimal_at(text, at) % (ADDRESSES as u32),
+    )
 }
 
 pub fn bytes(image: &mut [u8; IMAGE_BYTES], b: Bench, text: &[u8], from: usize) -> Bench
@@ -105,7 +110,7 @@ pub fn rows(image: &mut [u8; IMAGE_BYTES], b: Bench, text: &[u8], from: usize) -
     let end = put_all(image, text, from);
     let at = next_word(text, from);
     if at < text.len() {
-        let start = hexadecimal_at(text, at) % ADDRESSES;
+        let start = hexadecimal_at(text, at) % (ADDRESSES as u32);
         list(image, start as u16, end as u16);
     }
     b

@@ -50,7 +50,7 @@ pub fn image_from(code: &[u8]) -> Image {
     image.into()
 }
 
-/// A step at the image's start, or where the record's PC is.
+/// A step at an image of NOPs that begins with `code`.
 pub struct Step<'a> {
     pub code: &'a [u8],
     pub wake: u8,

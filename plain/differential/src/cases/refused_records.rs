@@ -1,7 +1,7 @@
 //! Document 01, "The record": one record a field and a tie that is outside its range, which every call that takes a record
 //! refuses with 2; and records that are within it and not fresh.
 
-use super::record::{fresh, with, with_last_frame, HOLD, RUNNING, SLEEP};
+use super::record::{fresh, with, HOLD, RUNNING, SLEEP};
 use super::{answer, image_from, refused, Case, ALL_WAKE, NOP, SOUND_OFF};
 use crate::calls::Call;
 use plain::numbers::RECORD_RANGE;
@@ -116,7 +116,7 @@ fn greatest() -> Taken {
     let others = [("SF", 0), ("EI", 0), ("IL", 0b10_1111), ("mask", 15), ("mode", RUNNING)];
     let latches = LATCHES.map(|latch| (latch, 15));
     let full_ram = |record: &[u8]| [&record[..record.len() - RAM_SIZE], &[15; RAM_SIZE][..]].concat();
-    let record = with(&full_ram(&with_last_frame(&fresh(), FRAME)), &[&kept[..], &counts, &others, &latches].concat());
+    let record = with(&full_ram(&fresh()), &[&kept[..], &counts, &others, &latches].concat());
     Taken {
         stepped: with(&record, &counts.map(|(count, _)| (count, 0))),
         cycles: 1,

@@ -23,6 +23,12 @@ put-requires c κs = search needs
 add-to : tie.Need-add-to Inv-loop μ-loop
 add-to c = search needs
 
+cast-to : tie.Need-cast-to Inv-loop μ-loop
+cast-to c = search needs
+
+rem-to : tie.Need-rem-to Inv-loop μ-loop
+rem-to c = search needs
+
 next-word-requires : tie.Need-next-word-requires Inv-loop μ-loop
 next-word-requires c κs = search needs
 
@@ -45,6 +51,8 @@ put-words-spec =
     hexadecimal-at-requires
     put-requires
     add-to
+    cast-to
+    rem-to
     next-word-requires
     loop-less
     loop-again
