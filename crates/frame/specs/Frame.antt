@@ -14,7 +14,7 @@ use Rattle.frame.specs.declared.Frame.the-variants.{Seen, NoFrame}
 abbrev pub em73862Digits : List ℕ
 em73862Digits = 16 ∷ 16 ∷ 2 ∷ []
 
--- as many characters as limits, each a digit below its limit
+-- as many characters as limits, each a digit below its limit; so "an empty line is no frame"
 abbrev pub isFrame : List ℕ → List ℕ → Bool
 isFrame [] [] = true
 isFrame [] (c ∷ cs) = false

@@ -14,7 +14,7 @@ use Rattle.ports.specs.declared.Mode.{Mode}
 use Rattle.machine.specs.declared.Core.{Core}
 use Rattle.machine.specs.declared.Machine.{Machine}
 
--- "ACC, HR, LR, SP, mask, port latches: 0 to 15." "DP, timers TA and TB: 0 to 4095."
+-- "ACC, HR, LR, SP, mask, port latches: 0 to 15." "DP, timers TA and TB: 0 to 4095." "CF, ZF, SF, EI: one bit": their types are truth values
 pub record ValidRegisters (r : Registers) : Type 0 where
   pub acc : r .acc < 16
   pub hr : r .hr < 16

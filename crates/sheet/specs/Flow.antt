@@ -6,7 +6,7 @@ use Rattle.sheet.specs.Operation.{Target, Entry}
 use Rattle.sheet.specs.Operation.Target.{page, half, whole}
 use Rattle.sheet.specs.Operation.Entry.{long, short}
 
--- "SBR keeps PC bits 12..6 and LBR bit 12 of its own first byte. SLBR: 55h goes to the upper 4 KiB, 57h to the lower": its operand has bit 12
+-- "SBR keeps PC bits 12..6 and LBR bit 12 of its own first byte. SLBR: 55h goes to the upper 4 KiB, 57h to the lower, second byte 1100 aaaa (001)": its codes stand in the table, and its operand has bit 12
 abbrev pub targetOf : Target → ℕ → ℕ → ℕ
 targetOf page at a = at / 64 * 64 + a
 targetOf half at a = at / 4096 * 4096 + a

@@ -23,6 +23,7 @@ stepRefused number m = record { number = number; cycles = 0; machine = m }
 abbrev pub stepped : Done → Stepped
 stepped x = record { number = x .stop; cycles = x .cycles; machine = x .machine }
 
+-- "Only inputs a call has can refuse it; the order is the table's". "All are given exactly then."
 pub record StepOf (image : List ℕ) (o : Options) (m : Machine) (frame : List ℕ) (r : Stepped) : Type 0 where
   pub refused-1 : (length image ≡ imageBytes → ⊥) → r ≡ stepRefused image-is-not-8192-bytes m
   pub refused-2 : length image ≡ imageBytes → (Valid m → ⊥) → r ≡ stepRefused record-outside-the-ranges m

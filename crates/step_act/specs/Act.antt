@@ -45,7 +45,7 @@ ratesOf m = record { p25 = m .ports .p25; p28 = m .ports .p28; p29 = m .ports .p
 abbrev pub timed : ℕ → Core → Core
 timed n m = withTime m (passed n (ratesOf m) (timeOf m))
 
--- "phase 3 is left out" on entering sleep or hold
+-- "phase 3 is left out (the row's cycles are still spent)" on entering sleep or hold
 abbrev pub coreIn : Mode → ℕ → Core → Core
 coreIn Mode.Running n m = timed n m
 coreIn Mode.Sleep n m = m

@@ -46,7 +46,7 @@ wakingCycles Mode.Running p16 = 0
 wakingCycles Mode.Sleep p16 = getD (32768 ∷ 2048 ∷ 8192 ∷ []) (p16 % 4) 0
 wakingCycles Mode.Hold p16 = 0
 
--- "In sleep or hold a step only looks for a falling edge on an enabled wake pin. None: 0 cycles. One: running again"
+-- "In sleep or hold a step only looks for a falling edge on an enabled wake pin. None: 0 cycles. One: running again". "P16 bit 3 is kept and has no effect."
 unfoldable pub waited : ℕ → Core → Pins → Looked
 waited enabled m new =
     pick (wakes enabled (m .pins) new)
