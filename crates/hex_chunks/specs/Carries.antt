@@ -3,12 +3,13 @@ use Prim.Native.Nat.{ℕ, _+_, _*_, _^_, _<_, _≤_}
 use mathlib.Core.Path.{_≡_}
 use mathlib.Core.Bool.{Bool, true, false}
 use mathlib.Core.List.{List, []}
-use lib.ListN.{length, take}
+use lib.ListN.{length}
 use Rattle.paper.specs.ComesBack.{image-is-not-8192-bytes}
 use Rattle.hex_line.specs.Refusals.{work-buffer-is-not-9216-bytes}
 use Rattle.hex_work.specs.Given.{imageSize}
-use Rattle.hex_work.specs.Work.{workSize}
+use Rattle.hex_work.specs.Work.{workSize, Holds}
 use Rattle.hex_progress.specs.Progress.{going, Reading, good, refused, afterLines}
+use Rattle.hex_held.specs.Kept.{Kept}
 use Rattle.hex_progress.specs.Reached.{Reached, isStopped}
 use Rattle.hex_progress.specs.declared.Stage.{Stage}
 use Rattle.hex_progress.specs.declared.Stage.the-variants.{Going, Ended, Stopped}
@@ -18,14 +19,6 @@ use Rattle.hex_chunks.specs.declared.Told.{Told}
 use Rattle.hex_chunks.specs.declared.Told.the-variants.{More, Good, Refused}
 use Rattle.hex_chunks.specs.declared.Fed.{Fed}
 
--- a line that is begun, of which 522 characters are held: no record's line has more, CR included
-abbrev pub heldSize : ℕ
-heldSize = 522
-
-pub record Kept (held : List ℕ) (count : ℕ) (line : List ℕ) : Type 0 where
-  pub short : count ≤ heldSize → (take count held ≡ line) × (count ≡ length line)
-  pub long : heldSize < count → heldSize < length line
-
 -- the lines so far and the one that is begun; each line before it has eleven characters at least
 pub record Along (text held : List ℕ) (count n : ℕ) (stage : Stage) (work : List ℕ) : Type 0 where
   pub kept : Kept held count (begunAfter [] text)
@@ -33,6 +26,18 @@ pub record Along (text held : List ℕ) (count n : ℕ) (stage : Stage) (work : 
   pub reached : Reached stage work (afterLines (going []) 1 (completed [] text))
   pub on : isStopped stage ≡ false
   pub counted : 11 * n + length (begunAfter [] text) ≤ length text + 11
+
+-- the work buffer is in use, or holds no record yet
+abbrev pub Readied : Bool → List ℕ → List ℕ → Type 0
+Readied true before after = after ≡ before
+Readied false before after = Holds after []
+
+-- a chunk after a text: what is reached with its lines, and where nothing stopped it the line that is begun
+pub record Chunked (text : List ℕ) (r : HexChunks) (work : List ℕ) : Type 0 where
+  pub reached : Reached (r .stage) work (afterLines (going []) 1 (completed [] text))
+  pub along : isStopped (r .stage) ≡ false → Along text (r .held) (r .count) (r .line) (r .stage) work
+  pub begun : r .begun ≡ true
+  pub over : r .over ≡ false
 
 -- before the first call the work buffer may have any contents
 abbrev pub CarriesText : HexChunks → List ℕ → List ℕ → Bool → Type 0
@@ -44,6 +49,16 @@ abbrev pub Carries : HexChunks → List ℕ → Session → Type 0
 Carries s work (fed text) = (length text < 2 ^ 64) × (s .over ≡ false) × CarriesText s work text (s .begun)
 Carries s work (told (good ds)) = (s .over ≡ true) × (isStopped (s .stage) ≡ false)
 Carries s work (told (refused number line)) = s .stage ≡ Stopped number line
+
+-- what a state tells
+abbrev pub moreOrGood : Bool → Told
+moreOrGood true = Good
+moreOrGood false = More
+
+abbrev pub toldOf : Bool → Stage → Told
+toldOf over Going = moreOrGood over
+toldOf over Ended = moreOrGood over
+toldOf over (Stopped number line) = Refused number line
 
 -- the session's answer
 abbrev pub Tells : Told → Session → Type 0
@@ -58,32 +73,33 @@ Fits (told r) chunk = Unit
 
 -- "47 work buffer not 9,216 bytes, tested first, then 1 for the image buffer": the state and the buffers stay
 pub record Stays (number : ℕ) (s : HexChunks) (work workAfter image imageAfter : List ℕ) (r : Fed) : Type 0 where
-  pub told : r .told ≡ Refused number 0
-  pub state : r .state ≡ s
-  pub work : workAfter ≡ work
-  pub image : imageAfter ≡ image
+  pub answer : r .told ≡ Refused number 0
+  pub state-kept : r .state ≡ s
+  pub work-kept : workAfter ≡ work
+  pub image-kept : imageAfter ≡ image
 
--- a call takes the session on to another, and tells its answer
-pub record TakesOn (from to : Session) (s : HexChunks) (work workAfter : List ℕ) (r : Fed) : Type 0 where
-  pub carries : Carries (r .state) workAfter to
-  pub tells : Tells (r .told) to
+-- a call takes the session on, and tells its answer
+pub record TakesTo (session : Session) (work : List ℕ) (r : Fed) : Type 0 where
+  pub carries : Carries (r .state) work session
+  pub tells : Tells (r .told) session
 
 -- "later calls repeat that answer and change nothing"
-pub record Repeats (session : Session) (s : HexChunks) (work workAfter image imageAfter : List ℕ) (r : Fed) : Type 0 where
-  pub tells : Tells (r .told) session
-  pub state : r .state ≡ s
-  pub work : workAfter ≡ work
-  pub image : imageAfter ≡ image
+pub record Repeats (s : HexChunks) (work workAfter image imageAfter : List ℕ) (r : Fed) : Type 0 where
+  pub state-kept : r .state ≡ s
+  pub work-kept : workAfter ≡ work
+  pub image-kept : imageAfter ≡ image
 
+-- a chunk is fed. The image buffer is lent to be read only
 pub record FeedCall (s : HexChunks) (chunk work workAfter image : List ℕ) (r : Fed) : Type 0 where
   pub short-work : (length work ≡ workSize → ⊥) → Stays work-buffer-is-not-9216-bytes s work workAfter image image r
   pub short-image : length work ≡ workSize → (length image ≡ imageSize → ⊥) → Stays image-is-not-8192-bytes s work workAfter image image r
-  pub feeds : length work ≡ workSize → length image ≡ imageSize → (session : Session) → Carries s work session → Fits session chunk → TakesOn session (afterChunk session chunk) s work workAfter r
-  pub repeats : length work ≡ workSize → length image ≡ imageSize → (t : Reading) → Carries s work (told t) → Repeats (told t) s work workAfter image image r
+  pub feeds : length work ≡ workSize → length image ≡ imageSize → (session : Session) → Carries s work session → Fits session chunk → TakesTo (afterChunk session chunk) workAfter r
+  pub repeats : length work ≡ workSize → length image ≡ imageSize → (t : Reading) → Carries s work (told t) → Repeats s work workAfter image image r
 
+-- the end is declared
 pub record EndCall (s : HexChunks) (work workAfter image imageAfter : List ℕ) (r : Fed) : Type 0 where
   pub short-work : (length work ≡ workSize → ⊥) → Stays work-buffer-is-not-9216-bytes s work workAfter image imageAfter r
   pub short-image : length work ≡ workSize → (length image ≡ imageSize → ⊥) → Stays image-is-not-8192-bytes s work workAfter image imageAfter r
-  pub ends : length work ≡ workSize → length image ≡ imageSize → (session : Session) → Carries s work session → TakesOn session (afterEnd session) s work workAfter r
-  pub image : length work ≡ workSize → length image ≡ imageSize → (session : Session) → Carries s work session → imageAfter ≡ imageAtEnd session image
-  pub repeats : length work ≡ workSize → length image ≡ imageSize → (t : Reading) → Carries s work (told t) → Repeats (told t) s work workAfter image imageAfter r
+  pub ends : length work ≡ workSize → length image ≡ imageSize → (session : Session) → Carries s work session → TakesTo (afterEnd session) workAfter r
+  pub written : length work ≡ workSize → length image ≡ imageSize → (session : Session) → Carries s work session → imageAfter ≡ imageAtEnd session image
+  pub repeats : length work ≡ workSize → length image ≡ imageSize → (t : Reading) → Carries s work (told t) → Repeats s work workAfter image imageAfter r

@@ -1,5 +1,6 @@
 -- Document 02, Q-10: a text that comes in chunks, and what is told of it. The lines, their faults and the image are Q-3's.
 use Prim.Native.Nat.{ℕ}
+use mathlib.Core.Path.{_≡_}
 use mathlib.Core.List.{List, [], _∷_, _++_}
 use Rattle.laws.specs.Choice.{pick}
 use Rattle.script.specs.Script.{isLF}
@@ -58,3 +59,7 @@ afterChunks s (c ∷ cs) = afterChunks (afterChunk s c) cs
 abbrev pub joined : List (List ℕ) → List ℕ
 joined [] = []
 joined (c ∷ cs) = c ++ joined cs
+
+-- "must end with the image, refusal and line number of Q-3's reader on the whole text, for every cutting"
+abbrev pub AnyCutting : Type 0
+AnyCutting = (chunks : List (List ℕ)) → afterEnd (afterChunks (fed []) chunks) ≡ told (readOf (joined chunks))

@@ -57,6 +57,7 @@ fn complete(line: &[u8], n: usize, stage: Stage, work: &mut [u8]) -> Stage
 // Line n, which is too long to be a record.
 fn complete_long(n: usize, stage: Stage, work: &mut [u8]) -> Stage
     requires { ⌜ length (now work) ≡ 9216 ⌝ }
+    ensures { λ _. ⌜ length (now (work .exit)) ≡ 9216 ⌝ }
     ensures { λ r. ⌜ ((line : List ℕ) → 522 ≤ length line → Completes line n stage (now (work .entry)) (now (work .exit)) r) ⌝ }
 {
     let judged = Line::Fault(MALFORMED_OR_END_WITH_BYTES);
@@ -66,6 +67,7 @@ fn complete_long(n: usize, stage: Stage, work: &mut [u8]) -> Stage
 // Line n is complete with its LF.
 pub fn complete_line(held: &[u8], count: usize, n: usize, stage: Stage, work: &mut [u8]) -> Stage
     requires { ⌜ (length (now held) ≡ 522) × (length (now work) ≡ 9216) ⌝ }
+    ensures { λ _. ⌜ length (now (work .exit)) ≡ 9216 ⌝ }
     ensures { λ r. ⌜ ((line : List ℕ) → Kept (now (held .entry)) count line → Completes (withoutCR line) n stage (now (work .entry)) (now (work .exit)) r) ⌝ }
 {
     if HELD_SIZE < count {
@@ -78,6 +80,7 @@ pub fn complete_line(held: &[u8], count: usize, n: usize, stage: Stage, work: &m
 // Line n is the last, and ends in nothing.
 pub fn complete_last(held: &[u8], count: usize, n: usize, stage: Stage, work: &mut [u8]) -> Stage
     requires { ⌜ (length (now held) ≡ 522) × (length (now work) ≡ 9216) ⌝ }
+    ensures { λ _. ⌜ length (now (work .exit)) ≡ 9216 ⌝ }
     ensures { λ r. ⌜ ((line : List ℕ) → Kept (now (held .entry)) count line → Completes line n stage (now (work .entry)) (now (work .exit)) r) ⌝ }
 {
     if HELD_SIZE < count {

@@ -1,5 +1,5 @@
 -- `hex_held::complete_line` meets its contract.
-use mathlib.Core.Path.{sym}
+use mathlib.Core.Path.{sym, _∙_}
 use denote.Ref.{now}
 use lib.Seq.{length-take-le}
 use Rattle.hex_lines.specs.Lines.{withoutCR}
@@ -16,7 +16,7 @@ same-length : tie.Need-same-length
 same-length c = search needs
 
 returns : tie.Need-returns
-returns c = λ line k. c .before .before .complete-long .ensures (withoutCR line) (let l = k .long (c .before .before .before .before .if1 .taken) in omega (arith, cr-one line))
+returns c = (c .before .before .complete-long .ensures .0, λ line k. c .before .before .complete-long .ensures .1 (withoutCR line) (let l = k .long (c .before .before .before .before .if1 .taken) in omega (arith, cr-one line)))
 
 slice-aggregate-without-cr : tie.Need-slice-aggregate-without-cr
 slice-aggregate-without-cr c = sym (length-take-le (c .before .before .before .before .args .count) (now (c .before .before .before .before .args .held)) (omega arith))
@@ -34,7 +34,7 @@ same-length-2 : tie.Need-same-length-2
 same-length-2 c = search needs
 
 returns-2 : tie.Need-returns-2
-returns-2 c = λ line k. rw (held-line (now (c .before .before .before .before .before .before .before .before .before .before .args .held)) line (c .before .before .before .before .before .before .before .before .before .before .args .count) (c .before .before .before .before .before .without-cr .result) k (c .before .before .before .before .before .before .before .if1 .left) (c .before .before .before .before .before .without-cr .ensures .0) (omega (arith, c .before .before .before .before .before .without-cr .ensures .1, length-take-le (c .before .before .before .before .before .before .before .before .before .before .args .count) (now (c .before .before .before .before .before .before .before .before .before .before .args .held)) (omega arith)))) at (c .before .before .complete .ensures)
+returns-2 c = (c .before .before .complete .ensures .size ∙ c .before .before .before .before .before .before .before .before .before .before .pre .1, λ line k. rw (held-line (now (c .before .before .before .before .before .before .before .before .before .before .args .held)) line (c .before .before .before .before .before .before .before .before .before .before .args .count) (c .before .before .before .before .before .without-cr .result) k (c .before .before .before .before .before .before .before .if1 .left) (c .before .before .before .before .before .without-cr .ensures .0) (omega (arith, c .before .before .before .before .before .without-cr .ensures .1, length-take-le (c .before .before .before .before .before .before .before .before .before .before .args .count) (now (c .before .before .before .before .before .before .before .before .before .before .args .held)) (omega arith)))) at (c .before .before .complete .ensures))
 
 pub complete-line-spec : {M : Type 1} → statement M
 complete-line-spec =

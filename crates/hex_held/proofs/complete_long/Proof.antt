@@ -1,4 +1,5 @@
 -- `hex_held::complete_long` meets its contract.
+use mathlib.Core.Path.{_∙_}
 use Rattle.hex_held.proofs.Completing.{completes-long}
 use borrow.Author.Needs.{needs}
 use Rattle.hex_held.proofs.complete_long.Statement.{statement}
@@ -14,7 +15,7 @@ same-length : tie.Need-same-length
 same-length c = search needs
 
 returns : tie.Need-returns
-returns c = λ line h. completes-long line h (c .before .before .after-line .ensures)
+returns c = (c .before .before .after-line .ensures .size ∙ c .before .before .before .before .before .before .pre, λ line h. completes-long line h (c .before .before .after-line .ensures))
 
 pub complete-long-spec : {M : Type 1} → statement M
 complete-long-spec =

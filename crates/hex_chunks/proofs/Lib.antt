@@ -1,0 +1,6 @@
+pub mod Cuts
+pub mod Along
+pub mod Ends
+pub mod Sessions
+pub mod Answers
+pub mod AnyCutting
