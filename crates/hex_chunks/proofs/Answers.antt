@@ -58,6 +58,7 @@ module _ (s : HexChunks) (work : List ℕ) where
     pub feed-47 : (length work ≡ 9216 → ⊥) → FeedCall s chunk work work image (refusal s 47)
     feed-47 n =
         record {
+          size = refl;
           short-work = λ _. stays-so 47 s work image;
           short-image = λ w. absurd (n w);
           feeds = λ w. absurd (n w);
@@ -67,6 +68,7 @@ module _ (s : HexChunks) (work : List ℕ) where
     pub feed-1 : length work ≡ 9216 → (length image ≡ 8192 → ⊥) → FeedCall s chunk work work image (refusal s 1)
     feed-1 w n =
         record {
+          size = refl;
           short-work = λ m. absurd (m w);
           short-image = λ _ _. stays-so 1 s work image;
           feeds = λ _ i. absurd (n i);
@@ -76,6 +78,7 @@ module _ (s : HexChunks) (work : List ℕ) where
     pub feed-last : length work ≡ 9216 → length image ≡ 8192 → isLast → FeedCall s chunk work work image (again s)
     feed-last w i f =
         record {
+          size = refl;
           short-work = λ m. absurd (m w);
           short-image = λ _ n. absurd (n i);
           feeds = λ _ _ session c fits. last-feeds chunk f session c;
@@ -89,9 +92,10 @@ module _ (s : HexChunks) (work : List ℕ) where
           record { carries = k .0; tells = k .1 }
       fed-feeds (told x) c fits = absurd (told-last x c f)
 
-      pub feed-on : length work ≡ 9216 → length image ≡ 8192 → FeedCall s chunk work after image (again r)
-      feed-on w i =
+      pub feed-on : length after ≡ 9216 → length work ≡ 9216 → length image ≡ 8192 → FeedCall s chunk work after image (again r)
+      feed-on a w i =
           record {
+            size = a ∙ sym w;
             short-work = λ m. absurd (m w);
             short-image = λ _ n. absurd (n i);
             feeds = λ _ _ session c fits. fed-feeds session c fits;

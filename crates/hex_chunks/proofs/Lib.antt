@@ -4,3 +4,4 @@ pub mod Ends
 pub mod Sessions
 pub mod Answers
 pub mod AnyCutting
+pub mod RunAsWhole

@@ -91,6 +91,7 @@ pub record Repeats (s : HexChunks) (work workAfter image imageAfter : List ℕ) 
 
 -- a chunk is fed. The image buffer is lent to be read only
 pub record FeedCall (s : HexChunks) (chunk work workAfter image : List ℕ) (r : Fed) : Type 0 where
+  pub size : length workAfter ≡ length work
   pub short-work : (length work ≡ workSize → ⊥) → Stays work-buffer-is-not-9216-bytes s work workAfter image image r
   pub short-image : length work ≡ workSize → (length image ≡ imageSize → ⊥) → Stays image-is-not-8192-bytes s work workAfter image image r
   pub feeds : length work ≡ workSize → length image ≡ imageSize → (session : Session) → Carries s work session → Fits session chunk → TakesTo (afterChunk session chunk) workAfter r

@@ -46,7 +46,7 @@ same-length : tie.Need-same-length
 same-length c = search needs
 
 returns-4 : tie.Need-returns-4
-returns-4 c = rw (c .answer2 .ensures, c .before .told-of2 .ensures) (feed-on (c .before .before .before .before .before .before .before .before .before .before .before .before .before .before .before .before .before .args .s) (now (c .before .before .before .before .before .before .before .before .before .before .before .before .before .before .before .before .before .args .work)) _ _ (sym (c .before .before .before .before .before .before .before .before .before .before .before .is-final .ensures) ∙ c .before .before .before .before .before .before .before .before .before .before .if3 .left) _ _ (c .before .before .before .before .take-chunk .result) (c .before .before .before .before .before .before .before .before .make-ready .ensures .1) (c .before .before .before .before .take-chunk .ensures .1) (c .before .before .before .before .before .before .before .before .before .before .before .before .before .if1 .left) (c .before .before .before .before .before .before .before .before .before .before .before .before .if2 .left))
+returns-4 c = rw (c .answer2 .ensures, c .before .told-of2 .ensures) (feed-on (c .before .before .before .before .before .before .before .before .before .before .before .before .before .before .before .before .before .args .s) (now (c .before .before .before .before .before .before .before .before .before .before .before .before .before .before .before .before .before .args .work)) _ _ (sym (c .before .before .before .before .before .before .before .before .before .before .before .is-final .ensures) ∙ c .before .before .before .before .before .before .before .before .before .before .if3 .left) _ _ (c .before .before .before .before .take-chunk .result) (c .before .before .before .before .before .before .before .before .make-ready .ensures .1) (c .before .before .before .before .take-chunk .ensures .1) (c .before .before .before .before .take-chunk .ensures .0) (c .before .before .before .before .before .before .before .before .before .before .before .before .before .if1 .left) (c .before .before .before .before .before .before .before .before .before .before .before .before .if2 .left))
 
 pub feed-spec : {M : Type 1} → statement M
 feed-spec =
