@@ -1,8 +1,29 @@
 // Intel HEX on numbers and byte buffers, for C and for whatever calls C: include/em73862_hex.h declares the calls.
 // Two answers of a call to the same inputs are equal: proofs/OneAnswer.antt.
+use hex_chunks::Told;
+use hex_chunks::feed;
+use hex_chunks::finish;
+use hex_chunks::start;
 use hex_reader::read_hex;
+use hex_state::STATE_SIZE;
+use hex_state::pack;
+use hex_state::unpack;
+use hex_work::IMAGE_SIZE;
+use hex_work::WORK_SIZE;
 use hex_writer::write_hex;
+ghost use mathlib.Core.Path.{_≡_};
+ghost use Rattle.hex_calls.specs.Chunks.{numberOf, lineOf, StartCall, FeedBytes, EndBytes};
 ghost use Rattle.hex_calls.specs.Calls.{ReadCall, WriteCall};
+
+const IMAGE_IS_NOT_8192_BYTES: u8 = 1;
+
+// A buffer that is no state: document 01's refusal of a record.
+const NO_STATE: u8 = 2;
+
+const WORK_BUFFER_IS_NOT_9216_BYTES: u8 = 47;
+
+// Nothing is told yet.
+const MORE: u8 = 255;
 
 #[no_mangle]
 pub extern "C" fn em73862_hex_read(text: &[u8], image: &mut [u8], line: &mut usize) -> u8
@@ -18,4 +39,88 @@ pub extern "C" fn em73862_hex_write(image: &[u8], text: &mut [u8]) -> u8
     ensures { λ r. ⌜ WriteCall (now (image .entry)) (now (text .entry)) r (now (text .exit)) ⌝ }
 {
     write_hex(image, text)
+}
+
+#[no_mangle]
+pub extern "C" fn em73862_hex_start(state: &mut [u8]) -> u8
+    ensures { λ r. ⌜ StartCall (now (state .entry)) (now (state .exit)) r ⌝ }
+{
+    if state.len() != STATE_SIZE {
+        return NO_STATE;
+    }
+    pack(start(), state);
+    0
+}
+
+fn number_of(told: Told) -> u8
+    ensures { λ r. ⌜ r ≡ numberOf told ⌝ }
+{
+    match told {
+        Told::More => MORE,
+        Told::Good => 0,
+        Told::Refused { number, line: _ } => number,
+    }
+}
+
+fn line_of(told: Told) -> usize
+    ensures { λ r. ⌜ r ≡ lineOf told ⌝ }
+{
+    match told {
+        Told::More => 0,
+        Told::Good => 0,
+        Told::Refused { number: _, line } => line,
+    }
+}
+
+#[no_mangle]
+pub extern "C" fn em73862_hex_feed(
+    state: &mut [u8],
+    chunk: &[u8],
+    work: &mut [u8],
+    image: &[u8],
+    line: &mut usize,
+) -> u8
+    ensures { λ r. ⌜ FeedBytes (now (state .entry)) (now (state .exit)) (now (chunk .entry)) (now (work .entry)) (now (work .exit)) (now (image .entry)) r (now (line .exit)) ⌝ }
+{
+    *line = 0;
+    if work.len() != WORK_SIZE {
+        return WORK_BUFFER_IS_NOT_9216_BYTES;
+    }
+    if image.len() != IMAGE_SIZE {
+        return IMAGE_IS_NOT_8192_BYTES;
+    }
+    if state.len() != STATE_SIZE {
+        return NO_STATE;
+    }
+    let fed = feed(unpack(state), chunk, work, image);
+    let told = fed.told;
+    pack(fed.state, state);
+    *line = line_of(told);
+    number_of(told)
+}
+
+#[no_mangle]
+pub extern "C" fn em73862_hex_end(
+    state: &mut [u8],
+    work: &mut [u8],
+    image: &mut [u8],
+    line: &mut usize,
+) -> u8
+    ensures { λ r. ⌜ EndBytes (now (state .entry)) (now (state .exit)) (now (work .entry)) (now (work .exit)) (now (image .entry)) (now (image .exit)) r (now (line .exit)) ⌝ }
+{
+    *line = 0;
+    if work.len() != WORK_SIZE {
+        return WORK_BUFFER_IS_NOT_9216_BYTES;
+    }
+    if image.len() != IMAGE_SIZE {
+        return IMAGE_IS_NOT_8192_BYTES;
+    }
+    if state.len() != STATE_SIZE {
+        return NO_STATE;
+    }
+    let last = finish(unpack(state), work, image);
+    let told = last.told;
+    pack(last.state, state);
+    *line = line_of(told);
+    number_of(told)
 }

@@ -1,6 +1,6 @@
 -- A record by the places of its fields in the line: RECLEN at 1, LOAD OFFSET at 3, RECTYP at 7, DATA at 9.
-use mathlib.Core.Path.{_≡_, sym, _∙_}
-use mathlib.Core.Bool.{true, false, not}
+use mathlib.Core.Path.{_≡_, refl, sym, _∙_}
+use mathlib.Core.Bool.{Bool, true, false, not}
 use mathlib.Core.List.{List, [], _∷_}
 use Prim.Native.Nat.{ℕ, zero, suc, _+_, _*_, _%_, _<_, _≤_}
 use Prim.Native.Char.{code}
@@ -104,3 +104,15 @@ by-fields line r =
 pub no-record : (line : List ℕ) → isRecord line ≡ false → lineOf line ≡ faulty malformed-line-or-end-with-bytes
 unfolding lineOf
 no-record line r = rw r
+
+-- a record has 255 bytes of data at most
+record-short : (line : List ℕ) → isRecord line ≡ true → length line ≤ 521
+record-short line r =
+    omega (arith, record-length line r, reclen-at line (record-long line r), byte-below line r 0 (omega (arith, record-long line r)))
+
+long-by : (line : List ℕ) (t : Bool) → 521 < length line → isRecord line ≡ t → lineOf line ≡ faulty malformed-line-or-end-with-bytes
+long-by line true h e = absurd (let s = record-short line e in omega arith)
+long-by line false h e = no-record line e
+
+pub long-line : (line : List ℕ) → 521 < length line → lineOf line ≡ faulty malformed-line-or-end-with-bytes
+long-line line h = long-by line (isRecord line) h refl

@@ -48,7 +48,7 @@ clear-by : (c : ℕ) (s : List ℕ) (t : Bool) → isLF c ≡ t → upTo (take (
 clear-by c s true e f = rw e
 clear-by c s false e f = rw (e, e) (ap suc f)
 
-clear : (s : List ℕ) → upTo (take (upTo s) s) ≡ length (take (upTo s) s)
+pub clear : (s : List ℕ) → upTo (take (upTo s) s) ≡ length (take (upTo s) s)
 clear [] = refl
 clear (c ∷ s) = clear-by c s (isLF c) refl (clear s)
 
@@ -57,7 +57,7 @@ split-by c s true e f h = let d = eqb-true c 10 e in rw (e, d)
 split-by c s false e f h =
     let g : suc (upTo s) < length (c ∷ s) = rw e at h in rw e (ap (λ (l : List ℕ). c ∷ l) (f (omega arith)))
 
-split-LF : (s : List ℕ) → upTo s < length s → s ≡ take (upTo s) s ++ 10 ∷ drop (suc (upTo s)) s
+pub split-LF : (s : List ℕ) → upTo s < length s → s ≡ take (upTo s) s ++ 10 ∷ drop (suc (upTo s)) s
 split-LF [] h = absurd (not-suc-le-zero h)
 split-LF (c ∷ s) h = split-by c s (isLF c) refl (split-LF s) h
 

@@ -1,9 +1,10 @@
 -- A fault stops the reading, and no line changes that.
 use mathlib.Core.Path.{_≡_, refl, _∙_}
 use mathlib.Core.Bool.{Bool, true, false}
-use mathlib.Core.List.{List, [], _∷_}
-use Prim.Native.Nat.{ℕ, suc, _≤_}
+use mathlib.Core.List.{List, [], _∷_, _++_}
+use Prim.Native.Nat.{ℕ, suc, _+_, _≤_}
 use native.Mathlib.Omega.{arith}
+use lib.ListN.{length}
 use Rattle.hex_line.specs.Record.{faulty, lineOf}
 use Rattle.hex_line.specs.Reads.{meaningOf, Long}
 use Rattle.hex_line.specs.declared.Line.{Line}
@@ -12,6 +13,12 @@ use Rattle.hex_progress.specs.Progress.{Progress, going, ended, stopped,
 use Rattle.hex_progress.specs.Reached.{Reached, isStopped}
 use Rattle.hex_progress.specs.declared.Stage.{Stage}
 use Rattle.hex_progress.specs.declared.Stage.the-variants.{Going, Ended, Stopped}
+
+-- lines after lines
+pub lines-then : (p : Progress) (n : ℕ) (ls ms : List (List ℕ)) → afterLines p n (ls ++ ms) ≡ afterLines (afterLines p n ls) (n + length ls) ms
+lines-then p n [] ms = let e : n + 0 ≡ n = omega arith in rw e
+lines-then p n (l ∷ ls) ms =
+    let e : n + suc (length ls) ≡ suc n + length ls = omega arith in rw e (lines-then (afterLine p n l) (suc n) ls ms)
 
 pub stays : (number at n : ℕ) (ls : List (List ℕ)) → afterLines (stopped number at) n ls ≡ stopped number at
 stays number at n [] = refl

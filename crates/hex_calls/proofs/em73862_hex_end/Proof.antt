@@ -1,0 +1,59 @@
+-- `hex_calls::em73862_hex_end` meets its contract.
+use denote.Ref.{now}
+use Rattle.hex_calls.proofs.Chunks.{end-47, end-1, end-2, end-so}
+use borrow.Author.Needs.{needs}
+use Rattle.hex_calls.proofs.em73862_hex_end.Statement.{statement}
+use Rattle.hex_calls.proofs.em73862_hex_end.Tie as tie
+
+returns : tie.Need-returns
+returns c = end-47 _ _ _ (c .if1 .taken)
+
+returns-2 : tie.Need-returns-2
+returns-2 c = end-1 _ _ _ (c .before .if1 .left) (c .if2 .taken)
+
+returns-3 : tie.Need-returns-3
+returns-3 c = end-2 _ _ _ (c .before .before .if1 .left) (c .before .if2 .left) (c .if3 .taken)
+
+unpack-requires : tie.Need-unpack-requires
+unpack-requires c κs = search needs
+
+finish-requires : tie.Need-finish-requires
+finish-requires c κs = search needs
+
+pack-requires : tie.Need-pack-requires
+pack-requires c κs = search needs
+
+line-of-requires : tie.Need-line-of-requires
+line-of-requires c κs = search needs
+
+number-of-requires : tie.Need-number-of-requires
+number-of-requires c κs = search needs
+
+same-length : tie.Need-same-length
+same-length c = search needs
+
+same-length-2 : tie.Need-same-length-2
+same-length-2 c = search needs
+
+same-length-3 : tie.Need-same-length-3
+same-length-3 c = search needs
+
+returns-4 : tie.Need-returns-4
+returns-4 c = end-so (now (c .before .before .before .before .before .before .before .before .before .before .before .before .before .before .before .before .before .before .before .before .before .args .state)) (now (c .before .before .before .before .before .before .before .before .before .before .before .before .before .before .before .before .before .before .before .before .before .args .work)) (now (c .before .before .before .before .before .before .before .before .before .before .before .before .before .before .before .before .before .before .before .before .before .args .image)) _ _ _ (c .before .before .before .before .before .before .before .before .before .before .finish .result) _ _ (c .before .before .before .before .before .before .before .before .before .before .before .before .before .before .before .before .before .if1 .left) (c .before .before .before .before .before .before .before .before .before .before .before .before .before .before .before .before .if2 .left) (c .before .before .before .before .before .before .before .before .before .before .before .before .before .before .before .if3 .left) (rw (c .before .before .before .before .before .before .before .before .before .before .before .before .before .unpack .ensures) at (c .before .before .before .before .before .before .before .before .before .before .finish .ensures)) (c .before .before .before .before .pack .ensures) (c .number-of .ensures) (c .before .line-of .ensures)
+
+pub em73862-hex-end-spec : {M : Type 1} → statement M
+em73862-hex-end-spec =
+    tie.close
+    (tie.spec
+    returns
+    returns-2
+    returns-3
+    unpack-requires
+    finish-requires
+    pack-requires
+    line-of-requires
+    number-of-requires
+    same-length
+    same-length-2
+    same-length-3
+    returns-4)

@@ -1,0 +1,180 @@
+-- What the two calls answer, by the way that led there.
+use mathlib.Core.Path.{_≡_, refl, sym, _∙_}
+use mathlib.Core.Bool.{true, false}
+use mathlib.Core.List.{List, _++_}
+use Prim.Native.Nat.{ℕ, _+_, _^_, _<_}
+use native.Mathlib.Omega.{arith}
+use lib.ListN.{length, take, length-append}
+use Rattle.laws.specs.Choice.{either}
+use Rattle.hex_work.proofs.Fills.{held-image}
+use Rattle.hex_progress.specs.Progress.{Reading, good, refused, readOf}
+use Rattle.hex_progress.specs.Reached.{Held, isStopped}
+use Rattle.hex_progress.specs.declared.Stage.the-variants.{Ended, Stopped}
+use Rattle.hex_chunks.specs.Cut.{Session, fed, told, afterChunk, afterEnd, imageAtEnd}
+use Rattle.hex_chunks.specs.Carries.{Along, Chunked, Readied, Carries, Fits, Stays, TakesTo, Repeats, FeedCall, EndCall, toldOf}
+use Rattle.hex_chunks.specs.declared.HexChunks.{HexChunks}
+use Rattle.hex_chunks.specs.declared.Told.the-variants.{Good, Refused}
+use Rattle.hex_chunks.specs.declared.Fed.{Fed}
+use Rattle.hex_chunks.proofs.Sessions.{ready, chunked, not-final, final-tells, is-final}
+
+-- the answer about a buffer that is refused, and one that is told again
+abbrev refusal : HexChunks → ℕ → Fed
+refusal s number = record { state = s; told = Refused number 0 }
+
+abbrev again : HexChunks → Fed
+again s = record { state = s; told = toldOf (s .over) (s .stage) }
+
+stays-so : (number : ℕ) (s : HexChunks) (work image : List ℕ) → Stays number s work work image image (refusal s number)
+stays-so number s work image = record { answer = refl; state-kept = refl; work-kept = refl; image-kept = refl }
+
+module _ (s : HexChunks) (work : List ℕ) where
+  abbrev isLast : Type 0
+  isLast = either (s .over) (isStopped (s .stage)) ≡ true
+
+  open-not-last : (text : List ℕ) → Carries s work (fed text) → isLast → ⊥
+  open-not-last text c f = let n = not-final s work text c in let z : _≡_ {A = ℕ} 0 1 = cc in omega arith
+
+  told-last : (t : Reading) → Carries s work (told t) → either (s .over) (isStopped (s .stage)) ≡ false → ⊥
+  told-last t c f = let n = is-final s work t c in let z : _≡_ {A = ℕ} 0 1 = cc in omega arith
+
+  last-feeds : (chunk : List ℕ) → isLast → (session : Session) → Carries s work session → TakesTo (afterChunk session chunk) work (again s)
+  last-feeds chunk f (fed text) c = absurd (open-not-last text c f)
+  last-feeds chunk f (told t) c = record { carries = c; tells = final-tells s work t c }
+
+  last-ends : isLast → (session : Session) → Carries s work session → TakesTo (afterEnd session) work (again s)
+  last-ends f (fed text) c = absurd (open-not-last text c f)
+  last-ends f (told t) c = record { carries = c; tells = final-tells s work t c }
+
+  last-image : (image : List ℕ) → isLast → (session : Session) → Carries s work session → image ≡ imageAtEnd session image
+  last-image image f (fed text) c = absurd (open-not-last text c f)
+  last-image image f (told t) c = refl
+
+  repeats-so : (image : List ℕ) → Repeats s work work image image (again s)
+  repeats-so image = record { state-kept = refl; work-kept = refl; image-kept = refl }
+
+  module _ (chunk image : List ℕ) where
+    pub feed-47 : (length work ≡ 9216 → ⊥) → FeedCall s chunk work work image (refusal s 47)
+    feed-47 n =
+        record {
+          size = refl;
+          short-work = λ _. stays-so 47 s work image;
+          short-image = λ w. absurd (n w);
+          feeds = λ w. absurd (n w);
+          repeats = λ w. absurd (n w);
+        }
+
+    pub feed-1 : length work ≡ 9216 → (length image ≡ 8192 → ⊥) → FeedCall s chunk work work image (refusal s 1)
+    feed-1 w n =
+        record {
+          size = refl;
+          short-work = λ m. absurd (m w);
+          short-image = λ _ _. stays-so 1 s work image;
+          feeds = λ _ i. absurd (n i);
+          repeats = λ _ i. absurd (n i);
+        }
+
+    pub feed-last : length work ≡ 9216 → length image ≡ 8192 → isLast → FeedCall s chunk work work image (again s)
+    feed-last w i f =
+        record {
+          size = refl;
+          short-work = λ m. absurd (m w);
+          short-image = λ _ n. absurd (n i);
+          feeds = λ _ _ session c fits. last-feeds chunk f session c;
+          repeats = λ _ _ t c. repeats-so image;
+        }
+
+    module _ (f : either (s .over) (isStopped (s .stage)) ≡ false) (ready-work after : List ℕ) (r : HexChunks) (d : Readied (s .begun) work ready-work) (t : (text : List ℕ) → Along text (s .held) (s .count) (s .line) (s .stage) ready-work → length text + length chunk < 2 ^ 64 → Chunked (text ++ chunk) r after) where
+      fed-feeds : (session : Session) → Carries s work session → Fits session chunk → TakesTo (afterChunk session chunk) after (again r)
+      fed-feeds (fed text) c fits =
+          let k = chunked r after (text ++ chunk) (t text (ready s work ready-work text d (c .2)) fits) (omega (arith, length-append text chunk)) in
+          record { carries = k .0; tells = k .1 }
+      fed-feeds (told x) c fits = absurd (told-last x c f)
+
+      pub feed-on : length after ≡ 9216 → length work ≡ 9216 → length image ≡ 8192 → FeedCall s chunk work after image (again r)
+      feed-on a w i =
+          record {
+            size = a ∙ sym w;
+            short-work = λ m. absurd (m w);
+            short-image = λ _ n. absurd (n i);
+            feeds = λ _ _ session c fits. fed-feeds session c fits;
+            repeats = λ _ _ x c. absurd (told-last x c f);
+          }
+
+  module _ (image : List ℕ) where
+    pub end-47 : (length work ≡ 9216 → ⊥) → EndCall s work work image image (refusal s 47)
+    end-47 n =
+        record {
+          short-work = λ _. stays-so 47 s work image;
+          short-image = λ w. absurd (n w);
+          ends = λ w. absurd (n w);
+          written = λ w. absurd (n w);
+          repeats = λ w. absurd (n w);
+        }
+
+    pub end-1 : length work ≡ 9216 → (length image ≡ 8192 → ⊥) → EndCall s work work image image (refusal s 1)
+    end-1 w n =
+        record {
+          short-work = λ m. absurd (m w);
+          short-image = λ _ _. stays-so 1 s work image;
+          ends = λ _ i. absurd (n i);
+          written = λ _ i. absurd (n i);
+          repeats = λ _ i. absurd (n i);
+        }
+
+    pub end-last : length work ≡ 9216 → length image ≡ 8192 → isLast → EndCall s work work image image (again s)
+    end-last w i f =
+        record {
+          short-work = λ m. absurd (m w);
+          short-image = λ _ n. absurd (n i);
+          ends = λ _ _ session c. last-ends f session c;
+          written = λ _ _ session c. last-image image f session c;
+          repeats = λ _ _ t c. repeats-so image;
+        }
+
+    module _ (f : either (s .over) (isStopped (s .stage)) ≡ false) (ready-work after : List ℕ) (d : Readied (s .begun) work ready-work) where
+      -- a good text
+      module _ (t : (text : List ℕ) → Along text (s .held) (s .count) (s .line) (s .stage) ready-work → length text < 2 ^ 64 → Held good after (readOf text)) (r : Fed) (over : r .state .over ≡ true) (stage : r .state .stage ≡ Ended) (says : r .told ≡ Good) where
+        good-held : (text : List ℕ) → Carries s work (fed text) → Held good after (readOf text)
+        good-held text c = t text (ready s work ready-work text d (c .2)) (c .0)
+
+        good-ends : (session : Session) → Carries s work session → TakesTo (afterEnd session) after r
+        good-ends (fed text) c = rw (good-held text c .is) (record { carries = (over, rw stage refl); tells = says })
+        good-ends (told x) c = absurd (told-last x c f)
+
+        good-image : (session : Session) → Carries s work session → take 8192 after ≡ imageAtEnd session image
+        good-image (fed text) c =
+            let h = good-held text c in rw (h .is) (held-image after (h .records) (h .holds))
+        good-image (told x) c = absurd (told-last x c f)
+
+        pub end-good : (imageAfter : List ℕ) → length work ≡ 9216 → length image ≡ 8192 → imageAfter ≡ take 8192 after → EndCall s work after image imageAfter r
+        end-good imageAfter w i e =
+            record {
+              short-work = λ m. absurd (m w);
+              short-image = λ _ n. absurd (n i);
+              ends = λ _ _ session c. good-ends session c;
+              written = λ _ _ session c. e ∙ good-image session c;
+              repeats = λ _ _ x c. absurd (told-last x c f);
+            }
+
+      -- a text that is refused
+      module _ (number line : ℕ) (t : (text : List ℕ) → Along text (s .held) (s .count) (s .line) (s .stage) ready-work → length text < 2 ^ 64 → readOf text ≡ refused number line) (r : Fed) (stage : r .state .stage ≡ Stopped number line) (says : r .told ≡ Refused number line) where
+        refused-text : (text : List ℕ) → Carries s work (fed text) → readOf text ≡ refused number line
+        refused-text text c = t text (ready s work ready-work text d (c .2)) (c .0)
+
+        refused-ends : (session : Session) → Carries s work session → TakesTo (afterEnd session) after r
+        refused-ends (fed text) c = rw (refused-text text c) (record { carries = stage; tells = says })
+        refused-ends (told x) c = absurd (told-last x c f)
+
+        refused-image : (session : Session) → Carries s work session → image ≡ imageAtEnd session image
+        refused-image (fed text) c = rw (refused-text text c)
+        refused-image (told x) c = refl
+
+        pub end-refused : length work ≡ 9216 → length image ≡ 8192 → EndCall s work after image image r
+        end-refused w i =
+            record {
+              short-work = λ m. absurd (m w);
+              short-image = λ _ n. absurd (n i);
+              ends = λ _ _ session c. refused-ends session c;
+              written = λ _ _ session c. refused-image session c;
+              repeats = λ _ _ x c. absurd (told-last x c f);
+            }

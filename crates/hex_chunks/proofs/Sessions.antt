@@ -1,0 +1,80 @@
+-- A session that a state and a work buffer carry: made ready, fed, final or not.
+use mathlib.Core.Path.{_≡_, refl, _∙_}
+use mathlib.Core.Bool.{Bool, true, false}
+use mathlib.Core.List.{List, [], _∷_, _++_}
+use Prim.Native.Nat.{ℕ, _+_, _^_, _<_}
+use native.Mathlib.Omega.{arith}
+use lib.ListN.{length}
+use Rattle.laws.specs.Choice.{either}
+use Rattle.hex_work.specs.Work.{Holds}
+use Rattle.hex_progress.specs.Progress.{Progress, going, Reading, good, refused, afterLines}
+use Rattle.hex_progress.specs.Reached.{Reached, isStopped}
+use Rattle.hex_progress.specs.declared.Stage.{Stage}
+use Rattle.hex_progress.specs.declared.Stage.the-variants.{Going, Ended, Stopped}
+use Rattle.hex_chunks.specs.Cut.{fed, told, completed, byProgress, fedTo}
+use Rattle.hex_chunks.specs.Carries.{Along, Chunked, Readied, CarriesText, Carries, Tells, toldOf}
+use Rattle.hex_chunks.specs.declared.HexChunks.{HexChunks}
+use Rattle.hex_chunks.proofs.Along.{kept-none}
+
+start-along : (held work : List ℕ) → Holds work [] → Along [] held 0 1 Going work
+start-along held work h =
+    record {
+      kept = kept-none held;
+      number = refl;
+      reached = record { records = []; is = refl; holds = h };
+      on = refl;
+      counted = omega arith;
+    }
+
+-- the work buffer is made ready
+ready-by : (s : HexChunks) (before after text : List ℕ) (b : Bool) → Readied b before after → CarriesText s before text b → Along text (s .held) (s .count) (s .line) (s .stage) after
+ready-by s before after text true r c = rw r c
+ready-by s before after text false r c =
+    rw (c .0, c .1, c .2, c .3) (start-along (s .held) after r)
+
+pub ready : (s : HexChunks) (before after text : List ℕ) → Readied (s .begun) before after → CarriesText s before text (s .begun) → Along text (s .held) (s .count) (s .line) (s .stage) after
+ready s before after text r c = ready-by s before after text (s .begun) r c
+
+-- what a chunk leaves is carried, and told
+chunked-by : (s : HexChunks) (work text : List ℕ) (p : Progress) (stage : Stage) → s .stage ≡ stage → Reached stage work p → (isStopped stage ≡ false → Along text (s .held) (s .count) (s .line) (s .stage) work) → s .begun ≡ true → s .over ≡ false → length text < 2 ^ 64 → Carries s work (byProgress text p) × Tells (toldOf (s .over) (s .stage)) (byProgress text p)
+chunked-by s work text p Going e r a b o l = rw (r .is, b, o, e) ((l, refl, rw e at (a refl)), refl)
+chunked-by s work text p Ended e r a b o l = rw (r .is, b, o, e) ((l, refl, rw e at (a refl)), refl)
+chunked-by s work text p (Stopped number line) e r a b o l = rw (r, e) (refl, refl)
+
+pub chunked : (s : HexChunks) (work text : List ℕ) → Chunked text s work → length text < 2 ^ 64 → Carries s work (fedTo text) × Tells (toldOf (s .over) (s .stage)) (fedTo text)
+unfolding fedTo
+chunked s work text c l =
+    chunked-by s work text (afterLines (going []) 1 (completed [] text)) (s .stage) refl (c .reached) (c .along) (c .begun) (c .over) l
+
+-- a state is final exactly where something was told for good
+open-by : (s : HexChunks) (work text : List ℕ) (b : Bool) → CarriesText s work text b → isStopped (s .stage) ≡ false
+open-by s work text true c = c .on
+open-by s work text false c = rw (c .3) refl
+
+pub not-final : (s : HexChunks) (work text : List ℕ) → Carries s work (fed text) → either (s .over) (isStopped (s .stage)) ≡ false
+not-final s work text c = rw (c .1, open-by s work text (s .begun) (c .2))
+
+good-told : (over : Bool) (stage : Stage) → over ≡ true → isStopped stage ≡ false → toldOf over stage ≡ toldOf true Going
+good-told over Going o e = rw o
+good-told over Ended o e = rw o
+good-told over (Stopped number line) o e = absurd (let z : _≡_ {A = ℕ} 0 1 = cc in omega arith)
+
+pub final-tells : (s : HexChunks) (work : List ℕ) (t : Reading) → Carries s work (told t) → Tells (toldOf (s .over) (s .stage)) (told t)
+final-tells s work (good ds) c = good-told (s .over) (s .stage) (c .0) (c .1)
+final-tells s work (refused number line) c = rw c
+
+final-by : (over b : Bool) → over ≡ true → either over b ≡ true
+final-by true b e = refl
+final-by false b e = absurd (let z : _≡_ {A = ℕ} 0 1 = cc in omega arith)
+
+either-stopped : (over : Bool) → either over true ≡ true
+either-stopped true = refl
+either-stopped false = refl
+
+pub is-final : (s : HexChunks) (work : List ℕ) (t : Reading) → Carries s work (told t) → either (s .over) (isStopped (s .stage)) ≡ true
+is-final s work (good ds) c = final-by (s .over) (isStopped (s .stage)) (c .0)
+is-final s work (refused number line) c = rw c (either-stopped (s .over))
+
+pub told-carried : (s : HexChunks) (w x : List ℕ) (t : Reading) → Carries s w (told t) → Carries s x (told t)
+told-carried s w x (good ds) c = c
+told-carried s w x (refused number line) c = c

@@ -1,0 +1,261 @@
+// Document 02, Q-10: Intel HEX that comes in chunks. A state by value and a lent work buffer carry what was fed; the image is written at the end, where the whole text is good.
+use hex_held::complete_last;
+use hex_held::complete_line;
+use hex_held::hold;
+use hex_progress::Outcome;
+use hex_progress::Stage;
+use hex_progress::conclude;
+use hex_progress::is_stopped;
+use hex_work::IMAGE_SIZE;
+use hex_work::WORK_SIZE;
+use hex_work::clear;
+use hex_work::copy_image;
+use text_script::line_end;
+ghost use mathlib.Core.Path.{_≡_};
+ghost use mathlib.Core.Bool.{true, false};
+ghost use mathlib.Core.List.{List, [], _++_};
+ghost use Prim.Native.Nat.{ℕ, _+_, _-_, _^_, _<_};
+ghost use lib.ListN.{length};
+ghost use Rattle.laws.specs.Choice.{either};
+ghost use Rattle.hex_progress.specs.Progress.{readOf};
+ghost use Rattle.hex_progress.specs.Reached.{Concluded, isStopped};
+ghost use Rattle.hex_chunks.specs.Cut.{fed};
+ghost use Rattle.hex_chunks.specs.Carries.{Along, Chunked, Carries, Readied, FeedCall, EndCall, moreOrGood, toldOf};
+
+pub const WORK_BUFFER_IS_NOT_9216_BYTES: u8 = 47;
+
+pub const IMAGE_IS_NOT_8192_BYTES: u8 = 1;
+
+// The line that is begun and how many characters it has, its number, what the lines before it came to, whether the work buffer is in use, and whether the end was declared of a good text.
+pub struct HexChunks {
+    pub held: [u8; 522],
+    pub count: usize,
+    pub line: usize,
+    pub stage: Stage,
+    pub begun: bool,
+    pub over: bool,
+}
+
+pub enum Told {
+    More,
+    Good,
+    Refused { number: u8, line: usize },
+}
+
+pub struct Fed {
+    pub state: HexChunks,
+    pub told: Told,
+}
+
+pub fn start() -> HexChunks
+    ensures { λ r. ⌜ ((work : List ℕ) → Carries r work (fed [])) ⌝ }
+{
+    HexChunks {
+        held: [0; 522],
+        count: 0,
+        line: 1,
+        stage: Stage::Going,
+        begun: false,
+        over: false,
+    }
+}
+
+// The number of the line after line n.
+fn following(n: usize) -> usize
+    ensures { λ r. ⌜ (n < 2 ^ 64 - 1 → r ≡ n + 1) ⌝ }
+{
+    if n == usize::MAX {
+        return n;
+    }
+    n + 1
+}
+
+fn reading(held: [u8; 522], count: usize, line: usize, stage: Stage) -> HexChunks
+    ensures { λ r. ⌜ r ≡ record { held = held; count = count; line = line; stage = stage; begun = true; over = false } ⌝ }
+{
+    HexChunks {
+        held: held,
+        count: count,
+        line: line,
+        stage: stage,
+        begun: true,
+        over: false,
+    }
+}
+
+// The work buffer may have any contents before the first call.
+fn make_ready(begun: bool, work: &mut [u8])
+    requires { ⌜ length (now work) ≡ 9216 ⌝ }
+    ensures { λ _. ⌜ length (now (work .exit)) ≡ 9216 ⌝ }
+    ensures { λ _. ⌜ Readied begun (now (work .entry)) (now (work .exit)) ⌝ }
+{
+    if begun {
+        return;
+    }
+    clear(work);
+}
+
+// The characters of a chunk, line by line, up to the first fault.
+fn take_chunk(s: HexChunks, chunk: &[u8], work: &mut [u8]) -> HexChunks
+    requires { ⌜ length (now work) ≡ 9216 ⌝ }
+    ensures { λ _. ⌜ length (now (work .exit)) ≡ 9216 ⌝ }
+    ensures { λ r. ⌜ ((text : List ℕ) → Along text (s .held) (s .count) (s .line) (s .stage) (now (work .entry)) → length text + length (now (chunk .entry)) < 2 ^ 64 → Chunked (text ++ now (chunk .entry)) r (now (work .exit))) ⌝ }
+{
+    let mut held = s.held;
+    let mut count = s.count;
+    let mut n = s.line;
+    let mut stage = s.stage;
+    let mut at = 0;
+    loop {
+        let lf = line_end(chunk, at);
+        count = hold(&mut held, count, &chunk[at..lf]);
+        if lf == chunk.len() {
+            return reading(held, count, n, stage);
+        }
+        stage = complete_line(&held, count, n, stage, work);
+        if is_stopped(stage) {
+            return reading(held, count, n, stage);
+        }
+        count = 0;
+        n = following(n);
+        at = lf + 1;
+    }
+}
+
+// The end of the text: the line that is begun is the last, if it has a character.
+fn conclude_text(held: &[u8], count: usize, n: usize, stage: Stage, work: &mut [u8]) -> Outcome
+    requires { ⌜ (length (now held) ≡ 522) × (length (now work) ≡ 9216) ⌝ }
+    ensures { λ _. ⌜ length (now (work .exit)) ≡ 9216 ⌝ }
+    ensures { λ r. ⌜ ((text : List ℕ) → Along text (now (held .entry)) count n stage (now (work .entry)) → length text < 2 ^ 64 → Concluded r (now (work .exit)) (readOf text)) ⌝ }
+{
+    if count == 0 {
+        return conclude(stage, n, work);
+    }
+    let last = complete_last(held, count, n, stage, work);
+    conclude(last, following(n), work)
+}
+
+fn is_final(s: HexChunks) -> bool
+    ensures { λ r. ⌜ r ≡ either (s .over) (isStopped (s .stage)) ⌝ }
+{
+    let stage = s.stage;
+    if s.over {
+        return true;
+    }
+    is_stopped(stage)
+}
+
+// What the state tells: the first fault, a good end, or that there is more to come.
+fn told_of(s: HexChunks) -> Told
+    ensures { λ r. ⌜ r ≡ toldOf (s .over) (s .stage) ⌝ }
+{
+    let stage = s.stage;
+    match stage {
+        Stage::Going => more_or_good(s.over),
+        Stage::Ended => more_or_good(s.over),
+        Stage::Stopped { number, line } => Told::Refused {
+            number: number,
+            line: line,
+        },
+    }
+}
+
+fn more_or_good(over: bool) -> Told
+    ensures { λ r. ⌜ r ≡ moreOrGood over ⌝ }
+{
+    if over {
+        return Told::Good;
+    }
+    Told::More
+}
+
+fn answer(s: HexChunks, t: Told) -> Fed
+    ensures { λ r. ⌜ r ≡ record { state = s; told = t } ⌝ }
+{
+    Fed { state: s, told: t }
+}
+
+fn refuse(s: HexChunks, number: u8) -> Fed
+    ensures { λ r. ⌜ r ≡ record { state = s; told = Told.Refused number 0 } ⌝ }
+{
+    answer(
+        s,
+        Told::Refused {
+            number: number,
+            line: 0,
+        },
+    )
+}
+
+// A chunk, which may be empty.
+pub fn feed(s: HexChunks, chunk: &[u8], work: &mut [u8], image: &[u8]) -> Fed
+    ensures { λ r. ⌜ FeedCall s (now (chunk .entry)) (now (work .entry)) (now (work .exit)) (now (image .entry)) r ⌝ }
+{
+    if work.len() != WORK_SIZE {
+        return refuse(s, WORK_BUFFER_IS_NOT_9216_BYTES);
+    }
+    if image.len() != IMAGE_SIZE {
+        return refuse(s, IMAGE_IS_NOT_8192_BYTES);
+    }
+    if is_final(s) {
+        return answer(s, told_of(s));
+    }
+    make_ready(s.begun, work);
+    let after = take_chunk(s, chunk, work);
+    answer(after, told_of(after))
+}
+
+fn good_end(s: HexChunks) -> Fed
+    ensures { λ r. ⌜ r ≡ record { state = record { held = s .held; count = s .count; line = s .line; stage = Stage.Ended; begun = true; over = true }; told = Told.Good } ⌝ }
+{
+    let held = s.held;
+    let after = HexChunks {
+        held: held,
+        count: s.count,
+        line: s.line,
+        stage: Stage::Ended,
+        begun: true,
+        over: true,
+    };
+    answer(after, Told::Good)
+}
+
+fn refused_end(s: HexChunks, number: u8, line: usize) -> Fed
+    ensures { λ r. ⌜ r ≡ record { state = record { held = s .held; count = s .count; line = s .line; stage = Stage.Stopped number line; begun = true; over = false }; told = Told.Refused number line } ⌝ }
+{
+    let held = s.held;
+    let stopped = Stage::Stopped {
+        number: number,
+        line: line,
+    };
+    let told = Told::Refused {
+        number: number,
+        line: line,
+    };
+    answer(reading(held, s.count, s.line, stopped), told)
+}
+
+// The end is declared. The image is written where the whole text is good.
+pub fn finish(s: HexChunks, work: &mut [u8], image: &mut [u8]) -> Fed
+    ensures { λ r. ⌜ EndCall s (now (work .entry)) (now (work .exit)) (now (image .entry)) (now (image .exit)) r ⌝ }
+{
+    if work.len() != WORK_SIZE {
+        return refuse(s, WORK_BUFFER_IS_NOT_9216_BYTES);
+    }
+    if image.len() != IMAGE_SIZE {
+        return refuse(s, IMAGE_IS_NOT_8192_BYTES);
+    }
+    if is_final(s) {
+        return answer(s, told_of(s));
+    }
+    make_ready(s.begun, work);
+    let held = s.held;
+    let stage = s.stage;
+    match conclude_text(&held, s.count, s.line, stage, work) {
+        Outcome::Good => {
+            copy_image(work, image);
+            good_end(s)
+        }
+        Outcome::Refused { number, line } => refused_end(s, number, line),
+    }
+}
