@@ -47,29 +47,32 @@ pub enum Line {
     Fault(u8),
 }
 
-// The value of each character as a digit of either case, a line for each high digit of its code: @ is 0, A to O are 1 to 15, P is 16, which no digit has.
-const VALUES: [u8; 256] = *b"\
-    PPPPPPPPPPPPPPPP\
-    PPPPPPPPPPPPPPPP\
-    PPPPPPPPPPPPPPPP\
-    @ABCDEFGHIPPPPPP\
-    PJKLMNOPPPPPPPPP\
-    PPPPPPPPPPPPPPPP\
-    PJKLMNOPPPPPPPPP\
-    PPPPPPPPPPPPPPPP\
-    PPPPPPPPPPPPPPPP\
-    PPPPPPPPPPPPPPPP\
-    PPPPPPPPPPPPPPPP\
-    PPPPPPPPPPPPPPPP\
-    PPPPPPPPPPPPPPPP\
-    PPPPPPPPPPPPPPPP\
-    PPPPPPPPPPPPPPPP\
-    PPPPPPPPPPPPPPPP";
+// What a character counts that is no digit.
+const NO_DIGIT: usize = 16;
 
+// The value of a digit of either case.
 fn digit_value(c: u8) -> usize
     ensures { λ r. ⌜ r ≡ digitValue c ⌝ }
 {
-    (VALUES[c as usize] % 32) as usize
+    if c < b'0' {
+        return NO_DIGIT;
+    }
+    if c <= b'9' {
+        return (c - b'0') as usize;
+    }
+    if c < b'A' {
+        return NO_DIGIT;
+    }
+    if c <= b'F' {
+        return (c - b'A' + 10) as usize;
+    }
+    if c < b'a' {
+        return NO_DIGIT;
+    }
+    if c <= b'f' {
+        return (c - b'a' + 10) as usize;
+    }
+    NO_DIGIT
 }
 
 // The byte of the two digits at a place.
