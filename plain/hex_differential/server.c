@@ -1,8 +1,8 @@
 /* Answers the calls of em73862_hex.h over its standard input and output, for a program that cannot link them.
  *
- * A request is a struct request, then its steady bytes and its changing bytes; an answer is a struct answer, then the
- * changing bytes as the call left them, where it changed them. It ends at the end of its input, and with status 1 where a
- * request is none.
+ * A request is a struct request, then its steady bytes, its changing bytes and the lengths of its chunks; an answer is a
+ * struct answer, then the changing bytes as the call left them, where it changed them. It ends at the end of its input,
+ * and with status 1 where a request is none.
  */
 #include "em73862_hex.h"
 
@@ -14,17 +14,21 @@ int memcmp(const void *one, const void *other, size_t length);
 void _exit(int status) __attribute__((noreturn));
 
 struct request {
-    uint32_t call, steady_length, changing_length;
+    uint32_t call, steady_length, changing_length, chunks;
 };
 
+/* told: the chunk after which the answer was told, from 1; 0 where that was at the end. */
 struct answer {
-    uint32_t number, changed;
+    uint32_t number, changed, told, repeated;
     size_t line;
 };
 
-enum { READ = 1, WRITE = 2, MOST_BYTES = 1 << 21 };
+enum { READ = 1, WRITE = 2, CHUNKS = 3, MOST_BYTES = 1 << 21, MOST_CHUNKS = 1 << 16 };
 
 static uint8_t steady[MOST_BYTES], changing[MOST_BYTES], before[MOST_BYTES];
+static uint32_t chunk_lengths[MOST_CHUNKS];
+static uint8_t state[EM73862_HEX_STATE_BYTES], work[EM73862_HEX_WORK_BYTES];
+static uint8_t state_then[EM73862_HEX_STATE_BYTES], work_then[EM73862_HEX_WORK_BYTES];
 
 /* Fills `bytes`, or tells that the input is over before the first of them. */
 static int take(void *bytes, size_t length) {
@@ -48,6 +52,32 @@ static void give(const void *bytes, size_t length) {
     }
 }
 
+/* Whether one more chunk and one more end give the same answer and change nothing. */
+static int repeats(const struct request *r, const struct answer *answer) {
+    size_t line = 0xAAAAAAAA, end_line = 0xAAAAAAAA;
+    memcpy(state_then, state, sizeof state);
+    memcpy(work_then, work, sizeof work);
+    uint8_t number = em73862_hex_feed(state, sizeof state, steady, r->steady_length, work, sizeof work, changing, r->changing_length, &line);
+    uint8_t end_number = em73862_hex_end(state, sizeof state, work, sizeof work, before, r->changing_length, &end_line);
+    return number == answer->number && end_number == number && line == answer->line && end_line == line
+           && !memcmp(state, state_then, sizeof state) && !memcmp(work, work_then, sizeof work);
+}
+
+/* The steady bytes in chunks, up to the call that tells an answer. */
+static void feed(const struct request *r, struct answer *answer) {
+    size_t at = 0;
+    em73862_hex_start(state, sizeof state);
+    for (uint32_t chunk = 0; chunk < r->chunks && answer->told == 0; chunk++) {
+        answer->number = em73862_hex_feed(state, sizeof state, steady + at, chunk_lengths[chunk], work, sizeof work,
+                                          changing, r->changing_length, &answer->line);
+        at += chunk_lengths[chunk];
+        if (answer->number != EM73862_HEX_MORE)
+            answer->told = chunk + 1;
+    }
+    if (answer->told == 0)
+        answer->number = em73862_hex_end(state, sizeof state, work, sizeof work, changing, r->changing_length, &answer->line);
+}
+
 int main(void) {
     struct request r;
     while (take(&r, sizeof r)) {
@@ -57,15 +87,23 @@ int main(void) {
             return 1;
         if (r.changing_length > 0 && !take(changing, r.changing_length))
             return 1;
+        if (r.chunks > MOST_CHUNKS || (r.chunks > 0 && !take(chunk_lengths, r.chunks * sizeof chunk_lengths[0])))
+            return 1;
         memcpy(before, changing, r.changing_length);
         struct answer answer = {0};
         answer.line = 0xAAAAAAAA;
         switch (r.call) {
         case READ: answer.number = em73862_hex_read(steady, r.steady_length, changing, r.changing_length, &answer.line); break;
         case WRITE: answer.number = em73862_hex_write(steady, r.steady_length, changing, r.changing_length); break;
+        case CHUNKS: feed(&r, &answer); break;
         default: return 1;
         }
         answer.changed = memcmp(before, changing, r.changing_length) != 0;
+        if (r.call == CHUNKS) {
+            memcpy(before, changing, r.changing_length);
+            answer.repeated = r.changing_length != EM73862_HEX_IMAGE_BYTES
+                              || (repeats(&r, &answer) && !memcmp(before, changing, r.changing_length));
+        }
         give(&answer, sizeof answer);
         if (answer.changed)
             give(changing, r.changing_length);

@@ -2,9 +2,10 @@
 use mathlib.Core.Path.{_≡_, refl}
 use mathlib.Core.List.{List, []}
 use Prim.Native.Nat.{ℕ}
+use native.Mathlib.Decide.{ℕ-discrete}
 use lib.ListN.{length}
 use Rattle.hex_chunks.specs.Cut.{fed}
-use Rattle.hex_chunks.specs.Carries.{Carries, FeedCall, EndCall}
+use Rattle.hex_chunks.specs.Carries.{Carries, Sized, FeedCall, EndCall}
 use Rattle.hex_chunks.specs.declared.HexChunks.{HexChunks}
 use Rattle.hex_chunks.specs.declared.Fed.{Fed}
 use Rattle.hex_state.specs.Layout.{packed, stateOf}
@@ -20,7 +21,7 @@ unchanged : (refusal : ℕ) (state work image : List ℕ) → Unchanged refusal 
 unchanged refusal state work image = record { answer = refl; no-line = refl; state-kept = refl; work-kept = refl; image-kept = refl }
 
 module _ (state work image : List ℕ) where
-  pub feed-47 : (chunk : List ℕ) → (length work ≡ 9216 → ⊥) → FeedBytes state state chunk work work image 47 0
+  feed-47 : (chunk : List ℕ) → (length work ≡ 9216 → ⊥) → FeedBytes state state chunk work work image 47 0
   feed-47 chunk n =
       record {
         short-work = λ _. unchanged 47 state work image;
@@ -29,7 +30,7 @@ module _ (state work image : List ℕ) where
         feeds = λ w. absurd (n w);
       }
 
-  pub feed-1 : (chunk : List ℕ) → length work ≡ 9216 → (length image ≡ 8192 → ⊥) → FeedBytes state state chunk work work image 1 0
+  feed-1 : (chunk : List ℕ) → length work ≡ 9216 → (length image ≡ 8192 → ⊥) → FeedBytes state state chunk work work image 1 0
   feed-1 chunk w n =
       record {
         short-work = λ m. absurd (m w);
@@ -37,6 +38,14 @@ module _ (state work image : List ℕ) where
         no-state = λ _ i. absurd (n i);
         feeds = λ _ i. absurd (n i);
       }
+
+  feed-by : (chunk : List ℕ) (r : ℕ) → Sized work image r → (r ≡ 0 → ⊥) → Dec (length work ≡ 9216) → Dec (length image ≡ 8192) → FeedBytes state state chunk work work image r 0
+  feed-by chunk r z n (no w) i = rw (z .short-work w) (feed-47 chunk w)
+  feed-by chunk r z n (yes w) (no i) = rw (z .short-image w i) (feed-1 chunk w i)
+  feed-by chunk r z n (yes w) (yes i) = absurd (n (z .both-right w i))
+
+  pub feed-refused : (chunk : List ℕ) (r : ℕ) → Sized work image r → (r ≡ 0 → ⊥) → FeedBytes state state chunk work work image r 0
+  feed-refused chunk r z n = feed-by chunk r z n (ℕ-discrete (length work) 9216) (ℕ-discrete (length image) 8192)
 
   pub feed-2 : (chunk : List ℕ) → length work ≡ 9216 → length image ≡ 8192 → (length state ≡ 550 → ⊥) → FeedBytes state state chunk work work image 2 0
   feed-2 chunk w i n =
@@ -56,7 +65,7 @@ module _ (state work image : List ℕ) where
         feeds = λ _ _ _. record { answer = r; call = c; given = record { number-of = n; line-of = l; bytes = p .0; state = p .1 } };
       }
 
-  pub end-47 : (length work ≡ 9216 → ⊥) → EndBytes state state work work image image 47 0
+  end-47 : (length work ≡ 9216 → ⊥) → EndBytes state state work work image image 47 0
   end-47 n =
       record {
         short-work = λ _. unchanged 47 state work image;
@@ -65,7 +74,7 @@ module _ (state work image : List ℕ) where
         ends = λ w. absurd (n w);
       }
 
-  pub end-1 : length work ≡ 9216 → (length image ≡ 8192 → ⊥) → EndBytes state state work work image image 1 0
+  end-1 : length work ≡ 9216 → (length image ≡ 8192 → ⊥) → EndBytes state state work work image image 1 0
   end-1 w n =
       record {
         short-work = λ m. absurd (m w);
@@ -73,6 +82,14 @@ module _ (state work image : List ℕ) where
         no-state = λ _ i. absurd (n i);
         ends = λ _ i. absurd (n i);
       }
+
+  end-by : (r : ℕ) → Sized work image r → (r ≡ 0 → ⊥) → Dec (length work ≡ 9216) → Dec (length image ≡ 8192) → EndBytes state state work work image image r 0
+  end-by r z n (no w) i = rw (z .short-work w) (end-47 w)
+  end-by r z n (yes w) (no i) = rw (z .short-image w i) (end-1 w i)
+  end-by r z n (yes w) (yes i) = absurd (n (z .both-right w i))
+
+  pub end-refused : (r : ℕ) → Sized work image r → (r ≡ 0 → ⊥) → EndBytes state state work work image image r 0
+  end-refused r z n = end-by r z n (ℕ-discrete (length work) 9216) (ℕ-discrete (length image) 8192)
 
   pub end-2 : length work ≡ 9216 → length image ≡ 8192 → (length state ≡ 550 → ⊥) → EndBytes state state work work image image 2 0
   end-2 w i n =

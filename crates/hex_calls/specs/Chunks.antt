@@ -45,12 +45,12 @@ pub record Given (r : Fed) (number line : ℕ) (stateAfter : List ℕ) : Type 0 
   pub bytes : stateAfter ≡ packed (r .state)
   pub state : stateOf stateAfter ≡ r .state
 
-pub record Fed-so (state stateAfter chunk work workAfter image : List ℕ) (number line : ℕ) : Type 0 where
+pub record FedAs (state stateAfter chunk work workAfter image : List ℕ) (number line : ℕ) : Type 0 where
   pub answer : Fed
   pub call : FeedCall (stateOf state) chunk work workAfter image answer
   pub given : Given answer number line stateAfter
 
-pub record Ended-so (state stateAfter work workAfter image imageAfter : List ℕ) (number line : ℕ) : Type 0 where
+pub record EndedAs (state stateAfter work workAfter image imageAfter : List ℕ) (number line : ℕ) : Type 0 where
   pub answer : Fed
   pub call : EndCall (stateOf state) work workAfter image imageAfter answer
   pub given : Given answer number line stateAfter
@@ -60,10 +60,10 @@ pub record FeedBytes (state stateAfter chunk work workAfter image : List ℕ) (n
   pub short-work : (length work ≡ workSize → ⊥) → Unchanged work-buffer-is-not-9216-bytes number line state stateAfter work workAfter image image
   pub short-image : length work ≡ workSize → (length image ≡ imageSize → ⊥) → Unchanged image-is-not-8192-bytes number line state stateAfter work workAfter image image
   pub no-state : length work ≡ workSize → length image ≡ imageSize → (length state ≡ stateSize → ⊥) → Unchanged record-outside-the-ranges number line state stateAfter work workAfter image image
-  pub feeds : length work ≡ workSize → length image ≡ imageSize → length state ≡ stateSize → Fed-so state stateAfter chunk work workAfter image number line
+  pub feeds : length work ≡ workSize → length image ≡ imageSize → length state ≡ stateSize → FedAs state stateAfter chunk work workAfter image number line
 
 pub record EndBytes (state stateAfter work workAfter image imageAfter : List ℕ) (number line : ℕ) : Type 0 where
   pub short-work : (length work ≡ workSize → ⊥) → Unchanged work-buffer-is-not-9216-bytes number line state stateAfter work workAfter image imageAfter
   pub short-image : length work ≡ workSize → (length image ≡ imageSize → ⊥) → Unchanged image-is-not-8192-bytes number line state stateAfter work workAfter image imageAfter
   pub no-state : length work ≡ workSize → length image ≡ imageSize → (length state ≡ stateSize → ⊥) → Unchanged record-outside-the-ranges number line state stateAfter work workAfter image imageAfter
-  pub ends : length work ≡ workSize → length image ≡ imageSize → length state ≡ stateSize → Ended-so state stateAfter work workAfter image imageAfter number line
+  pub ends : length work ≡ workSize → length image ≡ imageSize → length state ≡ stateSize → EndedAs state stateAfter work workAfter image imageAfter number line

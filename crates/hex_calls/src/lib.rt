@@ -3,24 +3,19 @@
 use hex_chunks::Told;
 use hex_chunks::feed;
 use hex_chunks::finish;
+use hex_chunks::refusal_of;
 use hex_chunks::start;
 use hex_reader::read_hex;
 use hex_state::STATE_SIZE;
 use hex_state::pack;
 use hex_state::unpack;
-use hex_work::IMAGE_SIZE;
-use hex_work::WORK_SIZE;
 use hex_writer::write_hex;
 ghost use mathlib.Core.Path.{_≡_};
 ghost use Rattle.hex_calls.specs.Chunks.{numberOf, lineOf, StartCall, FeedBytes, EndBytes};
 ghost use Rattle.hex_calls.specs.Calls.{ReadCall, WriteCall};
 
-const IMAGE_IS_NOT_8192_BYTES: u8 = 1;
-
 // A buffer that is no state: document 01's refusal of a record.
 const NO_STATE: u8 = 2;
-
-const WORK_BUFFER_IS_NOT_9216_BYTES: u8 = 47;
 
 // Nothing is told yet.
 const MORE: u8 = 255;
@@ -83,11 +78,9 @@ pub extern "C" fn em73862_hex_feed(
     ensures { λ r. ⌜ FeedBytes (now (state .entry)) (now (state .exit)) (now (chunk .entry)) (now (work .entry)) (now (work .exit)) (now (image .entry)) r (now (line .exit)) ⌝ }
 {
     *line = 0;
-    if work.len() != WORK_SIZE {
-        return WORK_BUFFER_IS_NOT_9216_BYTES;
-    }
-    if image.len() != IMAGE_SIZE {
-        return IMAGE_IS_NOT_8192_BYTES;
+    let refusal = refusal_of(work, image);
+    if refusal != 0 {
+        return refusal;
     }
     if state.len() != STATE_SIZE {
         return NO_STATE;
@@ -109,11 +102,9 @@ pub extern "C" fn em73862_hex_end(
     ensures { λ r. ⌜ EndBytes (now (state .entry)) (now (state .exit)) (now (work .entry)) (now (work .exit)) (now (image .entry)) (now (image .exit)) r (now (line .exit)) ⌝ }
 {
     *line = 0;
-    if work.len() != WORK_SIZE {
-        return WORK_BUFFER_IS_NOT_9216_BYTES;
-    }
-    if image.len() != IMAGE_SIZE {
-        return IMAGE_IS_NOT_8192_BYTES;
+    let refusal = refusal_of(work, image);
+    if refusal != 0 {
+        return refusal;
     }
     if state.len() != STATE_SIZE {
         return NO_STATE;

@@ -3,6 +3,7 @@ use mathlib.Core.Path.{_≡_, refl, sym, _∙_}
 use mathlib.Core.Bool.{true, false}
 use mathlib.Core.List.{List, _++_}
 use Prim.Native.Nat.{ℕ, _+_, _^_, _<_}
+use native.Mathlib.Decide.{ℕ-discrete}
 use native.Mathlib.Omega.{arith}
 use lib.ListN.{length, take, length-append}
 use Rattle.laws.specs.Choice.{either}
@@ -11,7 +12,7 @@ use Rattle.hex_progress.specs.Progress.{Reading, good, refused, readOf}
 use Rattle.hex_progress.specs.Reached.{Held, isStopped}
 use Rattle.hex_progress.specs.declared.Stage.the-variants.{Ended, Stopped}
 use Rattle.hex_chunks.specs.Cut.{Session, fed, told, afterChunk, afterEnd, imageAtEnd}
-use Rattle.hex_chunks.specs.Carries.{Along, Chunked, Readied, Carries, Fits, Stays, TakesTo, Repeats, FeedCall, EndCall, toldOf}
+use Rattle.hex_chunks.specs.Carries.{Along, Chunked, Readied, Carries, Fits, Sized, Stays, TakesTo, Repeats, FeedCall, EndCall, toldOf}
 use Rattle.hex_chunks.specs.declared.HexChunks.{HexChunks}
 use Rattle.hex_chunks.specs.declared.Told.the-variants.{Good, Refused}
 use Rattle.hex_chunks.specs.declared.Fed.{Fed}
@@ -53,7 +54,7 @@ module _ (s : HexChunks) (work : List ℕ) where
   repeats-so image = record { state-kept = refl; work-kept = refl; image-kept = refl }
 
   module _ (chunk image : List ℕ) where
-    pub feed-47 : (length work ≡ 9216 → ⊥) → FeedCall s chunk work work image (refusal s 47)
+    feed-47 : (length work ≡ 9216 → ⊥) → FeedCall s chunk work work image (refusal s 47)
     feed-47 n =
         record {
           size = refl;
@@ -63,7 +64,7 @@ module _ (s : HexChunks) (work : List ℕ) where
           repeats = λ w. absurd (n w);
         }
 
-    pub feed-1 : length work ≡ 9216 → (length image ≡ 8192 → ⊥) → FeedCall s chunk work work image (refusal s 1)
+    feed-1 : length work ≡ 9216 → (length image ≡ 8192 → ⊥) → FeedCall s chunk work work image (refusal s 1)
     feed-1 w n =
         record {
           size = refl;
@@ -72,6 +73,14 @@ module _ (s : HexChunks) (work : List ℕ) where
           feeds = λ _ i. absurd (n i);
           repeats = λ _ i. absurd (n i);
         }
+
+    feed-by : (r : ℕ) → Sized work image r → (r ≡ 0 → ⊥) → Dec (length work ≡ 9216) → Dec (length image ≡ 8192) → FeedCall s chunk work work image (refusal s r)
+    feed-by r z n (no w) i = rw (z .short-work w) (feed-47 w)
+    feed-by r z n (yes w) (no i) = rw (z .short-image w i) (feed-1 w i)
+    feed-by r z n (yes w) (yes i) = absurd (n (z .both-right w i))
+
+    pub feed-refused : (r : ℕ) → Sized work image r → (r ≡ 0 → ⊥) → FeedCall s chunk work work image (refusal s r)
+    feed-refused r z n = feed-by r z n (ℕ-discrete (length work) 9216) (ℕ-discrete (length image) 8192)
 
     pub feed-last : length work ≡ 9216 → length image ≡ 8192 → isLast → FeedCall s chunk work work image (again s)
     feed-last w i f =
@@ -101,7 +110,7 @@ module _ (s : HexChunks) (work : List ℕ) where
           }
 
   module _ (image : List ℕ) where
-    pub end-47 : (length work ≡ 9216 → ⊥) → EndCall s work work image image (refusal s 47)
+    end-47 : (length work ≡ 9216 → ⊥) → EndCall s work work image image (refusal s 47)
     end-47 n =
         record {
           short-work = λ _. stays-so 47 s work image;
@@ -111,7 +120,7 @@ module _ (s : HexChunks) (work : List ℕ) where
           repeats = λ w. absurd (n w);
         }
 
-    pub end-1 : length work ≡ 9216 → (length image ≡ 8192 → ⊥) → EndCall s work work image image (refusal s 1)
+    end-1 : length work ≡ 9216 → (length image ≡ 8192 → ⊥) → EndCall s work work image image (refusal s 1)
     end-1 w n =
         record {
           short-work = λ m. absurd (m w);
@@ -120,6 +129,14 @@ module _ (s : HexChunks) (work : List ℕ) where
           written = λ _ i. absurd (n i);
           repeats = λ _ i. absurd (n i);
         }
+
+    end-by : (r : ℕ) → Sized work image r → (r ≡ 0 → ⊥) → Dec (length work ≡ 9216) → Dec (length image ≡ 8192) → EndCall s work work image image (refusal s r)
+    end-by r z n (no w) i = rw (z .short-work w) (end-47 w)
+    end-by r z n (yes w) (no i) = rw (z .short-image w i) (end-1 w i)
+    end-by r z n (yes w) (yes i) = absurd (n (z .both-right w i))
+
+    pub end-refused-size : (r : ℕ) → Sized work image r → (r ≡ 0 → ⊥) → EndCall s work work image image (refusal s r)
+    end-refused-size r z n = end-by r z n (ℕ-discrete (length work) 9216) (ℕ-discrete (length image) 8192)
 
     pub end-last : length work ≡ 9216 → length image ≡ 8192 → isLast → EndCall s work work image image (again s)
     end-last w i f =

@@ -71,7 +71,14 @@ abbrev pub Fits : Session → List ℕ → Type 0
 Fits (fed text) chunk = length text + length chunk < 2 ^ 64
 Fits (told r) chunk = Unit
 
--- "47 work buffer not 9,216 bytes, tested first, then 1 for the image buffer": the state and the buffers stay
+-- "47 work buffer not 9,216 bytes, tested first, then 1 for the image buffer"; 0 where both are right
+pub record Sized (work image : List ℕ) (r : ℕ) : Type 0 where
+  pub short-work : (length work ≡ workSize → ⊥) → r ≡ work-buffer-is-not-9216-bytes
+  pub short-image : length work ≡ workSize → (length image ≡ imageSize → ⊥) → r ≡ image-is-not-8192-bytes
+  pub right : r ≡ 0 → (length work ≡ workSize) × (length image ≡ imageSize)
+  pub both-right : length work ≡ workSize → length image ≡ imageSize → r ≡ 0
+
+-- such a refusal leaves the state and the buffers
 pub record Stays (number : ℕ) (s : HexChunks) (work workAfter image imageAfter : List ℕ) (r : Fed) : Type 0 where
   pub answer : r .told ≡ Refused number 0
   pub state-kept : r .state ≡ s

@@ -32,15 +32,15 @@ byProgress text (stopped number line) = told (refused number line)
 unfoldable pub fedTo : List ℕ → Session
 fedTo text = byProgress text (afterLines (going []) 1 (completed [] text))
 
--- a chunk is fed; "Once the end is declared or one of 40 to 45 given, later calls repeat that answer"
-abbrev pub afterChunk : Session → List ℕ → Session
-afterChunk (fed text) chunk = fedTo (text ++ chunk)
-afterChunk (told r) chunk = told r
-
 -- the end is declared: what is told is what Q-3's reader says of the whole text
 abbrev pub afterEnd : Session → Session
 afterEnd (fed text) = told (readOf text)
 afterEnd (told r) = told r
+
+-- a chunk is fed; "Once the end is declared or one of 40 to 45 given, later calls repeat that answer"
+abbrev pub afterChunk : Session → List ℕ → Session
+afterChunk (fed text) chunk = fedTo (text ++ chunk)
+afterChunk (told r) chunk = told r
 
 -- "The image buffer is written only when the end is declared and the whole text is good."
 abbrev pub imageOfReading : List ℕ → Reading → List ℕ

@@ -20,7 +20,7 @@ ghost use Rattle.laws.specs.Choice.{either};
 ghost use Rattle.hex_progress.specs.Progress.{readOf};
 ghost use Rattle.hex_progress.specs.Reached.{Concluded, isStopped};
 ghost use Rattle.hex_chunks.specs.Cut.{fed};
-ghost use Rattle.hex_chunks.specs.Carries.{Along, Chunked, Carries, Readied, FeedCall, EndCall, moreOrGood, toldOf};
+ghost use Rattle.hex_chunks.specs.Carries.{Along, Chunked, Carries, Readied, Sized, FeedCall, EndCall, moreOrGood, toldOf};
 
 pub const WORK_BUFFER_IS_NOT_9216_BYTES: u8 = 47;
 
@@ -187,15 +187,26 @@ fn refuse(s: HexChunks, number: u8) -> Fed
     )
 }
 
+// The refusal of the buffers, 0 where both are right: the work buffer's comes first.
+pub fn refusal_of(work: &[u8], image: &[u8]) -> u8
+    ensures { λ r. ⌜ Sized (now (work .entry)) (now (image .entry)) r ⌝ }
+{
+    if work.len() != WORK_SIZE {
+        return WORK_BUFFER_IS_NOT_9216_BYTES;
+    }
+    if image.len() != IMAGE_SIZE {
+        return IMAGE_IS_NOT_8192_BYTES;
+    }
+    0
+}
+
 // A chunk, which may be empty.
 pub fn feed(s: HexChunks, chunk: &[u8], work: &mut [u8], image: &[u8]) -> Fed
     ensures { λ r. ⌜ FeedCall s (now (chunk .entry)) (now (work .entry)) (now (work .exit)) (now (image .entry)) r ⌝ }
 {
-    if work.len() != WORK_SIZE {
-        return refuse(s, WORK_BUFFER_IS_NOT_9216_BYTES);
-    }
-    if image.len() != IMAGE_SIZE {
-        return refuse(s, IMAGE_IS_NOT_8192_BYTES);
+    let refusal = refusal_of(work, image);
+    if refusal != 0 {
+        return refuse(s, refusal);
     }
     if is_final(s) {
         return answer(s, told_of(s));
@@ -239,11 +250,9 @@ fn refused_end(s: HexChunks, number: u8, line: usize) -> Fed
 pub fn finish(s: HexChunks, work: &mut [u8], image: &mut [u8]) -> Fed
     ensures { λ r. ⌜ EndCall s (now (work .entry)) (now (work .exit)) (now (image .entry)) (now (image .exit)) r ⌝ }
 {
-    if work.len() != WORK_SIZE {
-        return refuse(s, WORK_BUFFER_IS_NOT_9216_BYTES);
-    }
-    if image.len() != IMAGE_SIZE {
-        return refuse(s, IMAGE_IS_NOT_8192_BYTES);
+    let refusal = refusal_of(work, image);
+    if refusal != 0 {
+        return refuse(s, refusal);
     }
     if is_final(s) {
         return answer(s, told_of(s));

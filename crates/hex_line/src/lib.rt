@@ -1,4 +1,5 @@
 // One line of Intel HEX, without its ending: a data record, the end record, or its first fault.
+use hexadecimal::digit;
 use laws::both;
 ghost use mathlib.Core.Path.{_≡_};
 ghost use mathlib.Core.Bool.{true};
@@ -48,29 +49,11 @@ pub enum Line {
     Fault(u8),
 }
 
-// The value of each character as a digit of either case, a line for each high digit of its code: @ is 0, A to O are 1 to 15, P is 16, which no digit has.
-const VALUES: [u8; 256] = *b"\
-    PPPPPPPPPPPPPPPP\
-    PPPPPPPPPPPPPPPP\
-    PPPPPPPPPPPPPPPP\
-    @ABCDEFGHIPPPPPP\
-    PJKLMNOPPPPPPPPP\
-    PPPPPPPPPPPPPPPP\
-    PJKLMNOPPPPPPPPP\
-    PPPPPPPPPPPPPPPP\
-    PPPPPPPPPPPPPPPP\
-    PPPPPPPPPPPPPPPP\
-    PPPPPPPPPPPPPPPP\
-    PPPPPPPPPPPPPPPP\
-    PPPPPPPPPPPPPPPP\
-    PPPPPPPPPPPPPPPP\
-    PPPPPPPPPPPPPPPP\
-    PPPPPPPPPPPPPPPP";
-
+// The value of a digit of either case.
 fn digit_value(c: u8) -> usize
     ensures { λ r. ⌜ r ≡ digitOf c ⌝ }
 {
-    (VALUES[c as usize] % 32) as usize
+    digit(c) as usize
 }
 
 // The byte of the two digits at a place.

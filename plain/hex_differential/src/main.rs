@@ -1,5 +1,5 @@
 //! `hex_differential [SEED [FACTOR]]`: puts the same texts and images to the proved archive and to the plain reader and
-//! writer, and compares all that comes back. The texts are the same for the same seed; FACTOR makes so many times as many.
+//! writer, each text whole and cut into chunks, and compares all that comes back. The texts are the same for the same seed; FACTOR makes so many times as many.
 //! Exit status 1 on a difference, 2 where some answer came so seldom that the comparison says little, 0 else.
 
 #[allow(dead_code)]
@@ -32,10 +32,22 @@ fn main() {
     let mut chance = Chance::new(seed);
     let mut proved = Proved::new();
     let mut seen = [0u64; 256];
+    let mut cut = 0;
     for _ in 0..READS * factor / BATCH {
-        let calls: Vec<Call> = (0..BATCH).map(|_| read_call(&mut chance)).collect();
+        let mut calls = Vec::new();
+        for _ in 0..BATCH {
+            let (text, image) = text_and_image(&mut chance);
+            for lengths in cuttings(&mut chance, text.len()) {
+                calls.push(Call::Chunks { text: text.clone(), image: image.clone(), lengths });
+            }
+            calls.push(Call::Read { text, image });
+        }
         for (call, answer) in calls.iter().zip(proved.answers(&calls)) {
-            seen[answer.number as usize] += 1;
+            if let Call::Read { .. } = call {
+                seen[answer.number as usize] += 1;
+            } else {
+                cut += 1;
+            }
             compare(seed, call, answer);
         }
     }
@@ -52,17 +64,33 @@ fn main() {
         println!("hex_differential: seed {seed}: too seldom: {seldom:?}");
         exit(2);
     }
-    println!("hex_differential: {} reads, {} writes, 0 differ", READS * factor, WRITES * factor);
+    println!("hex_differential: {} reads, {cut} in chunks, {} writes, 0 differ", READS * factor, WRITES * factor);
 }
 
 /// A third of the texts is good; the others are damaged in one place or two.
-fn read_call(chance: &mut Chance) -> Call {
+fn text_and_image(chance: &mut Chance) -> (Vec<u8>, Vec<u8>) {
     let mut lines = texts::good(chance);
     for _ in 0..chance.below(3) {
         texts::damage(chance, &mut lines);
     }
     let size = if chance.one_in(100) { chance.pick(&[0, 8191, 8193]) } else { IMAGE_SIZE };
-    Call::Read { text: lines.concat(), image: vec![chance.byte(); size] }
+    (lines.concat(), vec![chance.byte(); size])
+}
+
+/// A text of some length cut once, at any places, empty chunks among them; of some texts a byte a chunk too.
+fn cuttings(chance: &mut Chance, length: usize) -> Vec<Vec<u32>> {
+    let mut lengths = Vec::new();
+    let mut left = length;
+    while left > 0 {
+        let next = if chance.one_in(6) { 0 } else { 1 + chance.below(left.min(400)) };
+        lengths.push(next as u32);
+        left -= next;
+    }
+    let mut cuttings = vec![lengths];
+    if length < 200 && chance.one_in(8) {
+        cuttings.push(vec![1; length]);
+    }
+    cuttings
 }
 
 fn write_call(chance: &mut Chance) -> Call {
@@ -73,16 +101,31 @@ fn write_call(chance: &mut Chance) -> Call {
 
 fn plainly(call: &Call) -> Answer {
     let mut buffer = call.changing().to_vec();
-    match call {
-        Call::Read { text, .. } => match read_hex(text, &mut buffer) {
-            Ok(()) => Answer { number: 0, line: 0, buffer },
-            Err(refusal) => Answer { number: refusal.number, line: refusal.line, buffer },
+    let (number, line) = match call {
+        Call::Write { image, .. } => (write_hex(image, &mut buffer).err().unwrap_or(0), 0),
+        Call::Read { text, .. } | Call::Chunks { text, .. } => match read_hex(text, &mut buffer) {
+            Ok(()) => (0, 0),
+            Err(refusal) => (refusal.number, refusal.line),
         },
-        Call::Write { image, .. } => {
-            let number = write_hex(image, &mut buffer).err().unwrap_or(0);
-            Answer { number, line: 0, buffer }
+    };
+    let told = match call {
+        Call::Chunks { text, lengths, .. } => told_by(text, lengths, number, line),
+        Call::Read { .. } | Call::Write { .. } => 0,
+    };
+    Answer { number, line, told, repeated: matches!(call, Call::Chunks { .. }), buffer }
+}
+
+/// "A fault is answered by the call that completes its line", 1 by the first call; 0 where that is the end's.
+fn told_by(text: &[u8], lengths: &[u32], number: u8, line: usize) -> usize {
+    let mut fed = 0;
+    for (place, &length) in lengths.iter().enumerate() {
+        fed += length as usize;
+        let completed = text[..fed].iter().filter(|&&c| c == b'\n').count();
+        if number != 0 && completed >= line {
+            return place + 1;
         }
     }
+    0
 }
 
 fn compare(seed: u64, call: &Call, proved: Answer) {

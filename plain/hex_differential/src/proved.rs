@@ -4,6 +4,8 @@
 pub enum Call {
     Read { text: Vec<u8>, image: Vec<u8> },
     Write { image: Vec<u8>, text: Vec<u8> },
+    /// The text in chunks of these lengths, up to the call that tells an answer; then the end, where none did.
+    Chunks { text: Vec<u8>, image: Vec<u8>, lengths: Vec<u32> },
 }
 
 #[derive(Debug, PartialEq, Eq)]
@@ -11,21 +13,32 @@ pub struct Answer {
     pub number: u8,
     /// 0 where the call gives none.
     pub line: usize,
+    /// The chunk, from 1, after which the answer was told; 0 at the end, and of the other calls.
+    pub told: usize,
+    /// Of chunks, that one more chunk and one more end gave the same answer and changed nothing.
+    pub repeated: bool,
     pub buffer: Vec<u8>,
 }
 
 impl Call {
     pub fn steady(&self) -> &[u8] {
         match self {
-            Call::Read { text, .. } => text,
+            Call::Read { text, .. } | Call::Chunks { text, .. } => text,
             Call::Write { image, .. } => image,
         }
     }
 
     pub fn changing(&self) -> &[u8] {
         match self {
-            Call::Read { image, .. } => image,
+            Call::Read { image, .. } | Call::Chunks { image, .. } => image,
             Call::Write { text, .. } => text,
+        }
+    }
+
+    pub fn lengths(&self) -> &[u32] {
+        match self {
+            Call::Chunks { lengths, .. } => lengths,
+            Call::Read { .. } | Call::Write { .. } => &[],
         }
     }
 }

@@ -1,18 +1,30 @@
 -- `hex_calls::em73862_hex_end` meets its contract.
 use denote.Ref.{now}
-use Rattle.hex_calls.proofs.Chunks.{end-47, end-1, end-2, end-so}
+use Rattle.hex_calls.proofs.Chunks.{end-refused, end-2, end-so}
 use borrow.Author.Needs.{needs}
 use Rattle.hex_calls.proofs.em73862_hex_end.Statement.{statement}
 use Rattle.hex_calls.proofs.em73862_hex_end.Tie as tie
 
+refusal-of-requires : tie.Need-refusal-of-requires
+refusal-of-requires c κs = search needs
+
+same-length : tie.Need-same-length
+same-length c = search needs
+
+same-length-2 : tie.Need-same-length-2
+same-length-2 c = search needs
+
 returns : tie.Need-returns
-returns c = end-47 _ _ _ (c .if1 .taken)
+returns c = end-refused _ _ _ _ (c .before .refusal-of .ensures) (c .if1 .taken)
+
+same-length-3 : tie.Need-same-length-3
+same-length-3 c = search needs
+
+same-length-4 : tie.Need-same-length-4
+same-length-4 c = search needs
 
 returns-2 : tie.Need-returns-2
-returns-2 c = end-1 _ _ _ (c .before .if1 .left) (c .if2 .taken)
-
-returns-3 : tie.Need-returns-3
-returns-3 c = end-2 _ _ _ (c .before .before .if1 .left) (c .before .if2 .left) (c .if3 .taken)
+returns-2 c = let z = c .before .before .refusal-of .ensures .right (c .before .if1 .left) in end-2 _ _ _ (z .0) (z .1) (c .if2 .taken)
 
 unpack-requires : tie.Need-unpack-requires
 unpack-requires c κs = search needs
@@ -29,31 +41,35 @@ line-of-requires c κs = search needs
 number-of-requires : tie.Need-number-of-requires
 number-of-requires c κs = search needs
 
-same-length : tie.Need-same-length
-same-length c = search needs
+same-length-5 : tie.Need-same-length-5
+same-length-5 c = search needs
 
-same-length-2 : tie.Need-same-length-2
-same-length-2 c = search needs
+same-length-6 : tie.Need-same-length-6
+same-length-6 c = search needs
 
-same-length-3 : tie.Need-same-length-3
-same-length-3 c = search needs
+same-length-7 : tie.Need-same-length-7
+same-length-7 c = search needs
 
-returns-4 : tie.Need-returns-4
-returns-4 c = end-so (now (c .before .before .before .before .before .before .before .before .before .before .before .before .before .before .before .before .before .before .before .before .before .args .state)) (now (c .before .before .before .before .before .before .before .before .before .before .before .before .before .before .before .before .before .before .before .before .before .args .work)) (now (c .before .before .before .before .before .before .before .before .before .before .before .before .before .before .before .before .before .before .before .before .before .args .image)) _ _ _ (c .before .before .before .before .before .before .before .before .before .before .finish .result) _ _ (c .before .before .before .before .before .before .before .before .before .before .before .before .before .before .before .before .before .if1 .left) (c .before .before .before .before .before .before .before .before .before .before .before .before .before .before .before .before .if2 .left) (c .before .before .before .before .before .before .before .before .before .before .before .before .before .before .before .if3 .left) (rw (c .before .before .before .before .before .before .before .before .before .before .before .before .before .unpack .ensures) at (c .before .before .before .before .before .before .before .before .before .before .finish .ensures)) (c .before .before .before .before .pack .ensures) (c .number-of .ensures) (c .before .line-of .ensures)
+returns-3 : tie.Need-returns-3
+returns-3 c = let z = c .before .before .before .before .before .before .before .before .before .before .before .before .before .before .before .before .before .refusal-of .ensures .right (c .before .before .before .before .before .before .before .before .before .before .before .before .before .before .before .before .if1 .left) in end-so (now (c .before .before .before .before .before .before .before .before .before .before .before .before .before .before .before .before .before .before .before .before .before .before .before .args .state)) (now (c .before .before .before .before .before .before .before .before .before .before .before .before .before .before .before .before .before .before .before .before .before .before .before .args .work)) (now (c .before .before .before .before .before .before .before .before .before .before .before .before .before .before .before .before .before .before .before .before .before .before .before .args .image)) _ _ _ (c .before .before .before .before .before .before .before .before .before .before .finish .result) _ _ (z .0) (z .1) (c .before .before .before .before .before .before .before .before .before .before .before .before .before .before .before .if2 .left) (rw (c .before .before .before .before .before .before .before .before .before .before .before .before .before .unpack .ensures) at (c .before .before .before .before .before .before .before .before .before .before .finish .ensures)) (c .before .before .before .before .pack .ensures) (c .number-of .ensures) (c .before .line-of .ensures)
 
 pub em73862-hex-end-spec : {M : Type 1} → statement M
 em73862-hex-end-spec =
     tie.close
     (tie.spec
+    refusal-of-requires
+    same-length
+    same-length-2
     returns
+    same-length-3
+    same-length-4
     returns-2
-    returns-3
     unpack-requires
     finish-requires
     pack-requires
     line-of-requires
     number-of-requires
-    same-length
-    same-length-2
-    same-length-3
-    returns-4)
+    same-length-5
+    same-length-6
+    same-length-7
+    returns-3)

@@ -1,18 +1,24 @@
 -- `hex_calls::em73862_hex_feed` meets its contract.
 use denote.Ref.{now}
-use Rattle.hex_calls.proofs.Chunks.{feed-47, feed-1, feed-2, feed-so}
+use Rattle.hex_calls.proofs.Chunks.{feed-refused, feed-2, feed-so}
 use borrow.Author.Needs.{needs}
 use Rattle.hex_calls.proofs.em73862_hex_feed.Statement.{statement}
 use Rattle.hex_calls.proofs.em73862_hex_feed.Tie as tie
 
+refusal-of-requires : tie.Need-refusal-of-requires
+refusal-of-requires c κs = search needs
+
+same-length : tie.Need-same-length
+same-length c = search needs
+
 returns : tie.Need-returns
-returns c = feed-47 _ _ _ _ (c .if1 .taken)
+returns c = feed-refused _ _ _ _ _ (c .before .refusal-of .ensures) (c .if1 .taken)
+
+same-length-2 : tie.Need-same-length-2
+same-length-2 c = search needs
 
 returns-2 : tie.Need-returns-2
-returns-2 c = feed-1 _ _ _ _ (c .before .if1 .left) (c .if2 .taken)
-
-returns-3 : tie.Need-returns-3
-returns-3 c = feed-2 _ _ _ _ (c .before .before .if1 .left) (c .before .if2 .left) (c .if3 .taken)
+returns-2 c = let z = c .before .before .refusal-of .ensures .right (c .before .if1 .left) in feed-2 _ _ _ _ (z .0) (z .1) (c .if2 .taken)
 
 unpack-requires : tie.Need-unpack-requires
 unpack-requires c κs = search needs
@@ -29,27 +35,29 @@ line-of-requires c κs = search needs
 number-of-requires : tie.Need-number-of-requires
 number-of-requires c κs = search needs
 
-same-length : tie.Need-same-length
-same-length c = search needs
+same-length-3 : tie.Need-same-length-3
+same-length-3 c = search needs
 
-same-length-2 : tie.Need-same-length-2
-same-length-2 c = search needs
+same-length-4 : tie.Need-same-length-4
+same-length-4 c = search needs
 
-returns-4 : tie.Need-returns-4
-returns-4 c = feed-so (now (c .before .before .before .before .before .before .before .before .before .before .before .before .before .before .before .before .before .before .before .args .state)) (now (c .before .before .before .before .before .before .before .before .before .before .before .before .before .before .before .before .before .before .before .args .work)) (now (c .before .before .before .before .before .before .before .before .before .before .before .before .before .before .before .before .before .before .before .args .image)) (now (c .before .before .before .before .before .before .before .before .before .before .before .before .before .before .before .before .before .before .before .args .chunk)) _ _ (c .before .before .before .before .before .before .before .before .feed .result) _ _ (c .before .before .before .before .before .before .before .before .before .before .before .before .before .before .if1 .left) (c .before .before .before .before .before .before .before .before .before .before .before .before .before .if2 .left) (c .before .before .before .before .before .before .before .before .before .before .before .before .if3 .left) (rw (c .before .before .before .before .before .before .before .before .before .before .unpack .ensures) at (c .before .before .before .before .before .before .before .before .feed .ensures)) (c .before .before .before .before .pack .ensures) (c .number-of .ensures) (c .before .line-of .ensures)
+returns-3 : tie.Need-returns-3
+returns-3 c = let z = c .before .before .before .before .before .before .before .before .before .before .before .before .before .before .refusal-of .ensures .right (c .before .before .before .before .before .before .before .before .before .before .before .before .before .if1 .left) in feed-so (now (c .before .before .before .before .before .before .before .before .before .before .before .before .before .before .before .before .before .before .before .before .args .state)) (now (c .before .before .before .before .before .before .before .before .before .before .before .before .before .before .before .before .before .before .before .before .args .work)) (now (c .before .before .before .before .before .before .before .before .before .before .before .before .before .before .before .before .before .before .before .before .args .image)) (now (c .before .before .before .before .before .before .before .before .before .before .before .before .before .before .before .before .before .before .before .before .args .chunk)) _ _ (c .before .before .before .before .before .before .before .before .feed .result) _ _ (z .0) (z .1) (c .before .before .before .before .before .before .before .before .before .before .before .before .if2 .left) (rw (c .before .before .before .before .before .before .before .before .before .before .unpack .ensures) at (c .before .before .before .before .before .before .before .before .feed .ensures)) (c .before .before .before .before .pack .ensures) (c .number-of .ensures) (c .before .line-of .ensures)
 
 pub em73862-hex-feed-spec : {M : Type 1} → statement M
 em73862-hex-feed-spec =
     tie.close
     (tie.spec
+    refusal-of-requires
+    same-length
     returns
+    same-length-2
     returns-2
-    returns-3
     unpack-requires
     feed-requires
     pack-requires
     line-of-requires
     number-of-requires
-    same-length
-    same-length-2
-    returns-4)
+    same-length-3
+    same-length-4
+    returns-3)

@@ -8,6 +8,9 @@ use std::process::{Child, ChildStdin, ChildStdout, Command, Stdio};
 
 const BUFFER: usize = 1 << 20;
 
+/// An emulator does `rep stosb` and `rep movsb` a byte at a time, so libc is told to use them from a gigabyte up.
+const TUNABLES: &str = "glibc.cpu.x86_rep_stosb_threshold=1000000000:glibc.cpu.x86_rep_movsb_threshold=1000000000";
+
 pub struct Proved {
     server: Child,
     requests: Option<BufWriter<ChildStdin>>,
@@ -22,6 +25,7 @@ impl Proved {
         assert!(program.exists(), "there is no {}: tools/build-server makes it", program.display());
         let mut server = Command::new(here.join("../../tools/on-host"))
             .arg(program)
+            .env("GLIBC_TUNABLES", TUNABLES)
             .stdin(Stdio::piped())
             .stdout(Stdio::piped())
             .spawn()
@@ -52,35 +56,42 @@ impl Drop for Proved {
     }
 }
 
-/// server.c's `struct request`, then the two buffers.
+/// server.c's `struct request`, then the two buffers and the chunks.
 fn send(requests: &mut impl Write, calls: &[Call]) -> io::Result<()> {
     for call in calls {
         let code: u32 = match call {
             Call::Read { .. } => 1,
             Call::Write { .. } => 2,
+            Call::Chunks { .. } => 3,
         };
-        for word in [code, call.steady().len() as u32, call.changing().len() as u32] {
+        let lengths = call.lengths();
+        for word in [code, call.steady().len() as u32, call.changing().len() as u32, lengths.len() as u32] {
             requests.write_all(&word.to_le_bytes())?;
         }
         requests.write_all(call.steady())?;
         requests.write_all(call.changing())?;
+        for length in lengths {
+            requests.write_all(&length.to_le_bytes())?;
+        }
     }
     requests.flush()
 }
 
 /// server.c's `struct answer`, then the buffer where it was changed.
 fn receive(answers: &mut impl Read, call: &Call) -> io::Result<Answer> {
-    let (mut number, mut changed, mut line) = ([0; 4], [0; 4], [0; 8]);
-    answers.read_exact(&mut number)?;
-    answers.read_exact(&mut changed)?;
-    answers.read_exact(&mut line)?;
+    let mut head = [0; 24];
+    answers.read_exact(&mut head)?;
+    let word = |at: usize| u32::from_le_bytes([head[at], head[at + 1], head[at + 2], head[at + 3]]);
     let mut buffer = call.changing().to_vec();
-    if u32::from_le_bytes(changed) == 1 {
+    if word(4) == 1 {
         answers.read_exact(&mut buffer)?;
     }
-    let line = match call {
-        Call::Read { .. } => u64::from_le_bytes(line) as usize,
-        Call::Write { .. } => 0,
-    };
-    Ok(Answer { number: u32::from_le_bytes(number) as u8, line, buffer })
+    let line = u64::from(word(16)) | u64::from(word(20)) << 32;
+    Ok(Answer {
+        number: word(0) as u8,
+        line: if matches!(call, Call::Write { .. }) { 0 } else { line as usize },
+        told: word(8) as usize,
+        repeated: matches!(call, Call::Chunks { .. }) && word(12) == 1,
+        buffer,
+    })
 }
