@@ -5,3 +5,4 @@ pub mod Sessions
 pub mod Answers
 pub mod AnyCutting
 pub mod RunAsWhole
+pub mod OneAnswer

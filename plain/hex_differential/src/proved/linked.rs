@@ -62,7 +62,7 @@ fn answer(call: &Call) -> Answer {
             };
             Answer { number, line, told: 0, repeated: false, buffer }
         }
-        Call::Chunks { text, lengths, .. } => in_chunks(text, lengths, buffer),
+        Call::Chunks { text, .. } => in_chunks(text, call.lengths(), buffer),
         Call::Write { .. } => {
             let number =
                 unsafe { header::em73862_hex_write(steady.as_ptr(), steady.len(), buffer.as_mut_ptr(), buffer.len()) };
