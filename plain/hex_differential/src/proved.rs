@@ -2,10 +2,20 @@
 
 /// A call, with the buffer that it may change.
 pub enum Call {
-    Read { text: Vec<u8>, image: Vec<u8> },
-    Write { image: Vec<u8>, text: Vec<u8> },
+    Read {
+        text: Vec<u8>,
+        image: Vec<u8>,
+    },
+    Write {
+        image: Vec<u8>,
+        text: Vec<u8>,
+    },
     /// The text in chunks of these lengths, up to the call that tells an answer; then the end, where none did.
-    Chunks { text: Vec<u8>, image: Vec<u8>, lengths: Vec<u32> },
+    Chunks {
+        text: Vec<u8>,
+        image: Vec<u8>,
+        lengths: Vec<u32>,
+    },
 }
 
 #[derive(Debug, PartialEq, Eq)]

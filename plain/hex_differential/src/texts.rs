@@ -84,7 +84,9 @@ pub fn damage(chance: &mut Chance, lines: &mut Vec<Vec<u8>>) {
             lines.pop();
         }
         6 => lines.push(chance.pick(&[&b"\n"[..], b"\r\n", b" ", b"\r", b":00000001FF\n", b"x", b":"]).to_vec()),
-        7 => lines.insert(at, chance.pick(&[&b"\n"[..], b"\r\n", b":\n", b":00\n", b"; comment\n", b"\r\r\n"]).to_vec()),
+        7 => {
+            lines.insert(at, chance.pick(&[&b"\n"[..], b"\r\n", b":\n", b":00\n", b"; comment\n", b"\r\r\n"]).to_vec())
+        }
         8 => lines.insert(at, hex_record(chance.below(0x10000), chance.byte(), &chance.bytes(2)).into_bytes()),
         9 => lines.insert(at, hex_record(0, chance.pick(&[2, 3, 4, 5]), &chance.bytes(2)).into_bytes()),
         10 => lines.insert(at, any_record(chance, IMAGE_SIZE - 40, 80).into_bytes()),

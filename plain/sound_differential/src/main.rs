@@ -22,8 +22,7 @@ const BATCH: usize = 10_000;
 
 /// How often each answer of an advance must come at least.
 const SELDOM: usize = 1_000;
-const ADVANCE_NUMBERS: [u8; 4] =
-    [numbers::NONE, numbers::RECORD_RANGE, PULSES_OVER_THE_LIMIT, TF_OF_ZERO_WHILE_ON];
+const ADVANCE_NUMBERS: [u8; 4] = [numbers::NONE, numbers::RECORD_RANGE, PULSES_OVER_THE_LIMIT, TF_OF_ZERO_WHILE_ON];
 
 fn main() {
     let mut words = std::env::args().skip(1);
