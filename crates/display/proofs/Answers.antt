@@ -1,11 +1,11 @@
 -- What the call answers in each of its three cases, and that any two answers to the same are equal.
 use Prim.Native.Nat.{ℕ, _<_, _≤_}
 use mathlib.Core.Bool.{Bool, true, false, not}
-use mathlib.Core.List.{List, _++_}
+use mathlib.Core.List.{List}
 use mathlib.Core.Path.{_≡_, refl, sym, _∙_}
 use native.Mathlib.Decide.{decLt}
 use native.Mathlib.Omega.{arith}
-use lib.ListN.{length, drop}
+use lib.ListN.{length}
 use borrow.Author.Tests.{not-true, not-false}
 use Rattle.laws.specs.Decides.{Decides}
 use Rattle.laws.proofs.Computed.{true→T}
@@ -13,7 +13,8 @@ use Rattle.machine.specs.Valid.{Valid}
 use Rattle.machine.specs.declared.Machine.{Machine}
 use Rattle.machine_valid.proofs.Validity.{valid?}
 use Rattle.numbers.specs.ComesBack.{record-outside-the-ranges, display-buffer-under-40-bytes}
-use Rattle.display.specs.Display.{shownOf, Refused, DisplayOf}
+use Rattle.display.specs.Display.{Shows, Refused, DisplayOf}
+use Rattle.display.proofs.Shows.{one-buffer}
 
 -- what is known where the test that decides a statement failed, and where it passed
 pub fails : {t : Bool} {P : Type 0} → Decides t P → not t ≡ true → P → ⊥
@@ -39,14 +40,14 @@ module _ (m : Machine) (b : List ℕ) where
         shown = λ _ l. absurd (let z : ⊥ = omega arith in z);
       }
 
-  pub all-shown : (a : List ℕ) → Valid m → 40 ≤ length b → a ≡ shownOf m ++ drop 40 b → DisplayOf m b a 0
+  pub all-shown : (a : List ℕ) → Valid m → 40 ≤ length b → Shows m b a → DisplayOf m b a 0
   all-shown a v h e = record { outside = λ n. absurd (n v); short = λ _ l. absurd (let z : ⊥ = omega arith in z); shown = λ _ _. (refl, e) }
 
 same-refusal : {n : ℕ} {b a z : List ℕ} {r q : ℕ} → Refused n b a r → Refused n b z q → (r ≡ q) × (a ≡ z)
 same-refusal f g = (f .answer ∙ sym (g .answer), f .kept ∙ sym (g .kept))
 
-same-shown : {t a z : List ℕ} {r q : ℕ} → (r ≡ 0) × (a ≡ t) → (q ≡ 0) × (z ≡ t) → (r ≡ q) × (a ≡ z)
-same-shown f g = (f .0 ∙ sym (g .0), f .1 ∙ sym (g .1))
+same-shown : {m : Machine} {b a z : List ℕ} {r q : ℕ} → (r ≡ 0) × Shows m b a → (q ≡ 0) × Shows m b z → (r ≡ q) × (a ≡ z)
+same-shown f g = (f .0 ∙ sym (g .0), one-buffer (f .1) (g .1))
 
 by-size : {m : Machine} {b a z : List ℕ} {r q : ℕ} → DisplayOf m b a r → DisplayOf m b z q → Valid m → Dec (length b < 40) → (r ≡ q) × (a ≡ z)
 by-size f g v (yes h) = same-refusal (f .short v h) (g .short v h)

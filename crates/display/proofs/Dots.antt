@@ -1,4 +1,4 @@
--- Where a dot stands: dot s of row c is bit s mod 8 of byte 5c + s/8 of the forty, and its address in RAM is its place.
+-- Where a dot of RAM stands in the bytes that the code makes.
 use Prim.Native.Nat.{ℕ, _+_, _*_, _/_, _%_, _^_, _<_}
 use mathlib.Core.Bool.{Bool, true, false}
 use mathlib.Core.List.{List}
@@ -11,10 +11,10 @@ use lib.ListN.{getD}
 use Rattle.laws.specs.Choice.{pick, both}
 use Rattle.laws.proofs.Computed.{below, at}
 use Rattle.bits.specs.Bits.{hasBit}
-use Rattle.machine.specs.Valid.{Nibbles, Valid}
-use Rattle.machine.specs.declared.Machine.{Machine}
-use Rattle.display.specs.Display.{isOn, dotOf, pairAt, shownOf}
-use Rattle.display.proofs.Bytes.{shown-at}
+use Rattle.machine.specs.Valid.{Nibbles}
+use Rattle.display.specs.Display.{isLit}
+use Rattle.display.specs.Bytes.{pairAt}
+use Rattle.display.proofs.Bytes.{bytesIn, bytes-at}
 
 -- the byte of two nibbles has at `from + t` what one of them, f, has at t
 abbrev sameBit : (ℕ → ℕ → ℕ) → ℕ → ℕ → ℕ → ℕ → Bool
@@ -50,9 +50,8 @@ dot-in : (on : Bool) (ram : List ℕ) (c s : ℕ) → Nibbles ram → c < 8 → 
 dot-in true ram c s n hc hs = in-half ram c s n hc hs (decLt (s % 8) 4)
 dot-in false ram c s n hc hs = rw (zero-div (2 ^ (s % 8)))
 
--- the byte and the bit where a dot stands: "Row c, dot s .." and "Forty bytes, five a row, low nibble first" say the same
-pub dots : (m : Machine) (c s : ℕ) → Valid m → c < 8 → s < 40 → hasBit (getD (shownOf m) (5 * c + s / 8) 0) (2 ^ (s % 8)) ≡ dotOf m c s
-dots m c s v hc hs =
+pub dots-in : (on : Bool) (ram : List ℕ) (c s : ℕ) → Nibbles ram → c < 8 → s < 40 → isLit (bytesIn on ram) c s ≡ both on (hasBit (getD ram (0x20 + 16 * c + s / 4) 0) (2 ^ (s % 4)))
+dots-in on ram c s n hc hs =
     let row : (5 * c + s / 8) / 5 ≡ c = omega arith in
     let column : (5 * c + s / 8) % 5 ≡ s / 8 = omega arith in
-    rw (shown-at m (5 * c + s / 8) (omega arith), row, column) (dot-in (isOn m) (m .ram) c s (v .ram) hc hs)
+    rw (bytes-at on ram (5 * c + s / 8) (omega arith), row, column) (dot-in on ram c s n hc hs)

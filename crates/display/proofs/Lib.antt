@@ -1,3 +1,4 @@
 pub mod Bytes
-pub mod Answers
 pub mod Dots
+pub mod Shows
+pub mod Answers

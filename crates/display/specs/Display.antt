@@ -1,11 +1,11 @@
 -- Document 01, "Display": which dots are on, and the forty bytes that say so.
-use Prim.Native.Nat.{ℕ, zero, suc, _+_, _*_, _/_, _%_, _^_, _<_, _≤_}
+use Prim.Native.Nat.{ℕ, _+_, _*_, _/_, _%_, _^_, _<_, _≤_}
 use mathlib.Core.Bool.{Bool}
-use mathlib.Core.List.{List, [], _∷_, _++_}
+use mathlib.Core.List.{List}
 use mathlib.Core.Path.{_≡_}
 use lib.Dec.{eqb}
 use lib.ListN.{length, getD, drop}
-use Rattle.laws.specs.Choice.{pick, both}
+use Rattle.laws.specs.Choice.{both}
 use Rattle.bits.specs.Bits.{hasBit}
 use Rattle.numbers.specs.ComesBack.{record-outside-the-ranges, display-buffer-under-40-bytes}
 use Rattle.machine.specs.Valid.{Valid}
@@ -19,29 +19,24 @@ isOn m = eqb (m .core .ports .p27 / 4) 3
 abbrev pub dotOf : Machine → ℕ → ℕ → Bool
 dotOf m c s = both (isOn m) (hasBit (getD (m .ram) (0x20 + 16 * c + s / 4) 0) (2 ^ (s % 4)))
 
--- "low nibble first": the byte of the nibbles at a place and at the next
-abbrev pub pairAt : List ℕ → ℕ → ℕ
-pairAt ram place = getD ram place 0 + 16 * getD ram (place + 1) 0
+-- "Forty bytes, five a row, low nibble first": eight dots a byte, so that dot s of row c is bit s mod 8 of byte 5c + s/8
+abbrev pub isLit : List ℕ → ℕ → ℕ → Bool
+isLit bytes c s = hasBit (getD bytes (5 * c + s / 8) 0) (2 ^ (s % 8))
 
--- "Forty bytes, five a row": byte k of row c
-abbrev pub byteOf : Machine → ℕ → ℕ → ℕ
-byteOf m c k = pick (isOn m) (pairAt (m .ram) (0x20 + 16 * c + 2 * k)) 0
-
--- the bytes from byte j on, n of them
-abbrev pub bytesFrom : Machine → ℕ → ℕ → List ℕ
-bytesFrom m j zero = []
-bytesFrom m j (suc n) = byteOf m (j / 5) (j % 5) ∷ bytesFrom m (suc j) n
-
-unfoldable pub shownOf : Machine → List ℕ
-shownOf m = bytesFrom m 0 40
+-- the buffer shows each dot of the eight rows of forty; a byte is its eight dots, so that these determine the forty; "Later bytes stay."
+pub record Shows (m : Machine) (before after : List ℕ) : Type 0 where
+  pub dots : (c s : ℕ) → c < 8 → s < 40 → isLit after c s ≡ dotOf m c s
+  pub bytes : (j : ℕ) → j < 40 → getD after j 0 < 256
+  pub later : drop 40 after ≡ drop 40 before
+  pub size : length after ≡ length before
 
 -- "A refusal changes no buffer."
 pub record Refused (number : ℕ) (before after : List ℕ) (r : ℕ) : Type 0 where
   pub answer : r ≡ number
   pub kept : after ≡ before
 
--- what the call gives, in the table's order, and leaves in the buffer: "Later bytes stay."
+-- what the call gives, in the table's order, and leaves in the buffer
 pub record DisplayOf (m : Machine) (before after : List ℕ) (r : ℕ) : Type 0 where
   pub outside : (Valid m → ⊥) → Refused record-outside-the-ranges before after r
   pub short : Valid m → length before < 40 → Refused display-buffer-under-40-bytes before after r
-  pub shown : Valid m → 40 ≤ length before → (r ≡ 0) × (after ≡ shownOf m ++ drop 40 before)
+  pub shown : Valid m → 40 ≤ length before → (r ≡ 0) × Shows m before after

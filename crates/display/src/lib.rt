@@ -6,12 +6,11 @@ use machine_valid::is_valid;
 use numbers::DISPLAY_BUFFER_UNDER_40_BYTES;
 use numbers::RECORD_OUTSIDE_THE_RANGES;
 ghost use mathlib.Core.Path.{_≡_};
-ghost use mathlib.Core.List.{_++_};
-ghost use Prim.Native.Nat.{_+_, _*_, _/_, _%_, _<_, _≤_};
-ghost use lib.ListN.{length, drop};
-ghost use Rattle.laws.specs.Choice.{pick};
+ghost use Prim.Native.Nat.{_<_, _≤_};
+ghost use lib.ListN.{length};
 ghost use Rattle.machine.specs.Valid.{Nibbles, Valid};
-ghost use Rattle.display.specs.Display.{pairAt, shownOf, DisplayOf};
+ghost use Rattle.display.specs.Bytes.{pairAt, byteIn};
+ghost use Rattle.display.specs.Display.{Shows, DisplayOf};
 
 // "Forty bytes, five a row"
 const DOT_BYTES: usize = 40;
@@ -28,7 +27,7 @@ fn pair(ram: &Ram, at: usize) -> u8
 // Byte j of the forty.
 fn byte(on: bool, ram: &Ram, j: usize) -> u8
     requires { ⌜ (Nibbles (now ram)) × (j < 40) ⌝ }
-    ensures { λ r. ⌜ r ≡ pick on (pairAt (now (ram .entry)) (0x20 + 16 * (j / 5) + 2 * (j % 5))) 0 ⌝ }
+    ensures { λ r. ⌜ r ≡ byteIn on (now (ram .entry)) j ⌝ }
 {
     if on {
         return pair(ram, 0x20 + 16 * (j / 5) + 2 * (j % 5));
@@ -38,7 +37,7 @@ fn byte(on: bool, ram: &Ram, j: usize) -> u8
 
 fn show(m: Machine, out: &mut [u8])
     requires { ⌜ (Valid m) × (40 ≤ length (now out)) ⌝ }
-    ensures { λ _. ⌜ now (out .exit) ≡ shownOf m ++ drop 40 (now (out .entry)) ⌝ }
+    ensures { λ _. ⌜ Shows m (now (out .entry)) (now (out .exit)) ⌝ }
 {
     let ram = m.ram;
     let on = m.core.ports.p27 / 4 == 3;

@@ -5,6 +5,7 @@ use lib.ListN.{drop}
 use Rattle.laws.specs.Writing.{Writing}
 use Rattle.laws.proofs.Writing.{writing-all}
 use Rattle.display.proofs.Bytes.{bytesIn, byte-more, bytes-end}
+use Rattle.display.proofs.Shows.{shows}
 use Rattle.display.proofs.show.Statement.{statement}
 use Rattle.display.proofs.show.Tie as tie
 
@@ -36,7 +37,7 @@ same-length : tie.Need-same-length Inv-loop μ-loop
 same-length c = c .before .loop .inv .0 .wrote .size
 
 returns : tie.Need-returns Inv-loop μ-loop
-returns c = bytes-end _ (c .before .loop .inv .0) (c .loop-test .left)
+returns c = shows _ _ _ (c .before .before .before .before .before .pre .0) (c .before .before .before .before .before .pre .1) (bytes-end _ _ (c .before .loop .inv .0) (c .loop-test .left))
 
 pub show-spec : {M : Type 1} → statement M
 show-spec =
