@@ -75,7 +75,7 @@ module _ (rom : ℕ → ℕ) (o : Options) (m : Machine) (pins : Pins) (v : ℕ)
         let none : stepOf rom o m pins .cycles ≡ 0 = ap (λ (d : Done). d .cycles) (stop-undoes rom o m pins (λ z. omega (arith, h, stop-is))) in
         ends (Ends.stops (rw stop-is (h .0)) (rw stop-is (h .1))) (omega arith)
     lifted (returns k e z c) =
-        ends (Ends.returns (record { running = stands .running; ei = stands .ei; insn = i; read = read; is-rti = e; completes = stop-is ∙ z })) (omega (arith, spends z c))
+        ends (Ends.returns (record { running = stands .running; accepts-nothing = stands .ei; insn = i; read = read; is-rti = e; completes = stop-is ∙ z })) (omega (arith, spends z c))
     lifted (goes w k f z c s) = goes-on w (rw place-is (k, f)) (stop-is ∙ z) (spends z c) (rw (done-is z) (stands-after (executed around looking .cycles) s))
 
   module _ (bytes : (at : ℕ) → rom at < 256) (valid : Valid m) where

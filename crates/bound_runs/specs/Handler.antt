@@ -37,7 +37,7 @@ pub record Enters (m : Machine) (start : ℕ) : Type 0 where
 -- the step executes the row RTI: it runs, accepts nothing since EI is clear, and does not stop
 pub record Returns (rom : ℕ → ℕ) (o : Options) (m : Machine) (pins : Pins) : Type 0 where
   pub running : m .core .mode ≡ Running
-  pub ei : m .core .ints .ei ≡ false
+  pub accepts-nothing : m .core .ints .ei ≡ false
   pub insn : Insn
   pub read : readAt rom (m .core .pc) ≡ Read.Row insn
   pub is-rti : lineAt (insn .row) .operation ≡ return-FLAG
