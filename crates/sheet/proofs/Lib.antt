@@ -3,3 +3,7 @@ pub mod FirstBytes
 pub mod ReadAs
 pub mod Prefix
 pub mod Operands
+pub mod WellFormed
+pub mod Meeting
+pub mod Apart
+pub mod Wins

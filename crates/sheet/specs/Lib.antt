@@ -2,6 +2,8 @@ pub mod Operation
 pub mod Code
 pub mod Table
 pub mod Reading
+pub mod WellFormed
+pub mod Wins
 pub mod Timing
 pub mod Fields
 pub mod Flow

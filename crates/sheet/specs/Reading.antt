@@ -24,6 +24,7 @@ pub record Winner : Type 0 where
 abbrev pub over : ℕ → ℕ → Winner → Winner
 over n bits w = pick (ltb (w .bits) bits) (record { row = n; bits = bits }) w
 
+-- without a search, in `Wins.antt`: it fits, and every other row that fits fixes fewer bits; no two that fit fix equally many
 abbrev pub winner : List Line → ℕ → List ℕ → Winner
 winner [] n ds = record { row = 0; bits = 0 }
 winner (l ∷ ls) n ds = over n (bitsFixedIfFits (l .codes) ds) (winner ls (suc n) ds)

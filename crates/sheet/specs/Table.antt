@@ -28,13 +28,6 @@ pub record Code : Type 0 where
   pub groups : List Group
   pub lead : Operand
 
-abbrev pub oneCode : String → Code
-oneCode t = record { groups = groupsOf t; lead = absent }
-
-infix 20 _with-a₁₂_
-abbrev pub _with-a₁₂_ : String → ℕ → Code
-_with-a₁₂_ t n = record { groups = groupsOf t; lead = value n }
-
 pub record Line : Type 0 where
   pub mnemonic : String
   pub codes : List Code
@@ -45,19 +38,49 @@ pub record Line : Type 0 where
   pub z : Mark
   pub s : Mark
 
-abbrev pub line : String → List Code → Operation → ℕ → ℕ → String → String → String → Line
-line name codes o n t fc fz fs = record { mnemonic = name; codes = codes; operation = o; bytes = n; cycles = t; c = mark fc; z = mark fz; s = mark fs }
+-- the same as the sheet prints them: the object codes and the marks are texts
+pub record PrintedCode : Type 0 where
+  pub text : String
+  pub lead : Operand
+
+pub record Printed : Type 0 where
+  pub mnemonic : String
+  pub codes : List PrintedCode
+  pub operation : Operation
+  pub bytes : ℕ
+  pub cycles : ℕ
+  pub c : String
+  pub z : String
+  pub s : String
+
+abbrev pub codesOf : List PrintedCode → List Code
+codesOf [] = []
+codesOf (p ∷ ps) = record { groups = groupsOf (p .text); lead = p .lead } ∷ codesOf ps
+
+abbrev pub lineOf : Printed → Line
+lineOf p = record { mnemonic = p .mnemonic; codes = codesOf (p .codes); operation = p .operation; bytes = p .bytes; cycles = p .cycles; c = mark (p .c); z = mark (p .z); s = mark (p .s) }
+
+abbrev pub linesOf : List Printed → List Line
+linesOf [] = []
+linesOf (p ∷ ps) = lineOf p ∷ linesOf ps
+
+abbrev pub line : String → List PrintedCode → Operation → ℕ → ℕ → String → String → String → Printed
+line name codes o n t fc fz fs = record { mnemonic = name; codes = codes; operation = o; bytes = n; cycles = t; c = fc; z = fz; s = fs }
 
 -- a line of the sheet: mnemonic, object code, operation, bytes, cycles, C, Z, S
-abbrev pub row : String → String → Operation → ℕ → ℕ → String → String → String → Line
-row name code o n t fc fz fs = line name (oneCode code ∷ []) o n t fc fz fs
+abbrev pub row : String → String → Operation → ℕ → ℕ → String → String → String → Printed
+row name code o n t fc fz fs = line name (record { text = code; lead = absent } ∷ []) o n t fc fz fs
 
 -- a row that the sheet prints with two codes
-abbrev pub row² : String → Code → Code → Operation → ℕ → ℕ → String → String → String → Line
+infix 20 _with-a₁₂_
+abbrev pub _with-a₁₂_ : String → ℕ → PrintedCode
+_with-a₁₂_ t n = record { text = t; lead = value n }
+
+abbrev pub row² : String → PrintedCode → PrintedCode → Operation → ℕ → ℕ → String → String → String → Printed
 row² name code other o n t fc fz fs = line name (code ∷ other ∷ []) o n t fc fz fs
 
 -- (1) Data Transfer
-abbrev pub dataTransfer : List Line
+abbrev pub dataTransfer : List Printed
 dataTransfer =
     row "LDA x" "0110 1010 xxxx xxxx" (Acc ⟵ RAM[x]) 2 2 "-" "Z" "1" ∷
     row "LDAM" "0101 1010" (Acc ⟵ RAM[HL]) 1 1 "-" "Z" "1" ∷
@@ -78,14 +101,14 @@ dataTransfer =
     []
 
 -- (2) Rotate
-abbrev pub rotate : List Line
+abbrev pub rotate : List Printed
 rotate =
     row "RLCA" "0101 0000" ⟵CF⟵Acc⟵ 1 1 "C" "Z" "C'" ∷
     row "RRCA" "0101 0001" ⟶CF⟶Acc⟶ 1 1 "C" "Z" "C'" ∷
     []
 
 -- (3) Arithmetic operation
-abbrev pub arithmeticOperation : List Line
+abbrev pub arithmeticOperation : List Printed
 arithmeticOperation =
     row "ADCAM" "0111 0000" (Acc ⟵ Acc plus RAM[HL] plus-CF) 1 1 "C" "Z" "C'" ∷
     row "ADD #k,y" "0100 1001 kkkk yyyy" (RAM[y] ⟵ RAM[y] plus k) 2 2 "-" "Z" "C'" ∷
@@ -106,7 +129,7 @@ arithmeticOperation =
     []
 
 -- (4) Logical operation
-abbrev pub logicalOperation : List Line
+abbrev pub logicalOperation : List Printed
 logicalOperation =
     row "ANDA #k" "0110 1110 0110 kkkk" (Acc ⟵ Acc and k) 2 2 "-" "Z" "Z'" ∷
     row "ANDAM" "0111 1011" (Acc ⟵ Acc and RAM[HL]) 1 1 "-" "Z" "Z'" ∷
@@ -118,7 +141,7 @@ logicalOperation =
     []
 
 -- (5) Exchange
-abbrev pub exchange : List Line
+abbrev pub exchange : List Printed
 exchange =
     row "EXA x" "0110 1000 xxxx xxxx" (Acc ⟷ RAM[x]) 2 2 "-" "Z" "1" ∷
     row "EXAH" "0110 0110" (Acc ⟷ HR) 1 2 "-" "Z" "1" ∷
@@ -128,7 +151,7 @@ exchange =
     []
 
 -- (6) Branch
-abbrev pub branching : List Line
+abbrev pub branching : List Printed
 branching =
     row "SBR a" "00aa aaaa" (branch page) 1 1 "-" "-" "1" ∷
     row "LBR a" "1100 aaaa aaaa aaaa" (branch half) 2 2 "-" "-" "1" ∷
@@ -136,7 +159,7 @@ branching =
     []
 
 -- (7) Compare
-abbrev pub comparison : List Line
+abbrev pub comparison : List Printed
 comparison =
     row "CMP #k,y" "0100 1011 kkkk yyyy" (compare k minus RAM[y]) 2 2 "C" "Z" "Z'" ∷
     row "CPMA x" "0110 1011 xxxx xxxx" (compare RAM[x] minus Acc) 2 2 "C" "Z" "Z'" ∷
@@ -147,7 +170,7 @@ comparison =
     []
 
 -- (8) Bit manipulation
-abbrev pub bitManipulation : List Line
+abbrev pub bitManipulation : List Printed
 bitManipulation =
     row "CLM b" "1111 00bb" (RAM[HL] bit b ⟵0) 1 1 "-" "-" "1" ∷
     row "CLP p,b" "0110 1101 11bb pppp" (PORT[p] bit b ⟵0) 2 2 "-" "-" "1" ∷
@@ -167,7 +190,7 @@ bitManipulation =
     []
 
 -- (9) Subroutine
-abbrev pub subroutine : List Line
+abbrev pub subroutine : List Printed
 subroutine =
     row "LCALL a" "0100 0aaa aaaa aaaa" (call long) 2 2 "-" "-" "-" ∷
     row "SCALL a" "1110 nnnn" (call short) 1 2 "-" "-" "-" ∷
@@ -175,7 +198,7 @@ subroutine =
     []
 
 -- (10) Input/output
-abbrev pub inputOutput : List Line
+abbrev pub inputOutput : List Printed
 inputOutput =
     row "INA p" "0110 1111 0100 pppp" (Acc ⟵ PORT[p]) 2 2 "-" "Z" "Z'" ∷
     row "INM p" "0110 1111 1100 pppp" (RAM[HL] ⟵ PORT[p]) 2 2 "-" "-" "Z'" ∷
@@ -185,7 +208,7 @@ inputOutput =
     []
 
 -- (11) Flag manipulation
-abbrev pub flagManipulation : List Line
+abbrev pub flagManipulation : List Printed
 flagManipulation =
     row "TFCFC" "0101 0011" SF⟵CF' 1 1 "0" "-" "*" ∷
     row "TTCFS" "0101 0010" SF⟵CF 1 1 "1" "-" "*" ∷
@@ -193,7 +216,7 @@ flagManipulation =
     []
 
 -- (12) Interrupt control
-abbrev pub interruptControl : List Line
+abbrev pub interruptControl : List Printed
 interruptControl =
     row "CIL r" "0110 0011 11rr rrrr" (IL⟵IL-and-r EI⟵EI) 2 2 "-" "-" "1" ∷
     row "DICIL r" "0110 0011 10rr rrrr" (IL⟵IL-and-r EI⟵0) 2 2 "-" "-" "1" ∷
@@ -203,13 +226,13 @@ interruptControl =
     []
 
 -- (13) CPU control
-abbrev pub cpuControl : List Line
+abbrev pub cpuControl : List Printed
 cpuControl =
     row "NOP" "0101 0110" no-operation 1 1 "-" "-" "-" ∷
     []
 
 -- (14) Timer/Counter & Data pointer & Stack pointer control
-abbrev pub timerDataPointerStackPointer : List Line
+abbrev pub timerDataPointerStackPointer : List Printed
 timerDataPointerStackPointer =
     row "LDADPL" "0110 1010 1111 1100" (Acc ⟵ [DP]L) 2 2 "-" "Z" "1" ∷
     row "LDADPM" "0110 1010 1111 1101" (Acc ⟵ [DP]M) 2 2 "-" "Z" "1" ∷
@@ -234,12 +257,15 @@ timerDataPointerStackPointer =
     []
 
 -- the rows in the order of the sheet: their numbers are 1 to 107
+abbrev pub printed : List Printed
+printed = dataTransfer ++ (rotate ++ (arithmeticOperation ++ (logicalOperation ++ (exchange ++ (branching ++ (comparison ++ (bitManipulation ++ (subroutine ++ (inputOutput ++ (flagManipulation ++ (interruptControl ++ (cpuControl ++ (timerDataPointerStackPointer)))))))))))))
+
 unfoldable pub lines : List Line
-lines = dataTransfer ++ (rotate ++ (arithmeticOperation ++ (logicalOperation ++ (exchange ++ (branching ++ (comparison ++ (bitManipulation ++ (subroutine ++ (inputOutput ++ (flagManipulation ++ (interruptControl ++ (cpuControl ++ (timerDataPointerStackPointer)))))))))))))
+lines = linesOf printed
 
 -- what a number that is no row's has for its line
 abbrev pub no-line : Line
-no-line = line "" [] no-operation 0 0 "-" "-" "-"
+no-line = lineOf (line "" [] no-operation 0 0 "-" "-" "-")
 
 abbrev pub lineIn : List Line → ℕ → Line
 lineIn ls zero = no-line
