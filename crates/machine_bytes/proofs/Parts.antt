@@ -13,6 +13,7 @@ use Rattle.laws.proofs.Writing.{wrote-then, wrote-front}
 use Rattle.bits.specs.Bits.{bitOf}
 use Rattle.ports.specs.declared.Ports.{Ports}
 use Rattle.ports.specs.declared.Mode.{Mode}
+use Rattle.machine.specs.With.{interruptsOf}
 use Rattle.machine.specs.declared.Machine.{Machine}
 use Rattle.machine.specs.declared.Registers.{Registers}
 use Rattle.machine.specs.declared.Timers.{Timers}
@@ -40,7 +41,7 @@ head-parts h l =
     ∙ ap (λ (r : List ℕ). listed (λ k. getD h k 0) 0 5 ++ r) (rest ∙ ap (λ (r : List ℕ). take 11 (drop 5 h) ++ r) (sym last ∙ sym (listed-part h 16 21 (omega arith)))))
 
 -- the scalars whose bytes those are
-pub head-laid : (h : List ℕ) (r : Registers) (t : Timers) (p : Ports) (pc dp : ℕ) (ei : Bool) (mode : Mode) → length h ≡ 37 → RegistersAt h r → TimersAt h t → latchBytes p ≡ take 11 (drop 5 h) → two pc ≡ getD h 16 0 ∷ getD h 17 0 ∷ [] → two dp ≡ getD h 18 0 ∷ getD h 19 0 ∷ [] → bitOf ei ≡ getD h 27 0 → modeNumber mode ≡ getD h 36 0 → h ≡ headOf (record { regs = r; pc = pc; ptrs = record { sp = getD h 3 0; dp = dp }; ints = record { ei = ei; il = getD h 28 0; mask = getD h 4 0 }; timers = t; ports = p; pins = record { p0 = getD h 33 0; p8 = getD h 34 0; p4 = getD h 35 0 }; mode = mode })
+pub head-laid : (h : List ℕ) (r : Registers) (t : Timers) (p : Ports) (pc dp : ℕ) (ei : Bool) (mode : Mode) → length h ≡ 37 → RegistersAt h r → TimersAt h t → latchBytes p ≡ take 11 (drop 5 h) → two pc ≡ getD h 16 0 ∷ getD h 17 0 ∷ [] → two dp ≡ getD h 18 0 ∷ getD h 19 0 ∷ [] → bitOf ei ≡ getD h 27 0 → modeNumber mode ≡ getD h 36 0 → h ≡ headOf (record { regs = r; pc = pc; ptrs = record { sp = getD h 3 0; dp = dp }; ints = interruptsOf ei (getD h 28 0) (getD h 4 0); timers = t; ports = p; pins = record { p0 = getD h 33 0; p8 = getD h 34 0; p4 = getD h 35 0 }; mode = mode })
 unfolding nibblesOf othersOf
 head-laid h r t p pc dp ei mode l er et ep epc edp eei em =
     rw (er .acc, er .hr, er .lr, er .cf, er .zf, er .sf, et .ta, et .tb, et .base, ep, epc, edp, eei, em) (head-parts h l)

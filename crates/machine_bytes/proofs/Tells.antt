@@ -9,6 +9,7 @@ use lib.ListN.{getD, take, drop}
 use Rattle.laws.specs.Choice.{pick}
 use Rattle.bits.specs.Bits.{bitOf}
 use Rattle.ports.specs.declared.Mode.{Mode}
+use Rattle.machine.specs.With.{interruptsOf}
 use Rattle.machine.specs.declared.Machine.{Machine}
 use Rattle.machine_bytes.specs.Layout.{two, four, modeNumber, latchBytes, nibblesOf, othersOf, recordBytes, Holds}
 use Rattle.machine_bytes.specs.Unpacked.{FlagsFit}
@@ -29,7 +30,7 @@ machineFrom l = record {
     regs = record { acc = getD l 0 0; hr = getD l 1 0; lr = getD l 2 0; cf = flagAt l 24; zf = flagAt l 25; sf = flagAt l 26 };
     pc = twoAt l 16;
     ptrs = record { sp = getD l 3 0; dp = twoAt l 18 };
-    ints = record { ei = flagAt l 27; il = getD l 28 0; mask = getD l 4 0 };
+    ints = interruptsOf (flagAt l 27) (getD l 28 0) (getD l 4 0);
     timers = record { base = twoAt l 29 + 65536 * twoAt l 31; ta = twoAt l 20; tb = twoAt l 22 };
     ports =
         record {

@@ -4,12 +4,12 @@ use bytes::copy;
 use frame::Pins;
 use laws::both;
 use machine::Core;
-use machine::Interrupts;
 use machine::Machine;
 use machine::Pointers;
 use machine::Ram;
 use machine::Registers;
 use machine::Timers;
+use machine::interrupts_of;
 use machine_start::fresh;
 use numbers::RAM_NIBBLES;
 use ports::Mode;
@@ -222,11 +222,7 @@ fn core_of(head: &[u8; 37]) -> Core
         sp: head[3],
         dp: from_two(head[18], head[19]),
     };
-    let ints = Interrupts {
-        ei: flag(head[27]),
-        il: head[28],
-        mask: head[4],
-    };
+    let ints = interrupts_of(flag(head[27]), head[28], head[4]);
     let pins = Pins {
         p0: head[33],
         p8: head[34],

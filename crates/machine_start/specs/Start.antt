@@ -6,6 +6,7 @@ use Rattle.numbers.specs.Sizes.{ramNibbles}
 use Rattle.frame.specs.declared.Pins.{Pins}
 use Rattle.numbers.specs.ComesBack.{record-outside-the-ranges}
 use Rattle.machine.specs.Valid.{Valid}
+use Rattle.machine.specs.With.{interruptsOf}
 use Rattle.machine.specs.declared.Registers.{Registers}
 use Rattle.machine.specs.declared.Pointers.{Pointers}
 use Rattle.ports.specs.declared.Ports.{Ports}
@@ -28,7 +29,7 @@ freshCore regs ptrs = record {
   regs = regs;
   pc = 0;
   ptrs = ptrs;
-  ints = record { ei = false; il = 0; mask = 0 };
+  ints = interruptsOf false 0 0;
   timers = record { base = 0; ta = 0; tb = 0 };
   ports = freshPorts;
   pins = frameFF1;

@@ -1,11 +1,11 @@
 // The fresh record, and reset.
 use frame::Pins;
 use machine::Core;
-use machine::Interrupts;
 use machine::Machine;
 use machine::Pointers;
 use machine::Registers;
 use machine::Timers;
+use machine::interrupts_of;
 use machine_valid::is_valid;
 use numbers::RAM_NIBBLES;
 use numbers::RECORD_OUTSIDE_THE_RANGES;
@@ -27,11 +27,7 @@ fn fresh_core(regs: Registers, ptrs: Pointers) -> Core
         regs: regs,
         pc: 0,
         ptrs: ptrs,
-        ints: Interrupts {
-            ei: false,
-            il: 0,
-            mask: 0,
-        },
+        ints: interrupts_of(false, 0, 0),
         timers: Timers {
             base: 0,
             ta: 0,

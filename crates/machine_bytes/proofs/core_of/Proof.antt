@@ -22,29 +22,32 @@ element-copy-out-flag-2 c = search needs
 flag-requires : tie.Need-flag-requires
 flag-requires c κs = search needs
 
+element-copy-out-interrupts-of : tie.Need-element-copy-out-interrupts-of
+element-copy-out-interrupts-of c = search needs
+
+element-copy-out-interrupts-of-2 : tie.Need-element-copy-out-interrupts-of-2
+element-copy-out-interrupts-of-2 c = search needs
+
+interrupts-of-requires : tie.Need-interrupts-of-requires
+interrupts-of-requires c κs = search needs
+
+element-copy-out-mode-of : tie.Need-element-copy-out-mode-of
+element-copy-out-mode-of c = search needs
+
 element-copy-out-from-two-3 : tie.Need-element-copy-out-from-two-3
 element-copy-out-from-two-3 c = search needs
 
 element-copy-out-from-two-4 : tie.Need-element-copy-out-from-two-4
 element-copy-out-from-two-4 c = search needs
 
-element-copy-out-mode-of : tie.Need-element-copy-out-mode-of
-element-copy-out-mode-of c = search needs
+registers-of-requires : tie.Need-registers-of-requires
+registers-of-requires c κs = search needs
 
 element-copy-out-from-two-5 : tie.Need-element-copy-out-from-two-5
 element-copy-out-from-two-5 c = search needs
 
 element-copy-out-from-two-6 : tie.Need-element-copy-out-from-two-6
 element-copy-out-from-two-6 c = search needs
-
-registers-of-requires : tie.Need-registers-of-requires
-registers-of-requires c κs = search needs
-
-element-copy-out-from-two-7 : tie.Need-element-copy-out-from-two-7
-element-copy-out-from-two-7 c = search needs
-
-element-copy-out-from-two-8 : tie.Need-element-copy-out-from-two-8
-element-copy-out-from-two-8 c = search needs
 
 from-two-requires-2 : tie.Need-from-two-requires-2
 from-two-requires-2 c κs = search needs
@@ -59,18 +62,20 @@ element-copy-out-mode-of-2 : tie.Need-element-copy-out-mode-of-2
 element-copy-out-mode-of-2 c = search needs
 
 mode-of-requires : tie.Need-mode-of-requires
-mode-of-requires c κs = c .before .before .before .before .before .before .before .before .before .before .before .before .before .before .before .before .before .before .pre .1 .mode
+mode-of-requires c κs = c .before .before .before .before .before .before .before .before .before .before .before .before .before .before .before .before .before .before .before .pre .1 .mode
 
 returns : tie.Need-returns
 returns c =
-    let pre = c .before .before .before .before .before .before .before .before .before .before .before .before .before .before .before .before .before .before .before .pre in
-    let from-two = c .before .before .before .before .before .before .before .before .before .before .before .before .before .before .before .from-two in
-    let flag = c .before .before .before .before .before .before .before .before .before .before .before .before .before .flag in
+    let pre = c .before .before .before .before .before .before .before .before .before .before .before .before .before .before .before .before .before .before .before .before .pre in
+    let from-two = c .before .before .before .before .before .before .before .before .before .before .before .before .before .before .before .before .from-two in
+    let flag = c .before .before .before .before .before .before .before .before .before .before .before .before .before .before .flag in
+    let interrupts-of = c .before .before .before .before .before .before .before .before .before .before .before .interrupts-of in
     let registers-of = c .before .before .before .before .before .before .before .registers-of in
     let from-two2 = c .before .before .before .before .from-two2 in
     let timers-of = c .before .before .before .timers-of in
     let ports-of = c .before .before .ports-of in
-    head-laid _ _ _ _ _ _ _ _ (pre .0) (registers-of .ensures) (timers-of .ensures) (ports-of .ensures) (from-two2 .ensures) (from-two .ensures) (flag .ensures) (c .mode-of .ensures)
+    rw (interrupts-of .ensures)
+    (head-laid _ _ _ _ _ _ _ _ (pre .0) (registers-of .ensures) (timers-of .ensures) (ports-of .ensures) (from-two2 .ensures) (from-two .ensures) (flag .ensures) (c .mode-of .ensures))
 
 pub core-of-spec : {M : Type 1} → statement M
 core-of-spec =
@@ -82,14 +87,15 @@ core-of-spec =
     from-two-requires
     element-copy-out-flag-2
     flag-requires
+    element-copy-out-interrupts-of
+    element-copy-out-interrupts-of-2
+    interrupts-of-requires
+    element-copy-out-mode-of
     element-copy-out-from-two-3
     element-copy-out-from-two-4
-    element-copy-out-mode-of
+    registers-of-requires
     element-copy-out-from-two-5
     element-copy-out-from-two-6
-    registers-of-requires
-    element-copy-out-from-two-7
-    element-copy-out-from-two-8
     from-two-requires-2
     timers-of-requires
     ports-of-requires
