@@ -53,10 +53,6 @@ in-range cs e =
       p4 = below-limit em73862Digits cs 2 e (lit< tt);
     }
 
--- three characters are a frame by what their pins are
-pub frame-judged : (s : List ℕ) (k : ℕ) {p : Pins} → k + 3 ≤ length s → p ≡ pinsOf (charsAt s k) → isFrame em73862Digits (charsAt s k) ≡ both (ltb (p .p0) 16) (both (ltb (p .p8) 16) (both (ltb (p .p4) 2) true))
-frame-judged s k h e = rw (e, chars-at)
-
 -- a frame is seen where the characters are one
 pub seen : (cs : List ℕ) → isFrame em73862Digits cs ≡ true → frameOf cs ≡ Seen (pinsOf cs)
 unfolding frameOf

@@ -9,7 +9,7 @@ is-frame-at-requires : tie.Need-is-frame-at-requires
 is-frame-at-requires c κs = search needs
 
 pins-at-requires : tie.Need-pins-at-requires
-pins-at-requires c κs = search needs
+pins-at-requires c κs = (c .before .before .before .pre, sym (c .before .is-frame-at .ensures) ∙ c .if1 .taken)
 
 returns : tie.Need-returns
 returns c = rw (seen _ (sym (c .before .before .is-frame-at .ensures) ∙ c .before .if1 .taken), c .pins-at .ensures)

@@ -1,11 +1,32 @@
--- `frame::is_frame_at` meets its contract: of three characters the pins alone decide.
+-- `frame::is_frame_at` meets its contract.
 use borrow.Author.Needs.{needs}
-use Rattle.frame.proofs.Characters.{frame-judged}
+use Rattle.frame.proofs.Digits.{by-bytes}
 use Rattle.frame.proofs.is_frame_at.Statement.{statement}
 use Rattle.frame.proofs.is_frame_at.Tie as tie
 
-pins-at-requires : tie.Need-pins-at-requires
-pins-at-requires c κs = search needs
+shared-slice-read-is-digit : tie.Need-shared-slice-read-is-digit
+shared-slice-read-is-digit c = search needs
+
+is-digit-requires : tie.Need-is-digit-requires
+is-digit-requires c κs = search needs
+
+add-is-digit : tie.Need-add-is-digit
+add-is-digit c = search needs
+
+shared-slice-read-is-digit-2 : tie.Need-shared-slice-read-is-digit-2
+shared-slice-read-is-digit-2 c = search needs
+
+is-digit-requires-2 : tie.Need-is-digit-requires-2
+is-digit-requires-2 c κs = search needs
+
+add-is-bit : tie.Need-add-is-bit
+add-is-bit c = search needs
+
+shared-slice-read-is-bit : tie.Need-shared-slice-read-is-bit
+shared-slice-read-is-bit c = search needs
+
+is-bit-requires : tie.Need-is-bit-requires
+is-bit-requires c κs = search needs
 
 both-requires : tie.Need-both-requires
 both-requires c κs = search needs
@@ -17,9 +38,21 @@ both-requires-3 : tie.Need-both-requires-3
 both-requires-3 c κs = search needs
 
 returns : tie.Need-returns
-returns c =
-    rw (frame-judged _ _ (c .before .before .before .before .before .before .before .before .pre) (c .before .before .before .before .before .before .pins-at .ensures), ← c .before .before .both .ensures, ← c .before .both2 .ensures) (c .both3 .ensures)
+returns c = rw (c .both3 .ensures, c .before .both2 .ensures, c .before .before .both .ensures, c .before .before .before .is-bit .ensures, c .before .before .before .before .before .is-digit2 .ensures, c .before .before .before .before .before .before .before .is-digit .ensures) (by-bytes _ _ (c .before .before .before .before .before .before .before .before .before .before .pre))
 
 pub is-frame-at-spec : {M : Type 1} → statement M
 is-frame-at-spec =
-    tie.close (tie.spec pins-at-requires both-requires both-requires-2 both-requires-3 returns)
+    tie.close
+    (tie.spec
+    shared-slice-read-is-digit
+    is-digit-requires
+    add-is-digit
+    shared-slice-read-is-digit-2
+    is-digit-requires-2
+    add-is-bit
+    shared-slice-read-is-bit
+    is-bit-requires
+    both-requires
+    both-requires-2
+    both-requires-3
+    returns)

@@ -1,46 +1,47 @@
 -- `frame::pins_at` meets its contract.
 use borrow.Author.Needs.{needs}
 use Rattle.frame.proofs.Characters.{chars-at}
+use Rattle.frame.proofs.Digits.{first-digit, second-digit, third-digit}
 use Rattle.frame.proofs.pins_at.Statement.{statement}
 use Rattle.frame.proofs.pins_at.Tie as tie
 
-shared-slice-read-digit : tie.Need-shared-slice-read-digit
-shared-slice-read-digit c = search needs
+shared-slice-read-digit-value : tie.Need-shared-slice-read-digit-value
+shared-slice-read-digit-value c = search needs
 
-digit-requires : tie.Need-digit-requires
-digit-requires c κs = search needs
+digit-value-requires : tie.Need-digit-value-requires
+digit-value-requires c κs = first-digit _ _ (c .before .before .pre .0) (c .before .before .pre .1)
 
-add-digit : tie.Need-add-digit
-add-digit c = search needs
+add-digit-value : tie.Need-add-digit-value
+add-digit-value c = search needs
 
-shared-slice-read-digit-2 : tie.Need-shared-slice-read-digit-2
-shared-slice-read-digit-2 c = search needs
+shared-slice-read-digit-value-2 : tie.Need-shared-slice-read-digit-value-2
+shared-slice-read-digit-value-2 c = search needs
 
-digit-requires-2 : tie.Need-digit-requires-2
-digit-requires-2 c κs = search needs
+digit-value-requires-2 : tie.Need-digit-value-requires-2
+digit-value-requires-2 c κs = second-digit _ _ (c .before .before .before .before .pre .0) (c .before .before .before .before .pre .1)
 
-add-digit-2 : tie.Need-add-digit-2
-add-digit-2 c = search needs
+add-bit-value : tie.Need-add-bit-value
+add-bit-value c = search needs
 
-shared-slice-read-digit-3 : tie.Need-shared-slice-read-digit-3
-shared-slice-read-digit-3 c = search needs
+shared-slice-read-bit-value : tie.Need-shared-slice-read-bit-value
+shared-slice-read-bit-value c = search needs
 
-digit-requires-3 : tie.Need-digit-requires-3
-digit-requires-3 c κs = search needs
+bit-value-requires : tie.Need-bit-value-requires
+bit-value-requires c κs = third-digit _ _ (c .before .before .before .before .before .before .pre .0) (c .before .before .before .before .before .before .pre .1)
 
 returns : tie.Need-returns
-returns c = rw (chars-at _ _ (c .before .before .before .before .before .before .before .pre)) cc
+returns c = rw (c .bit-value .ensures, c .before .before .digit-value2 .ensures, c .before .before .before .before .digit-value .ensures, chars-at _ _ (c .before .before .before .before .before .before .before .pre .0))
 
 pub pins-at-spec : {M : Type 1} → statement M
 pins-at-spec =
     tie.close
     (tie.spec
-    shared-slice-read-digit
-    digit-requires
-    add-digit
-    shared-slice-read-digit-2
-    digit-requires-2
-    add-digit-2
-    shared-slice-read-digit-3
-    digit-requires-3
+    shared-slice-read-digit-value
+    digit-value-requires
+    add-digit-value
+    shared-slice-read-digit-value-2
+    digit-value-requires-2
+    add-bit-value
+    shared-slice-read-bit-value
+    bit-value-requires
     returns)
