@@ -18,6 +18,9 @@ const SOURCES: [(u8, u16); 5] = [(IL5, 0x002), (IL3, 0x006), (IL2, 0x008), (IL1,
 
 const ACCEPTANCE_CYCLES: u32 = 2;
 
+/// P16 bit 3.
+const LEVEL_RELEASE: u8 = 0b1000;
+
 /// The most frames that a run takes.
 pub const MOST_FRAMES: usize = 65_536;
 
@@ -251,10 +254,12 @@ fn count_tb(m: &mut Machine) {
 }
 
 /// "In sleep or hold a step only looks for a falling edge on an enabled wake pin. None: 0 cycles.
-/// One: running again." Gives the cycles.
+/// One: running again." With P16 bit 3 set it "wakes when an enabled wake pin reads 0 in the
+/// frame, edge or none". Gives the cycles.
 fn look_for_wake(m: &mut Machine, around: &Surroundings) -> u32 {
-    let falling = m.last_frame.wake_pins() & !around.frame.wake_pins();
-    if falling & around.options.wake == 0 {
+    let low = !around.frame.wake_pins();
+    let waking = if m.ports.p16 & LEVEL_RELEASE != 0 { low } else { m.last_frame.wake_pins() & low };
+    if waking & around.options.wake == 0 {
         return 0;
     }
     m.mode = Mode::Running;

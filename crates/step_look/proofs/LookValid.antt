@@ -15,7 +15,7 @@ use Rattle.machine.specs.declared.Core.{Core}
 use Rattle.laws.proofs.Choices.{picked}
 use Rattle.machine.proofs.WithValid.{with-ints, with-timers, with-pins, with-ports-and-mode}
 use Rattle.step_look.specs.declared.Looked.{Looked}
-use Rattle.step_look.specs.Look.{withTime, showing, edgesTimed, edgesCounted, seen, isRunning, waited, looked}
+use Rattle.step_look.specs.Look.{withTime, showing, edgesTimed, edgesCounted, seen, isRunning, releasesByLevel, waited, looked}
 use Rattle.step_look.proofs.Ranges.{is-clear, edges-in-range}
 
 -- a valid record with another mode that fits and another frame, and with other times in range
@@ -39,7 +39,7 @@ seen-valid m new v p =
 waited-valid : (enabled : ℕ) (m : Core) (new : Pins) → ValidCore m → PinsInRange new → ValidCore (waited enabled m new .core)
 unfolding waited
 waited-valid enabled m new v p =
-    picked (λ (l : Looked). ValidCore (l .core)) (wakes enabled (m .pins) new) _ _ (showing-valid m Mode.Running new v tt p) (showing-valid m (m .mode) new v (v .mode) p)
+    picked (λ (l : Looked). ValidCore (l .core)) (wakes (releasesByLevel (m .ports .p16)) enabled (m .pins) new) _ _ (showing-valid m Mode.Running new v tt p) (showing-valid m (m .mode) new v (v .mode) p)
 
 pub looked-valid : (enabled : ℕ) (m : Core) (new : Pins) → ValidCore m → PinsInRange new → ValidCore (looked enabled m new .core)
 unfolding looked

@@ -1,9 +1,10 @@
--- Document 01, "One step": what a step sees of its frame. Running, the edges set latches and count events; in sleep or hold it only looks for the edge that wakes. "The last frame is always updated."
+-- Document 01, "One step": what a step sees of its frame. Running, the edges set latches and count events; in sleep or hold it only looks for the pin that wakes. "The last frame is always updated."
 use Prim.Native.Nat.{ℕ, _%_}
 use mathlib.Core.Bool.{Bool, true, false}
 use mathlib.Core.List.{[], _∷_}
 use lib.ListN.{getD}
 use Rattle.laws.specs.Choice.{pick}
+use Rattle.bits.specs.Bits.{hasBit}
 use Rattle.edges.specs.Edges.{fell, rose, wakes}
 use Rattle.frame.specs.declared.Pins.{Pins}
 use Rattle.clock.specs.Clock.{latched, eventCount}
@@ -46,10 +47,14 @@ wakingCycles Mode.Running p16 = 0
 wakingCycles Mode.Sleep p16 = getD (32768 ∷ 2048 ∷ 8192 ∷ []) (p16 % 4) 0
 wakingCycles Mode.Hold p16 = 0
 
--- "In sleep or hold a step only looks for a falling edge on an enabled wake pin. None: 0 cycles. One: running again". "P16 bit 3 is kept and has no effect."
+-- "The sheet's P16 table says bit 3 chooses level release" (Q-2)
+abbrev pub releasesByLevel : ℕ → Bool
+releasesByLevel p16 = hasBit p16 8
+
+-- "In sleep or hold a step only looks for" what wakes. "None: 0 cycles. One: running again"
 unfoldable pub waited : ℕ → Core → Pins → Looked
 waited enabled m new =
-    pick (wakes enabled (m .pins) new)
+    pick (wakes (releasesByLevel (m .ports .p16)) enabled (m .pins) new)
     (record { core = showing m Mode.Running new; cycles = wakingCycles (m .mode) (m .ports .p16) })
     (record { core = showing m (m .mode) new; cycles = 0 })
 

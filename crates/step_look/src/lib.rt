@@ -118,12 +118,13 @@ fn awake(m: Core, new: Pins) -> Core
     }
 }
 
-// "In sleep or hold a step only looks for a falling edge on an enabled wake pin."
+// "In sleep or hold a step only looks for" the pin that wakes: by its level with P16 bit 3 set, else by its falling edge.
 pub fn waited(enabled: u8, m: Core, new: Pins) -> Looked
     ensures { λ r. ⌜ r ≡ waited enabled m new ⌝ }
 {
     let mode = m.mode;
-    if wakes(enabled, m.pins, new) {
+    let by_level = bits::has_bit(m.ports.p16, 8);
+    if wakes(by_level, enabled, m.pins, new) {
         return Looked {
             core: awake(m, new),
             cycles: waking_cycles(mode, m.ports.p16),

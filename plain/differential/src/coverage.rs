@@ -51,6 +51,11 @@ enum Event {
     WakesBy1,
     WakesBy2,
     WakesFromHold,
+    WakesByLevel0,
+    WakesByLevel1,
+    WakesByLevel2,
+    WakesByLevelFromHold,
+    WakesByHeldKey,
     SetsIl5,
     SetsIl3,
     SetsIl2,
@@ -62,7 +67,7 @@ enum Event {
     PcWraps,
 }
 
-const EVENTS: [(Event, &str); 21] = [
+const EVENTS: [(Event, &str); 26] = [
     (Event::AcceptsInt0, "accepts INT0"),
     (Event::AcceptsTrga, "accepts TRGA"),
     (Event::AcceptsTrgb, "accepts TRGB"),
@@ -75,6 +80,11 @@ const EVENTS: [(Event, &str); 21] = [
     (Event::WakesBy1, "wakes from sleep 1"),
     (Event::WakesBy2, "wakes from sleep 2"),
     (Event::WakesFromHold, "wakes from hold"),
+    (Event::WakesByLevel0, "wakes by level from sleep 0"),
+    (Event::WakesByLevel1, "wakes by level from sleep 1"),
+    (Event::WakesByLevel2, "wakes by level from sleep 2"),
+    (Event::WakesByLevelFromHold, "wakes by level from hold"),
+    (Event::WakesByHeldKey, "wakes by a held key at once"),
     (Event::SetsIl5, "sets IL5"),
     (Event::SetsIl3, "sets IL3"),
     (Event::SetsIl2, "sets IL2"),
@@ -97,11 +107,19 @@ pub struct Coverage {
     rows: [u64; 108],
     events: [u64; EVENTS.len()],
     longest_runs: u64,
+    /// The record after a step that entered sleep or hold, to see whether the next step wakes it.
+    just_entered: Vec<u8>,
 }
 
 impl Default for Coverage {
     fn default() -> Coverage {
-        Coverage { answers: [[0; NUMBERS]; 9], rows: [0; 108], events: [0; EVENTS.len()], longest_runs: 0 }
+        Coverage {
+            answers: [[0; NUMBERS]; 9],
+            rows: [0; 108],
+            events: [0; EVENTS.len()],
+            longest_runs: 0,
+            just_entered: Vec::new(),
+        }
     }
 }
 
@@ -111,10 +129,15 @@ impl Coverage {
         if call.kind() == Kind::Run && answer.values[0] as usize == MOST_FRAMES {
             self.longest_runs += 1;
         }
-        if let Call::Step { image, record, .. } = call {
+        if let Call::Step { image, wake, record, .. } = call {
             if answer.number == 0 {
                 if let (Some(before), Some(after)) = (machine_of(record), machine_of(&answer.buffer)) {
                     self.count_step(image, &before, &after);
+                    let by_level = wakes_by_level(*wake, &before, &after);
+                    self.count_levels(by_level, record, &before);
+                    if before.mode == Mode::Running && after.mode != Mode::Running {
+                        self.just_entered.clone_from(&answer.buffer);
+                    }
                 }
             }
         }
@@ -172,6 +195,12 @@ impl Coverage {
         }
     }
 
+    fn count_levels(&mut self, by_level: bool, record: &[u8], before: &Machine) {
+        let wakes = [Event::WakesByLevel0, Event::WakesByLevel1, Event::WakesByLevel2, Event::WakesByLevelFromHold];
+        self.happens(wakes[before.ports.p16 as usize & 3], by_level);
+        self.happens(Event::WakesByHeldKey, by_level && record == self.just_entered);
+    }
+
     /// The numbers that came of each call, then the rows and events that came least.
     pub fn report(&self) -> Vec<String> {
         let mut lines = Vec::new();
@@ -222,6 +251,12 @@ impl Coverage {
         }
         found
     }
+}
+
+/// It wakes, and no enabled pin fell.
+fn wakes_by_level(wake: u8, before: &Machine, after: &Machine) -> bool {
+    let falling = before.last_frame.wake_pins() & !after.last_frame.wake_pins();
+    before.mode != Mode::Running && after.mode == Mode::Running && falling & wake == 0
 }
 
 fn stores_ta(row: Row) -> bool {

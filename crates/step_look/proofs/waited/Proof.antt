@@ -4,6 +4,9 @@ use Rattle.step_look.specs.Look.{waited}
 use Rattle.step_look.proofs.waited.Statement.{statement}
 use Rattle.step_look.proofs.waited.Tie as tie
 
+has-bit-requires : tie.Need-has-bit-requires
+has-bit-requires c κs = search needs
+
 wakes-requires : tie.Need-wakes-requires
 wakes-requires c κs = search needs
 
@@ -17,12 +20,12 @@ returns : tie.Need-returns
 unfolding waited
 returns c =
     let t = c .before .before in
-    rw (← t .before .wakes .ensures, t .if1 .taken, c .before .awake .ensures, c .waking-cycles .ensures)
+    rw (← t .before .before .has-bit .ensures, ← t .before .wakes .ensures, t .if1 .taken, c .before .awake .ensures, c .waking-cycles .ensures)
 
 returns-2 : tie.Need-returns-2
 unfolding waited
-returns-2 c = rw (← c .before .wakes .ensures, c .if1 .left)
+returns-2 c = rw (← c .before .before .has-bit .ensures, ← c .before .wakes .ensures, c .if1 .left)
 
 pub waited-spec : {M : Type 1} → statement M
 waited-spec =
-    tie.close (tie.spec wakes-requires awake-requires waking-cycles-requires returns returns-2)
+    tie.close (tie.spec has-bit-requires wakes-requires awake-requires waking-cycles-requires returns returns-2)
