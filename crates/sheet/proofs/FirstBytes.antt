@@ -1,18 +1,18 @@
--- The agreement of a table of first bytes with the rows: one test over the whole table, carried to each first byte.
+-- The agreement of `sheet::timing` with the rows: one test over all first bytes, carried to each of them.
 use mathlib.Core.Path.{_≡_, refl, ap, _∙_}
 use mathlib.Core.Bool.{Bool, true, false}
 use mathlib.Core.List.{List, [], _∷_}
 use mathlib.Core.Logic.{inl, inr}
 use Prim.Native.Nat.{ℕ, _+_, _/_, _%_, _<_}
 use native.Mathlib.Numerals.{one-add}
-use lib.Dec.{T, eqb, eqb→eq}
-use lib.ListN.{getD}
+use lib.Dec.{T, eqb, eqb→eq, ltb}
 use Rattle.laws.specs.Choice.{both, pick}
-use Rattle.laws.proofs.Computed.{implies, modus, below, listed, at, both-left, both-right, both-i}
+use Rattle.laws.proofs.Computed.{implies, modus, below, at, both-left, both-right, both-i}
 use Rattle.sheet.specs.Code.{Group, hasDigit, fits}
 use Rattle.sheet.specs.Table.{Code, Line, lines, lineAt}
 use Rattle.sheet.specs.Reading.{rowNumber}
 use Rattle.sheet.specs.Timing.{Timed, TimedFrom}
+use Rattle.sheet.specs.declared.Cost.{Cost}
 use Rattle.sheet.proofs.Winning.{At, here, there, line-at, Fitting, winner-is}
 
 -- the groups begin with the digits h and l
@@ -68,33 +68,42 @@ timed h l n t ds a =
     winner-is (λ (m : ℕ). (m ≡ 0 → ⊥) → Timed m n t) (h ∷ l ∷ ds) lines 1 (λ ne. absurd (ne refl))
     (λ j r p f ne. timed-line n t j p (agree-at h l n t p a (begin-of (r .codes) h l ds f)))
 
--- a column of the first row that begins with the digits h and l; 0 where none does
-abbrev pub column : (Line → ℕ) → List Line → ℕ → ℕ → ℕ
-column f [] h l = 0
-column f (r ∷ rs) h l = pick (begin (r .codes) h l) (f r) (column f rs h l)
+-- the bytes and cycles from a first byte b by the branches of `sheet::timing`
+abbrev costs : ℕ → ℕ → Cost
+costs n t = record { bytes = n; cycles = t }
 
--- the tables that the rows make, a digit's character for each first byte
-abbrev tableOf : (Line → ℕ) → List ℕ
-tableOf f = listed (λ b. 48 + column f lines (b / 16) (b % 16)) 0 256
+abbrev pub from4 : ℕ → Cost
+from4 b = pick (eqb b 0x4D) (costs 1 2) (pick (eqb b 0x4F) (costs 1 2) (costs 2 2))
 
-unfoldable pub bytesTable : List ℕ
-unfolding lines
-bytesTable = tableOf (λ l. l .bytes)
+abbrev pub from5 : ℕ → Cost
+from5 b = pick (eqb b 0x54) (costs 0 0) (pick (eqb b 0x55) (costs 3 3) (pick (eqb b 0x57) (costs 3 3) (costs 1 1)))
 
-unfoldable pub cyclesTable : List ℕ
-unfolding lines
-cyclesTable = tableOf (λ l. l .cycles)
+abbrev pub from6 : ℕ → Cost
+from6 b = pick (eqb b 0x63) (costs 2 2) (pick (ltb b 0x68) (costs 1 2) (costs 2 2))
 
-abbrev digitAt : List ℕ → ℕ → ℕ
-digitAt xs b = getD xs b 0 % 16
+abbrev pub from7 : ℕ → Cost
+from7 b = pick (eqb b 0x77) (costs 0 0) (pick (eqb b 0x7A) (costs 0 0) (costs 1 1))
+
+abbrev fromRest : ℕ → Cost
+fromRest h = pick (eqb h 12) (costs 2 2) (pick (eqb h 14) (costs 1 2) (costs 1 1))
+
+abbrev pub from : ℕ → Cost
+from b =
+    pick (eqb (b / 16) 4) (from4 b)
+    (pick (eqb (b / 16) 5) (from5 b)
+    (pick (eqb (b / 16) 6) (from6 b)
+    (pick (eqb (b / 16) 7) (from7 b) (fromRest (b / 16)))))
 
 abbrev agreeing : ℕ → Bool
-agreeing b = agree lines (b / 16) (b % 16) (digitAt bytesTable b) (digitAt cyclesTable b)
+agreeing b = agree lines (b / 16) (b % 16) (from b .bytes) (from b .cycles)
 
--- the one test over the whole table
+-- the one test over all first bytes
 all-agree : T (below 256 agreeing)
-unfolding lines bytesTable cyclesTable
+unfolding lines
 all-agree = tt
 
-pub first-byte : (b : ℕ) → b < 256 → TimedFrom b (getD bytesTable b 0 % 16) (getD cyclesTable b 0 % 16)
-first-byte b h ds = timed (b / 16) (b % 16) (digitAt bytesTable b) (digitAt cyclesTable b) ds (at agreeing 256 all-agree b h)
+pub first-byte : (b : ℕ) → b < 256 → TimedFrom b (from b .bytes) (from b .cycles)
+first-byte b h ds = timed (b / 16) (b % 16) (from b .bytes) (from b .cycles) ds (at agreeing 256 all-agree b h)
+
+pub by-first : (b : ℕ) → b < 256 → (r : Cost) → r ≡ from b → TimedFrom b (r .bytes) (r .cycles)
+by-first b h r e = rw e (first-byte b h)

@@ -8,7 +8,7 @@ use Prim.Native.Nat.{ℕ, zero, suc, _+_, _*_, _/_, _%_, _<_}
 use native.Mathlib.Omega.{arith}
 use native.Mathlib.Numerals.{one-add}
 use lib.Dec.{T, T-not, eqb, eqb→eq, ltb}
-use lib.ListN.{getD, take, length}
+use lib.ListN.{take, length}
 use lib.Seq.{take-nil}
 use Rattle.laws.specs.Choice.{pick, both}
 use Rattle.laws.proofs.Computed.{implies, modus, below, at, both-left, both-right}
@@ -18,7 +18,7 @@ use Rattle.sheet.specs.Reading.{bitsFixedIfFits, over, Winner, winner, c
 use Rattle.sheet.specs.declared.Insn.{Insn}
 use Rattle.sheet.specs.declared.Read.the-variants.{Row, Unassigned}
 use Rattle.sheet.proofs.Winning.{At, here, there, line-at, Fitting, winner-is}
-use Rattle.sheet.proofs.FirstBytes.{begins, begins-of, bytesTable, first-byte}
+use Rattle.sheet.proofs.FirstBytes.{begins, begins-of, from, first-byte}
 use Rattle.sheet.proofs.ReadAs.{row-of, has-row}
 
 -- groups look at as many digits as they are
@@ -155,11 +155,11 @@ module _ (h l m : ℕ) (xs ys : List ℕ) (same : take m (h ∷ l ∷ xs) ≡ ta
   same-read t = same-row t (rowNumber ds) (fair t .fitting) (fair t .width) ∙ ap (λ (n : ℕ). rowWith n es) (same-number t)
 
 abbrev allWide : ℕ → Bool
-allWide b = wide lines (b / 16) (b % 16) (2 * (getD bytesTable b 0 % 16))
+allWide b = wide lines (b / 16) (b % 16) (2 * (from b .bytes))
 
 -- one test over all first bytes
 all-wide : T (below 256 allWide)
-unfolding lines bytesTable
+unfolding lines
 all-wide = tt
 
 double : (n : ℕ) → 2 * suc n ≡ suc (suc (2 * n))
@@ -173,7 +173,7 @@ digits-take (suc n) (b ∷ bs) = rw (double n) (ap (λ (ds : List ℕ). b / 16 �
 -- two codes with the same first byte that agree in as many bytes as the row has are read alike
 pub past-length : (b : ℕ) (bs cs : List ℕ) (i : Insn) → b < 256 → readBytes (b ∷ bs) ≡ Row i → take (bytesOf (i .row)) (b ∷ bs) ≡ take (bytesOf (i .row)) (b ∷ cs) → readBytes (b ∷ cs) ≡ Row i
 past-length b bs cs i below256 e same =
-    let n : bytesOf (i .row) ≡ getD bytesTable b 0 % 16 = ap bytesOf (row-of (digits (b ∷ bs)) i e) ∙ first-byte b below256 (digits bs) (has-row (digits (b ∷ bs)) i e) .bytes in
-    let agree : take (2 * (getD bytesTable b 0 % 16)) (digits (b ∷ bs)) ≡ take (2 * (getD bytesTable b 0 % 16)) (digits (b ∷ cs)) =
+    let n : bytesOf (i .row) ≡ from b .bytes = ap bytesOf (row-of (digits (b ∷ bs)) i e) ∙ first-byte b below256 (digits bs) (has-row (digits (b ∷ bs)) i e) .bytes in
+    let agree : take (2 * (from b .bytes)) (digits (b ∷ bs)) ≡ take (2 * (from b .bytes)) (digits (b ∷ cs)) =
     rw (← n) (digits-take (bytesOf (i .row)) (b ∷ bs) ∙ (ap digits same ∙ sym (digits-take (bytesOf (i .row)) (b ∷ cs)))) in
-    sym (same-read (b / 16) (b % 16) (2 * (getD bytesTable b 0 % 16)) (digits bs) (digits cs) agree (at allWide 256 all-wide b below256)) ∙ e
+    sym (same-read (b / 16) (b % 16) (2 * (from b .bytes)) (digits bs) (digits cs) agree (at allWide 256 all-wide b below256)) ∙ e

@@ -1,7 +1,9 @@
-// The instruction table of sheet 000 for the code: an instruction, what reading gives, the rows' numbers by name, and the length and cycles of each first byte.
+// The instruction table of sheet 000 for the code: an instruction, what reading gives, the rows' numbers by name, and the length and cycles by first byte.
 // The rows themselves are the definition in specs/Table.antt.
 pub mod rows;
 
+ghost use mathlib.Core.Path.{_≡_};
+ghost use Prim.Native.Nat.{_/_};
 ghost use Rattle.sheet.specs.Timing.{TimedFrom};
 
 // One row by its number, and its operands: a is its x, k, a, b, r or n, and b its y or p; 0 for one that it does not have.
@@ -21,51 +23,77 @@ pub struct Cost {
     pub cycles: u8,
 }
 
-// By the first byte of a code, a line for each high digit: the bytes of the rows that begin with it, 0 where none does. Each is a digit's character.
-const BYTES: [u8; 256] = *b"\
-    1111111111111111\
-    1111111111111111\
-    1111111111111111\
-    1111111111111111\
-    2222222222222121\
-    1111031311111111\
-    1112111122222222\
-    1111111011011111\
-    1111111111111111\
-    1111111111111111\
-    1111111111111111\
-    1111111111111111\
-    2222222222222222\
-    1111111111111111\
-    1111111111111111\
-    1111111111111111";
+fn costs(bytes: u8, cycles: u8) -> Cost
+    ensures { λ r. ⌜ r ≡ record { bytes = bytes; cycles = cycles } ⌝ }
+{
+    Cost {
+        bytes: bytes,
+        cycles: cycles,
+    }
+}
 
-// And their cycles.
-const CYCLES: [u8; 256] = *b"\
-    1111111111111111\
-    1111111111111111\
-    1111111111111111\
-    1111111111111111\
-    2222222222222222\
-    1111031311111111\
-    2222222222222222\
-    1111111011011111\
-    1111111111111111\
-    1111111111111111\
-    1111111111111111\
-    1111111111111111\
-    2222222222222222\
-    1111111111111111\
-    2222222222222222\
-    1111111111111111";
+// 0100: RTI and RET have no second byte.
+fn timing_4(first: u8) -> Cost
+    requires { ⌜ first / 16 ≡ 4 ⌝ }
+    ensures { λ r. ⌜ TimedFrom first (r .bytes) (r .cycles) ⌝ }
+{
+    match first {
+        0x4D => costs(1, 2),
+        0x4F => costs(1, 2),
+        _ => costs(2, 2),
+    }
+}
 
-// The length and the cycles of whatever row begins with the byte.
+// 0101: SLBR; no row begins with 54h.
+fn timing_5(first: u8) -> Cost
+    requires { ⌜ first / 16 ≡ 5 ⌝ }
+    ensures { λ r. ⌜ TimedFrom first (r .bytes) (r .cycles) ⌝ }
+{
+    match first {
+        0x54 => costs(0, 0),
+        0x55 => costs(3, 3),
+        0x57 => costs(3, 3),
+        _ => costs(1, 1),
+    }
+}
+
+// 0110: the rows on latches and those from 68h up have a second byte.
+fn timing_6(first: u8) -> Cost
+    requires { ⌜ first / 16 ≡ 6 ⌝ }
+    ensures { λ r. ⌜ TimedFrom first (r .bytes) (r .cycles) ⌝ }
+{
+    if first == 0x63 {
+        return costs(2, 2);
+    }
+    if first < 0x68 {
+        return costs(1, 2);
+    }
+    costs(2, 2)
+}
+
+// 0111: no row begins with 77h or 7Ah.
+fn timing_7(first: u8) -> Cost
+    requires { ⌜ first / 16 ≡ 7 ⌝ }
+    ensures { λ r. ⌜ TimedFrom first (r .bytes) (r .cycles) ⌝ }
+{
+    match first {
+        0x77 => costs(0, 0),
+        0x7A => costs(0, 0),
+        _ => costs(1, 1),
+    }
+}
+
+// The length and the cycles of whatever row begins with the byte, by the bit patterns of the rows; 0 where none does.
 pub fn timing(first: u8) -> Cost
     ensures { λ r. ⌜ TimedFrom first (r .bytes) (r .cycles) ⌝ }
 {
-    let at = first as usize;
-    Cost {
-        bytes: BYTES[at] % 16,
-        cycles: CYCLES[at] % 16,
+    match first / 16 {
+        4 => timing_4(first),
+        5 => timing_5(first),
+        6 => timing_6(first),
+        7 => timing_7(first),
+        12 => costs(2, 2),
+        14 => costs(1, 2),
+        _ => costs(1, 1),
     }
 }
