@@ -64,7 +64,7 @@ uint8_t em73862_is_valid(const uint8_t *record, size_t record_length);
 uint8_t em73862_step(const uint8_t *image, size_t image_length, uint8_t wake, uint8_t sound,
                      uint8_t *record, size_t record_length,
                      const uint8_t *frame, size_t frame_length, uint32_t *cycles);
-/* One step a frame, up to a stop. 1, 2, 4, 3; stops 30 to 34. */
+/* One step a frame, up to a stop. 1, 2, 4, 3; stops 30 to 34. It is in librun_calls.a, all others are in libcalls.a. */
 uint8_t em73862_run(const uint8_t *image, size_t image_length, uint8_t wake, uint8_t sound,
                     uint8_t *record, size_t record_length,
                     const uint8_t *frames, size_t frames_length, uint32_t *steps, uint32_t *cycles);

@@ -1,5 +1,5 @@
-//! Chooses how the proved calls are reached. The archive of `rt staticlib calls` is x86-64 code: there it is linked, and
-//! elsewhere a server that holds it is asked (tools/build-server).
+//! Chooses how the proved calls are reached. The archives of `rt staticlib calls` and of `rt staticlib run_calls` are x86-64 code:
+//! there they are linked, and elsewhere a server that holds them is asked (tools/build-server).
 
 use std::path::Path;
 
@@ -10,12 +10,14 @@ fn main() {
         return;
     }
     let folder = Path::new(env!("CARGO_MANIFEST_DIR")).join("../../target/staticlib");
-    let archive = folder.join("libcalls.a");
-    println!("cargo:rerun-if-changed={}", archive.display());
-    if !archive.exists() {
-        panic!("there is no {}: `rt staticlib calls` makes it", archive.display());
+    for name in ["calls", "run_calls"] {
+        let archive = folder.join(format!("lib{name}.a"));
+        println!("cargo:rerun-if-changed={}", archive.display());
+        if !archive.exists() {
+            panic!("there is no {}: `rt staticlib {name}` makes it", archive.display());
+        }
+        println!("cargo:rustc-link-lib=static={name}");
     }
     println!("cargo:rustc-cfg=linked");
     println!("cargo:rustc-link-search=native={}", folder.display());
-    println!("cargo:rustc-link-lib=static=calls");
 }

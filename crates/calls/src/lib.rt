@@ -15,7 +15,6 @@ use numbers::NOT_TO_BE_WRITTEN;
 use numbers::UNASSIGNED_CODE;
 use reader::Answer;
 use reader::read;
-use run::run;
 use sheet::Insn;
 use step::Options;
 use step::step;
@@ -24,7 +23,7 @@ use writer::write;
 ghost use mathlib.Core.Path.{_≡_};
 ghost use Rattle.reader.specs.Answer.{paperOf as readingPaper};
 ghost use Rattle.writer.specs.Writing.{paperOf as codePaper, fromPaper as codeFrom};
-ghost use Rattle.calls.specs.Calls.{unheld, optionsOf, FreshCall, ResetCall, ValidCall, StepCall, RunCall, DisplayCall, ReadCall, WriteCall, BoundCall};
+ghost use Rattle.calls.specs.Calls.{unheld, optionsOf, FreshCall, ResetCall, ValidCall, StepCall, DisplayCall, ReadCall, WriteCall, BoundCall};
 ghost use Rattle.calls.specs.Numbers.{OfRead, OfWrite};
 
 // What the reader, the writer and the bound answer, as numbers.
@@ -44,7 +43,7 @@ pub struct WriteNumbers {
 }
 
 // The refusal of a buffer that holds no record, where there is an image too.
-fn refusal(image: &[u8]) -> u8
+pub fn refusal(image: &[u8]) -> u8
     ensures { λ r. ⌜ r ≡ unheld (now (image .entry)) ⌝ }
 {
     if image.len() == IMAGE_BYTES {
@@ -53,7 +52,7 @@ fn refusal(image: &[u8]) -> u8
     1
 }
 
-fn options_of(wake: u8, sound: u8) -> Options
+pub fn options_of(wake: u8, sound: u8) -> Options
     ensures { λ r. ⌜ r ≡ optionsOf wake sound ⌝ }
 {
     Options {
@@ -118,31 +117,6 @@ pub extern "C" fn em73862_step(
         pack(r.machine, bytes);
         return r.number;
     }
-    *cycles = 0;
-    refusal(image)
-}
-
-#[no_mangle]
-pub extern "C" fn em73862_run(
-    image: &[u8],
-    wake: u8,
-    sound: u8,
-    bytes: &mut [u8],
-    frames: &[u8],
-    steps: &mut u32,
-    cycles: &mut u32,
-) -> u8
-    ensures { λ r. ⌜ RunCall (now (image .entry)) (optionsOf wake sound) (now (bytes .entry)) (now (frames .entry)) r (now (steps .exit)) (now (cycles .exit)) (now (bytes .exit)) ⌝ }
-{
-    let u = unpack(bytes);
-    if u.held {
-        let r = run(image, options_of(wake, sound), u.machine, frames);
-        *steps = r.steps;
-        *cycles = r.cycles;
-        pack(r.machine, bytes);
-        return r.number;
-    }
-    *steps = 0;
     *cycles = 0;
     refusal(image)
 }

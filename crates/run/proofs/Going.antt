@@ -47,10 +47,11 @@ module _ (rom : ℕ → ℕ) (o : Options) (frames : List ℕ) where
     pub room : at < length frames → at + 3 ≤ length frames
     room h = room? h (decLt (length frames) (at + 3))
 
+    pub is-frame : at < length frames → isFrame em73862Digits (charsAt frames at) ≡ true
+    is-frame h = both-first (isFrame em73862Digits (charsAt frames at)) (areFrames (drop (at + 3) frames)) (sym (are-next frames at h) ∙ g .left)
+
     pub shows : at < length frames → PinsInRange (pinsOf (charsAt frames at))
-    shows h =
-        in-range (charsAt frames at)
-        (both-first (isFrame em73862Digits (charsAt frames at)) (areFrames (drop (at + 3) frames)) (sym (are-next frames at h) ∙ g .left))
+    shows h = in-range (charsAt frames at) (is-frame h)
 
     next-same : at < length frames → whole ≡ runOver rom o (pinsOf (charsAt frames at) ∷ framesOf (drop (at + 3) frames)) steps cycles (assembled core ram)
     next-same h = g .same ∙ ap (λ (ps : List Pins). runOver rom o ps steps cycles (assembled core ram)) (frames-next frames at h)

@@ -7,7 +7,7 @@ use Rattle.sheet.specs.Reading.{romOf}
 use Rattle.frame.specs.Frame.{framesOf}
 use Rattle.machine.specs.With.{assembled}
 use Rattle.run.specs.Run.{runOf}
-use Rattle.run.proofs.Going.{Going, starts, room, shows, ended, goes-on, ends-early}
+use Rattle.run.proofs.Going.{Going, starts, room, is-frame, shows, ended, goes-on, ends-early}
 use Rattle.run.proofs.run_frames.Statement.{statement}
 use Rattle.run.proofs.run_frames.Tie as tie
 
@@ -22,7 +22,8 @@ loop-holds : tie.Need-loop-holds Inv-loop μ-loop
 loop-holds c = starts _ _ _ _ (c .before .before .before .before .pre .0) (c .before .before .before .before .pre .3)
 
 pins-at-requires : tie.Need-pins-at-requires Inv-loop μ-loop
-pins-at-requires c κs = room _ _ _ _ _ _ _ _ _ (c .before .loop .inv) (c .loop-test .taken)
+pins-at-requires c κs =
+    (room _ _ _ _ _ _ _ _ _ (c .before .loop .inv) (c .loop-test .taken), is-frame _ _ _ _ _ _ _ _ _ (c .before .loop .inv) (c .loop-test .taken))
 
 advance-requires : tie.Need-advance-requires Inv-loop μ-loop
 advance-requires c κs = let g = c .before .before .before .loop .inv in (g .valid .core, g .valid .ram, c .before .before .before .before .before .before .before .before .pre .1, rw (c .before .pins-at .ensures) (shows _ _ _ _ _ _ _ _ _ g (c .before .before .loop-test .taken)))

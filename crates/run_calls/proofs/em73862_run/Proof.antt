@@ -1,10 +1,10 @@
--- `calls::em73862_run` meets its contract.
+-- `run_calls::em73862_run` meets its contract.
 use mathlib.Core.Path.{refl}
 use Rattle.calls.specs.Calls.{no-record, record-of}
 use Rattle.calls.proofs.Answers.{ran}
 use borrow.Author.Needs.{needs}
-use Rattle.calls.proofs.em73862_run.Statement.{statement}
-use Rattle.calls.proofs.em73862_run.Tie as tie
+use Rattle.run_calls.proofs.em73862_run.Statement.{statement}
+use Rattle.run_calls.proofs.em73862_run.Tie as tie
 
 unpack-requires : tie.Need-unpack-requires
 unpack-requires c κs = search needs
