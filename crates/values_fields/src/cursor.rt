@@ -3,19 +3,27 @@ use text_words::Number;
 ghost use Prim.Native.Nat.{_<_, _≤_};
 ghost use lib.ListN.{length};
 
-// Where the line after this one begins.
-pub fn next_line(text: &[u8], from: usize) -> usize
+// The place behind the next such character, or the text's end.
+fn behind(text: &[u8], from: usize, sign: u8) -> usize
     requires { ⌜ from < length (now text) ⌝ }
     ensures { λ r. ⌜ (from < r) × (r ≤ length (now (text .entry))) ⌝ }
 {
     let mut at = from;
     while at < text.len() {
-        if text[at] == b'\n' {
+        if text[at] == sign {
             return at + 1;
         }
         at += 1;
     }
     at
+}
+
+// Where the line after this one begins.
+pub fn next_line(text: &[u8], from: usize) -> usize
+    requires { ⌜ from < length (now text) ⌝ }
+    ensures { λ r. ⌜ (from < r) × (r ≤ length (now (text .entry))) ⌝ }
+{
+    behind(text, from, b'\n')
 }
 
 // Where the line's next word begins, or the text's end.
@@ -29,21 +37,6 @@ pub fn next_word(text: &[u8], from: usize) -> usize
             return text.len();
         }
         if text[at] == b' ' {
-            return at + 1;
-        }
-        at += 1;
-    }
-    at
-}
-
-// Where the value of the word begins: behind its '='.
-fn value_start(text: &[u8], from: usize) -> usize
-    requires { ⌜ from < length (now text) ⌝ }
-    ensures { λ r. ⌜ r ≤ length (now (text .entry)) ⌝ }
-{
-    let mut at = from;
-    while at < text.len() {
-        if text[at] == b'=' {
             return at + 1;
         }
         at += 1;
@@ -91,5 +84,5 @@ pub fn decimal_at(text: &[u8], from: usize) -> u32
 pub fn value_of(text: &[u8], from: usize) -> u32
     requires { ⌜ from < length (now text) ⌝ }
 {
-    hexadecimal_at(text, value_start(text, from))
+    hexadecimal_at(text, behind(text, from, b'='))
 }

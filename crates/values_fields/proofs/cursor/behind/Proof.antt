@@ -1,15 +1,15 @@
--- `values_fields::cursor::next_line` meets its contract.
+-- `values_fields::cursor::behind` meets its contract.
 use borrow.Author.Needs.{needs}
 use Prim.Native.Nat.{_-_, _≤_}
 use lib.ListN.{length}
-use Rattle.values_fields.proofs.cursor.next_line.Statement.{statement}
-use Rattle.values_fields.proofs.cursor.next_line.Tie as tie
+use Rattle.values_fields.proofs.cursor.behind.Statement.{statement}
+use Rattle.values_fields.proofs.cursor.behind.Tie as tie
 
 abbrev Inv-loop : tie.InvT-loop
-Inv-loop text from at₀ at = (from ≤ at) × (at ≤ length text)
+Inv-loop text from sign at₀ at = (from ≤ at) × (at ≤ length text)
 
 abbrev μ-loop : tie.MeasureT-loop
-μ-loop text from at₀ at = length text - at
+μ-loop text from sign at₀ at = length text - at
 
 loop-holds : tie.Need-loop-holds Inv-loop μ-loop
 loop-holds c = search needs
@@ -35,8 +35,8 @@ loop-again c = search needs
 returns-2 : tie.Need-returns-2 Inv-loop μ-loop
 returns-2 c = search needs
 
-pub next-line-spec : {M : Type 1} → statement M
-next-line-spec =
+pub behind-spec : {M : Type 1} → statement M
+behind-spec =
     tie.close
     (tie.spec
     Inv-loop
