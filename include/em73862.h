@@ -43,12 +43,14 @@
 #define EM73862_EXCLUDED_REACHABLE 21
 #define EM73862_REPETITION_REACHABLE 22
 #define EM73862_SHORT_PATH 23
-/* Stops; the reader gives 30 too. */
+/* Stops; the reader gives 30 and 35 too. */
 #define EM73862_UNASSIGNED 30
 #define EM73862_ABSENT_RAM 31
 #define EM73862_STACK_LEVEL 32
 #define EM73862_ABSENT_PORT 33
 #define EM73862_RESERVED_10XX 34
+/* The bytes left before the end of the image begin a row and are too few. */
+#define EM73862_PAST_END 35
 
 #ifdef __cplusplus
 extern "C" {
@@ -60,18 +62,18 @@ uint8_t em73862_fresh(uint8_t *record, size_t record_length);
 uint8_t em73862_reset(uint8_t *record, size_t record_length);
 /* 0 where the buffer holds a record within its ranges, else 2. */
 uint8_t em73862_is_valid(const uint8_t *record, size_t record_length);
-/* One step. 1, 2, 3; stops 30 to 34, which leave the record. */
+/* One step. 1, 2, 3; stops 30 to 35, which leave the record. */
 uint8_t em73862_step(const uint8_t *image, size_t image_length, uint8_t wake, uint8_t sound,
                      uint8_t *record, size_t record_length,
                      const uint8_t *frame, size_t frame_length, uint32_t *cycles);
-/* One step a frame, up to a stop. 1, 2, 4, 3; stops 30 to 34. It is in librun_calls.a, all others are in libcalls.a. */
+/* One step a frame, up to a stop. 1, 2, 4, 3; stops 30 to 35. It is in librun_calls.a, all others are in libcalls.a. */
 uint8_t em73862_run(const uint8_t *image, size_t image_length, uint8_t wake, uint8_t sound,
                     uint8_t *record, size_t record_length,
                     const uint8_t *frames, size_t frames_length, uint32_t *steps, uint32_t *cycles);
 /* The first 40 bytes of dots; later bytes stay. 2, 5. */
 uint8_t em73862_display(const uint8_t *record, size_t record_length, uint8_t *dots, size_t dots_length);
 /* row 1 to 107; a and b are the operands, 0 where the row has none: a is x, k, the address, the bit, r or n; b is y or p.
- * 1, 20, 30. */
+ * 1, 20, 30, 35. */
 uint8_t em73862_read(const uint8_t *image, size_t image_length, uint32_t address,
                      uint8_t *row, uint16_t *a, uint8_t *b);
 /* length bytes of b0, b1, b2; the others are 0. 11. */

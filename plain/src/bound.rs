@@ -107,7 +107,7 @@ pub fn bound(image: &[u8], address: u32, path: &mut [u8]) -> Bound {
 }
 
 fn view(image: &Image, place: Place) -> View {
-    let Some(decoded) = fetch(image, place.address) else {
+    let Ok(decoded) = fetch(image, place.address) else {
         return View::Excluded;
     };
     let row = decoded.row;
@@ -415,9 +415,16 @@ mod tests {
     }
 
     #[test]
-    fn rows_and_next_instructions_wrap() {
+    fn next_instructions_wrap() {
+        // NOP in 1FFF, RTI in 0000.
+        let image = image_with(&[(0x1FFF, &[0x56]), (0, &[0x4D])]);
+        assert_eq!(bounded(&image, 0x1FFF), Ok((3, vec![0x1FFF, 0x0000])));
+    }
+
+    #[test]
+    fn a_code_that_passes_the_end_is_excluded() {
         // LDA 20h in 1FFF and 0000.
         let image = image_with(&[(0x1FFF, &[0x6A]), (0, &[0x20, 0x4D])]);
-        assert_eq!(bounded(&image, 0x1FFF), Ok((4, vec![0x1FFF, 0x0001])));
+        assert_eq!(bounded(&image, 0x1FFF), Err(Bound::Excluded(0x1FFF)));
     }
 }

@@ -34,13 +34,13 @@ pub fn whole_image(image: &[u8]) -> Result<&Image, u8> {
     image.try_into().map_err(|_| numbers::IMAGE_SIZE)
 }
 
-/// The instruction at an address. Refuses with 1, 20 and 30.
+/// The instruction at an address. Refuses with 1, 20, 30 and 35.
 pub fn read(image: &[u8], address: usize) -> Result<Insn, u8> {
     let image = whole_image(image)?;
     if address >= IMAGE_SIZE {
         return Err(numbers::ADDRESS);
     }
-    let decoded = fetch(image, address as u16).ok_or(numbers::UNASSIGNED)?;
+    let decoded = fetch(image, address as u16)?;
     Ok(decoded.insn())
 }
 
@@ -56,10 +56,25 @@ pub fn write(insn: Insn) -> Result<Vec<u8>, u8> {
     }
 }
 
-/// "Fetch and PC wrap at 8192."
-pub fn fetch(image: &Image, address: u16) -> Option<Decoded> {
-    let byte = |offset: u16| image[(address + offset) as usize % IMAGE_SIZE];
-    decode([byte(0), byte(1), byte(2)])
+/// The instruction at an address, or 30 or 35.
+pub fn fetch(image: &Image, address: u16) -> Result<Decoded, u8> {
+    match image[address as usize..] {
+        [first, second, third, ..] => decode([first, second, third]).ok_or(numbers::UNASSIGNED),
+        [first, second] => fetch_last(2, decode([first, second, 0])),
+        [first] => fetch_last(1, (0..=255).find_map(|second| decode([first, second, 0]))),
+        [] => unreachable!("an address is below 8192"),
+    }
+}
+
+/// 35: "given when the bytes left before the end are too few but still begin some row; when they begin none it is 30 as
+/// before." What the bytes begin is told by any bytes that would follow them; of three bytes is only SLBR, which takes any
+/// third.
+fn fetch_last(left: u16, begun: Option<Decoded>) -> Result<Decoded, u8> {
+    match begun {
+        None => Err(numbers::UNASSIGNED),
+        Some(decoded) if decoded.row.bytes() > left => Err(numbers::PAST_END),
+        Some(decoded) => Ok(decoded),
+    }
 }
 
 /// Puts the operands in the letters of the row's code.
@@ -415,10 +430,20 @@ mod tests {
     }
 
     #[test]
-    fn the_fetch_wraps() {
-        let mut image = [0; IMAGE_SIZE];
-        image[8191] = 0xC1;
-        image[0] = 0x23;
-        assert_eq!(read(&image, 8191), Ok(Insn { row: Row::Lbr.number(), a: 0x123, b: 0 }));
+    fn the_fetch_ends_with_the_image() {
+        let at_the_end = |bytes: &[u8]| {
+            let mut image = [0; IMAGE_SIZE];
+            image[IMAGE_SIZE - bytes.len()..].copy_from_slice(bytes);
+            read(&image, IMAGE_SIZE - bytes.len())
+        };
+        assert_eq!(at_the_end(&[0xC1]), Err(35));
+        assert_eq!(at_the_end(&[0x55]), Err(35));
+        assert_eq!(at_the_end(&[0x54]), Err(30));
+        assert_eq!(at_the_end(&[0x56]), Ok(Insn { row: Row::Nop.number(), a: 0, b: 0 }));
+        assert_eq!(at_the_end(&[0x55, 0xC0]), Err(35));
+        assert_eq!(at_the_end(&[0x55, 0x00]), Err(30));
+        assert_eq!(at_the_end(&[0x68, 0xF4]), Err(30));
+        assert_eq!(at_the_end(&[0xC1, 0x23]), Ok(Insn { row: Row::Lbr.number(), a: 0x123, b: 0 }));
+        assert_eq!(at_the_end(&[0x57, 0xC1, 0x23]), Ok(Insn { row: Row::Slbr.number(), a: 0x123, b: 0 }));
     }
 }

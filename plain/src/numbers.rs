@@ -16,3 +16,5 @@ pub const ABSENT_RAM: u8 = 31;
 pub const STACK_LEVEL: u8 = 32;
 pub const ABSENT_PORT: u8 = 33;
 pub const RESERVED_SETTING: u8 = 34;
+///
+pub const PAST_END: u8 = 35;

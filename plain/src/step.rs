@@ -141,7 +141,7 @@ fn act(m: &mut Machine, around: &Surroundings) -> Result<u32, u8> {
         m.accept(latch, entry)?;
         return Ok(ACCEPTANCE_CYCLES);
     }
-    let decoded = fetch(around.image, m.pc).ok_or(numbers::UNASSIGNED)?;
+    let decoded = fetch(around.image, m.pc)?;
     execute(m, around, decoded)?;
     Ok(decoded.row.cycles())
 }

@@ -19,7 +19,7 @@ use Rattle.row.specs.Columns.{setsEi}
 use Rattle.row.proofs.RowsValid.{fitsOperation, line-fits, target-lt}
 use Rattle.graph.specs.Graph.{GoesOn, Ends}
 use Rattle.graph.specs.Laid.{Inside}
-use Rattle.bound_flow.specs.Flow.{Way, place, addressOf, isKnown, isOne, writesP16, wayBy, forked, nodeBy, nodeRead, nodeOf, flowGraph, flowCost}
+use Rattle.bound_flow.specs.Flow.{Way, place, addressOf, isKnown, isOne, writesP16, wayBy, excluded, forked, nodeBy, nodeRead, nodeOf, flowGraph, flowCost}
 use Rattle.bound_flow.specs.declared.Node.{Node}
 
 pub record Good (x : Node) : Type 0 where
@@ -38,6 +38,9 @@ place-lt : (address : ℕ) (known : Bool) → address < 8192 → place address k
 place-lt address true h = omega arith
 place-lt address false h = omega arith
 
+excluded-good : Good excluded
+excluded-good = record { next-lt = omega arith; other-lt = omega arith; on-pos = λ e. absurd (omega (arith, e)); end-pos = λ e. absurd (omega (arith, e)); le = omega arith }
+
 module _ (address : ℕ) (known : Bool) (i : Insn) (bytes cycles : ℕ) (pos : 0 < cycles) (few : cycles ≤ 3) where
   wrapped-lt : wrapped address bytes < 8192
   wrapped-lt = omega arith
@@ -47,7 +50,7 @@ module _ (address : ℕ) (known : Bool) (i : Insn) (bytes cycles : ℕ) (pos : 0
   forked-good false on target h t = record { next-lt = place-lt on true h; other-lt = place-lt target true t; on-pos = λ e. pos; end-pos = λ e. pos; le = omega arith }
 
   nowhere-good : Good (nodeBy address known i bytes cycles Way.nowhere)
-  nowhere-good = record { next-lt = omega arith; other-lt = omega arith; on-pos = λ e. absurd (omega (arith, e)); end-pos = λ e. absurd (omega (arith, e)); le = omega arith }
+  nowhere-good = excluded-good
 
   onward-good : (k : Bool) → Good (nodeBy address known i bytes cycles (Way.onward k))
   onward-good k = record { next-lt = place-lt _ k wrapped-lt; other-lt = place-lt _ k wrapped-lt; on-pos = λ e. pos; end-pos = λ e. pos; le = omega arith }
@@ -72,7 +75,8 @@ read-good rom bytes address known l (Read.Row i) e =
     let c = cycles-of (i .row) (h .some) (h .row) in
     way-good address known i (line .bytes) (line .cycles) (leb→le 1 (line .cycles) (both-left (leb 1 (line .cycles)) _ c)) (leb→le (line .cycles) 3 (both-right (leb 1 (line .cycles)) _ c))
     (fieldA (line .codes)) (h .a) l (line .s) (line .operation) (line-fits (i .row) (h .row))
-read-good rom bytes address known l Read.Unassigned e = record { next-lt = omega arith; other-lt = omega arith; on-pos = λ e. absurd (omega (arith, e)); end-pos = λ e. absurd (omega (arith, e)); le = omega arith }
+read-good rom bytes address known l Read.Unassigned e = excluded-good
+read-good rom bytes address known l Read.PastEnd e = excluded-good
 
 pub node-good : (rom : ℕ → ℕ) → ((at : ℕ) → rom at < 256) → (v : ℕ) → v < 16384 → Good (nodeOf rom v)
 unfolding nodeOf

@@ -1,5 +1,5 @@
 -- What the code makes of a place is its node.
-use mathlib.Core.Path.{_≡_}
+use mathlib.Core.Path.{_≡_, refl, ap, _∙_}
 use Prim.Native.Nat.{ℕ, _<_}
 use native.Mathlib.Omega.{arith}
 use lib.Dec.{leb, leb→le}
@@ -11,7 +11,8 @@ use Rattle.sheet.specs.Timing.{TimedFrom}
 use Rattle.sheet.specs.declared.Insn.{Insn}
 use Rattle.sheet.specs.declared.Read.{Read}
 use Rattle.reader.proofs.Rows.{columns}
-use Rattle.bound_flow.specs.Flow.{addressOf, isKnown, excluded, nodeBy, nodeOf}
+use Rattle.reader.proofs.NoRow.{NoRow, no-row}
+use Rattle.bound_flow.specs.Flow.{addressOf, isKnown, excluded, nodeBy, nodeRead, nodeOf}
 use Rattle.bound_flow.specs.Ways.{numbered, IsWay}
 use Rattle.bound_flow.specs.declared.Node.{Node}
 
@@ -21,9 +22,9 @@ unfolding lineAt lines
 operand-lt i h = omega (arith, h .a, leb→le (fieldA (lineAt (i .row) .codes)) 8192 (at (λ row. leb (fieldA (lineAt row .codes)) 8192) 108 tt (i .row) (h .row)))
 
 module _ (rom : ℕ → ℕ) (v : ℕ) where
-  pub none-node : readAt rom (addressOf v) ≡ Read.Unassigned → (x : Node) → x ≡ excluded → x ≡ nodeOf rom v
+  pub none-node : (r : Read) → r ≡ readAt rom (addressOf v) → NoRow r → (x : Node) → x ≡ excluded → x ≡ nodeOf rom v
   unfolding nodeOf
-  none-node e x q = rw e q
+  none-node r e t x q = q ∙ (no-row r (λ (s : Read). excluded ≡ nodeRead (addressOf v) (isKnown v) s) t refl refl ∙ ap (nodeRead (addressOf v) (isKnown v)) e)
 
   pub row-node : (i : Insn) → readAt rom (addressOf v) ≡ Read.Row i → (bytes cycles way : ℕ) → TimedFrom (rom (addressOf v)) bytes cycles → IsWay i way
       → (x : Node) → x ≡ nodeBy (addressOf v) (isKnown v) i bytes cycles (numbered way) → x ≡ nodeOf rom v

@@ -82,10 +82,11 @@ nodeBy at known i bytes cycles (Way.branches t) = forked known (wrapped at bytes
 abbrev pub nodeRow : ℕ → Bool → Insn → Line → Node
 nodeRow at known i l = nodeBy at known i (l .bytes) (l .cycles) (wayOf i l)
 
--- "unassigned codes"
+-- "unassigned codes"; and Q-8 of one whose bytes pass the end: "bound (there it is excluded)"
 abbrev pub nodeRead : ℕ → Bool → Read → Node
 nodeRead at known (Read.Row i) = nodeRow at known i (lineAt (i .row))
 nodeRead at known Read.Unassigned = excluded
+nodeRead at known Read.PastEnd = excluded
 
 unfoldable pub nodeOf : (ℕ → ℕ) → ℕ → Node
 nodeOf rom v = nodeRead (addressOf v) (isKnown v) (readAt rom (addressOf v))

@@ -85,6 +85,7 @@ module _ (rom : ℕ → ℕ) (o : Options) (m : Machine) (pins : Pins) (v : ℕ)
         let l = lineAt (i .row) in
         lifted i e (row-follows (around i e) l looking (valid .core .regs .lr) (stands .running) (stands .ei) (isKnown v) (stands .sf) (fieldA (l .codes)) (l .operation) (line-fits (i .row) (f .row)) (line-branches (i .row) (f .row)) k)
     read-follows Read.Unassigned e k = absurd (not-allowed k)
+    read-follows Read.PastEnd e k = absurd (not-allowed k)
 
     pub step-follows : GoesOn (flowGraph rom) v ⊎ EndsPath (flowGraph rom) v → StepFollows rom o m pins v
     unfolding flowGraph nodeOf

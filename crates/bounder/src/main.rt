@@ -72,7 +72,7 @@ fn explain(answer: Bounded) {
         Bounded::Excluded(_) => {
             io::write_all(
                 STDOUT_FILENO,
-                b"an excluded instruction can be reached: a call, RET, an unassigned code, a row that sets EI or a row that writes P16\n",
+                b"an excluded instruction can be reached: a call, RET, an unassigned code or one that passes the end of the image, a row that sets EI or a row that writes P16\n",
             );
         }
         Bounded::Repeats(_) => {

@@ -12,6 +12,7 @@ use numbers::ADDRESS_OVER_8191;
 use numbers::IMAGE_BYTES;
 use numbers::IMAGE_IS_NOT_8192_BYTES;
 use numbers::NOT_TO_BE_WRITTEN;
+use numbers::PAST_END;
 use numbers::UNASSIGNED_CODE;
 use reader::Answer;
 use reader::read;
@@ -154,6 +155,7 @@ fn read_numbers(answer: Answer) -> ReadNumbers
             b: d.insn.b,
         },
         Answer::Unassigned => no_row(UNASSIGNED_CODE),
+        Answer::PastEnd => no_row(PAST_END),
         Answer::ImageSize => no_row(IMAGE_IS_NOT_8192_BYTES),
         Answer::AddressRange => no_row(ADDRESS_OVER_8191),
     }

@@ -68,3 +68,7 @@ absent-port = 33
 
 abbrev pub reserved-10xx : ℕ
 reserved-10xx = 34
+
+-- Q-8: "Refusals: 35, a stop in a step", of "an instruction whose bytes pass the end of the image"
+abbrev pub past-end : ℕ
+past-end = 35

@@ -5,7 +5,7 @@ use Prim.Native.Nat.{ℕ}
 abbrev pub imageBytes : ℕ
 imageBytes = 8192
 
--- "PC 0 to 8191." "Fetch and PC wrap at 8192."
+-- "PC 0 to 8191." PC wraps at 8192.
 abbrev pub addresses : ℕ
 addresses = 8192
 

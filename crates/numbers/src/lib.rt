@@ -3,7 +3,7 @@
 // "Image: exactly 8,192 bytes."
 pub const IMAGE_BYTES: usize = 8192;
 
-// "PC 0 to 8191." "Fetch and PC wrap at 8192."
+// "PC 0 to 8191." PC wraps at 8192.
 pub const ADDRESSES: u16 = 8192;
 
 // 20: "address over 8191"
@@ -45,3 +45,6 @@ pub const STACK_LEVEL: u8 = 32;
 pub const ABSENT_PORT: u8 = 33;
 
 pub const RESERVED_10XX: u8 = 34;
+
+// "35, a stop in a step": Q-8
+pub const PAST_END: u8 = 35;

@@ -26,11 +26,13 @@ fromPaper p =
     pick (eqb (p .number) 1) answer.ImageSize
     (pick (eqb (p .number) 20) answer.AddressRange
     (pick (eqb (p .number) 30) answer.Unassigned
-    (answer.Row (record { insn = insn (getD (p .values) 0 0) (getD (p .values) 1 0) (getD (p .values) 2 0); bytes = getD (p .values) 3 0; cycles = getD (p .values) 4 0 }))))
+    (pick (eqb (p .number) 35) answer.PastEnd
+    (answer.Row (record { insn = insn (getD (p .values) 0 0) (getD (p .values) 1 0) (getD (p .values) 2 0); bytes = getD (p .values) 3 0; cycles = getD (p .values) 4 0 })))))
 
 back : (r : Answer) → fromPaper (paperOf r) ≡ r
 back (answer.Row d) = refl
 back answer.Unassigned = refl
+back answer.PastEnd = refl
 back answer.ImageSize = refl
 back answer.AddressRange = refl
 

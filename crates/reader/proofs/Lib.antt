@@ -1,2 +1,4 @@
 pub mod Rows
 pub mod Answers
+pub mod Lasts
+pub mod NoRow

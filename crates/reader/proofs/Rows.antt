@@ -1,30 +1,63 @@
--- What is read at an address is an instruction of the sheet, and its first byte gives the row's bytes and cycles.
+-- What is read at an address is an instruction of the sheet, its first byte gives the row's bytes and cycles, and its bytes stand before the end.
 use mathlib.Core.Path.{_≡_}
 use mathlib.Core.List.{List, [], _∷_}
-use Prim.Native.Nat.{ℕ, _/_, _%_, _<_}
+use Prim.Native.Nat.{ℕ, zero, suc, _+_, _-_, _<_, _≤_, min}
 use native.Mathlib.Omega.{arith}
+use lib.ListN.{length, take, length-take}
+use lib.Seq.{take-nil, take-all}
 use Rattle.sheet.specs.Code.{digits}
 use Rattle.sheet.specs.Fields.{InFields}
-use Rattle.sheet.specs.Reading.{readAt, fetched, wrapped}
+use Rattle.sheet.specs.Reading.{readBytes, readLeft, left, readAt, bytesOf}
 use Rattle.sheet.specs.Timing.{Timed, TimedFrom}
 use Rattle.sheet.specs.declared.Insn.{Insn}
 use Rattle.sheet.specs.declared.Read.the-variants.{Row}
 use Rattle.sheet.proofs.Operands.{AreDigits, in-fields}
-use Rattle.sheet.proofs.ReadAs.{row-of, has-row}
+use Rattle.sheet.proofs.ReadAs.{row-of, has-row, nothing-read}
+use Rattle.sheet.proofs.Lengths.{row-enough}
+use Rattle.sheet.proofs.Ends.{few, read-behind, left-row}
 
--- the digits of three bytes
-are-digits : (a b c : ℕ) → a < 256 → b < 256 → c < 256 → AreDigits (digits (a ∷ b ∷ c ∷ []))
-are-digits a b c h k l = (omega arith, (omega arith, (omega arith, (omega arith, (omega arith, (omega arith, tt))))))
+-- the digits of three bytes at most
+are-digits : (k a b c : ℕ) → a < 256 → b < 256 → c < 256 → AreDigits (digits (take k (a ∷ b ∷ c ∷ [])))
+are-digits zero a b c h i j = tt
+are-digits (suc zero) a b c h i j = (omega arith, (omega arith, tt))
+are-digits (suc (suc zero)) a b c h i j = (omega arith, (omega arith, (omega arith, (omega arith, tt))))
+are-digits (suc (suc (suc k))) a b c h i j = rw (take-nil {A = ℕ} k) (omega arith, (omega arith, (omega arith, (omega arith, (omega arith, (omega arith, tt))))))
+
+timed-left : (k b : ℕ) (more : List ℕ) (i : Insn) → readBytes (take k (b ∷ more)) ≡ Row i → (n t : ℕ) → TimedFrom b n t → Timed (i .row) n t
+timed-left zero b more i e n t timed = absurd (nothing-read i e)
+timed-left (suc k) b more i e n t timed = rw (row-of (digits (b ∷ take k more)) i e) (timed (digits (take k more)) (has-row (digits (b ∷ take k more)) i e))
+
+enough-left : (k b : ℕ) (more : List ℕ) (i : Insn) → b < 256 → readBytes (take k (b ∷ more)) ≡ Row i → bytesOf (i .row) ≤ k
+enough-left zero b more i h e = absurd (nothing-read i e)
+enough-left (suc k) b more i h e =
+    let n : bytesOf (i .row) ≤ length (b ∷ take k more) = row-enough b (take k more) i h e in
+    let l : length (take k more) ≡ min k (length more) = length-take k more in
+    omega arith
 
 module _ (rom : ℕ → ℕ) (at : ℕ) (i : Insn) (e : readAt rom at ≡ Row i) where
+  row : readBytes (left rom at) ≡ Row i
+  row = left-row (left rom at) i e
+
   pub read-in-fields : ((k : ℕ) → rom k < 256) → InFields i
-  read-in-fields bytes = in-fields (digits (fetched rom at)) (are-digits (rom at) (rom (wrapped at 1)) (rom (wrapped at 2)) (bytes at) (bytes (wrapped at 1)) (bytes (wrapped at 2))) i e
-
-  abbrev more : List ℕ
-  more = rom (wrapped at 1) / 16 ∷ rom (wrapped at 1) % 16 ∷ rom (wrapped at 2) / 16 ∷ rom (wrapped at 2) % 16 ∷ []
-
-  abbrev ds : List ℕ
-  ds = rom at / 16 ∷ rom at % 16 ∷ more
+  read-in-fields bytes = in-fields (digits (left rom at)) (are-digits (8192 - at) (rom at) (rom (at + 1)) (rom (at + 2)) (bytes at) (bytes (at + 1)) (bytes (at + 2))) i row
 
   pub columns : (n t : ℕ) → TimedFrom (rom at) n t → Timed (i .row) n t
-  columns n t timed = rw (row-of ds i e) (timed more (has-row ds i e))
+  columns = timed-left (8192 - at) (rom at) (rom (at + 1) ∷ rom (at + 2) ∷ []) i row
+
+  -- "a code that ends exactly at the last address is good", and none goes on behind it
+  pub row-ends : rom at < 256 → bytesOf (i .row) ≤ 8192 - at
+  row-ends h = enough-left (8192 - at) (rom at) (rom (at + 1) ∷ rom (at + 2) ∷ []) i h row
+
+-- three bytes before the last two addresses, and what is left there
+module _ (rom : ℕ → ℕ) (at : ℕ) where
+  pub three-left : rom at < 256 → at < 8190 → readBytes (rom at ∷ rom (at + 1) ∷ rom (at + 2) ∷ []) ≡ readAt rom at
+  three-left h k =
+      let n = few (rom at) h in
+      let l : left rom at ≡ rom at ∷ rom (at + 1) ∷ rom (at + 2) ∷ [] = take-all (8192 - at) (rom at ∷ rom (at + 1) ∷ rom (at + 2) ∷ []) (omega arith) in
+      rw l (read-behind (rom at) (rom (at + 1) ∷ rom (at + 2) ∷ []) [] h (omega arith))
+
+  pub two-left : at ≡ 8190 → readLeft (rom at ∷ rom (at + 1) ∷ []) ≡ readAt rom at
+  two-left e = let k : 8192 - at ≡ 2 = omega arith in rw k
+
+  pub one-left : at ≡ 8191 → readLeft (rom at ∷ []) ≡ readAt rom at
+  one-left e = let k : 8192 - at ≡ 1 = omega arith in rw k

@@ -1,6 +1,8 @@
 // The reader: what a code is, by its bytes and by an image and an address.
 use numbers::IMAGE_BYTES;
 use numbers::LAST_ADDRESS;
+use numbers::PAST_END;
+use numbers::UNASSIGNED_CODE;
 use sheet::Insn;
 use sheet::Read;
 use sheet_rows::found;
@@ -9,8 +11,8 @@ ghost use mathlib.Core.List.{[], _∷_};
 ghost use lib.ListN.{length};
 ghost use Prim.Native.Nat.{_<_};
 ghost use Rattle.numbers.specs.Sizes.{addresses, imageBytes};
-ghost use Rattle.sheet.specs.Reading.{readBytes, readAt, romOf};
-ghost use Rattle.reader.specs.Answer.{paperOf, readPaper};
+ghost use Rattle.sheet.specs.Reading.{readBytes, readLeft, readAt, romOf};
+ghost use Rattle.reader.specs.Answer.{stopOf, paperOf, readPaper};
 
 // What is read at an address: the instruction, its bytes and its cycles.
 pub struct Decoded {
@@ -22,6 +24,7 @@ pub struct Decoded {
 pub enum Answer {
     Row(Decoded),
     Unassigned,
+    PastEnd,
     ImageSize,
     AddressRange,
 }
@@ -37,17 +40,55 @@ pub fn decode(b0: u8, b1: u8, b2: u8) -> Read
     Read::Row(insn)
 }
 
-// What stands at an address of an image; the fetch wraps at the image's end.
+// What the one byte is that is left at the last address.
+fn last_one(b0: u8) -> Read
+    ensures { λ r. ⌜ r ≡ readLeft (b0 ∷ []) ⌝ }
+{
+    let cost = sheet::timing(b0);
+    if cost.bytes < 2 {
+        return decode(b0, 0, 0);
+    }
+    Read::PastEnd // it begins a longer row
+}
+
+// What the two bytes are that are left at the address before it; of three bytes is SLBR alone, whose second is 1100 aaaa.
+fn last_two(b0: u8, b1: u8) -> Read
+    ensures { λ r. ⌜ r ≡ readLeft (b0 ∷ b1 ∷ []) ⌝ }
+{
+    let cost = sheet::timing(b0);
+    if cost.bytes < 3 {
+        return decode(b0, b1, 0);
+    }
+    if b1 / 16 == 12 {
+        return Read::PastEnd;
+    }
+    Read::Unassigned
+}
+
+// What stands at an address of an image; before the last two there are always three bytes.
 pub fn read_at(image: &[u8], at: u16) -> Read
     requires { ⌜ (length (now image) ≡ imageBytes) × (at < addresses) ⌝ }
     ensures { λ r. ⌜ r ≡ readAt (romOf (now (image .entry))) at ⌝ }
 {
     let i = at as usize;
-    decode(
-        image[i],
-        image[(i + 1) % IMAGE_BYTES],
-        image[(i + 2) % IMAGE_BYTES],
-    )
+    if i < 8190 {
+        return decode(image[i], image[i + 1], image[i + 2]);
+    }
+    if i == 8190 {
+        return last_two(image[i], image[i + 1]);
+    }
+    last_one(image[i])
+}
+
+// The number of what is no row, a refusal here and a stop in a step; 0 for a row.
+pub fn stop_of(read: Read) -> u8
+    ensures { λ r. ⌜ r ≡ stopOf read ⌝ }
+{
+    match read {
+        Read::Row(_) => 0,
+        Read::Unassigned => UNASSIGNED_CODE,
+        Read::PastEnd => PAST_END,
+    }
 }
 
 // The public reader.
@@ -61,13 +102,14 @@ pub fn read(image: &[u8], address: u32) -> Answer
         return Answer::AddressRange;
     }
     let at = address as u16;
-    let Read::Row(insn) = read_at(image, at) else {
-        return Answer::Unassigned;
-    };
     let cost = sheet::timing(image[at as usize]);
-    Answer::Row(Decoded {
-        insn: insn,
-        bytes: cost.bytes,
-        cycles: cost.cycles,
-    })
+    match read_at(image, at) {
+        Read::Row(insn) => Answer::Row(Decoded {
+            insn: insn,
+            bytes: cost.bytes,
+            cycles: cost.cycles,
+        }),
+        Read::Unassigned => Answer::Unassigned,
+        Read::PastEnd => Answer::PastEnd,
+    }
 }

@@ -1,58 +1,49 @@
 -- The agreement of `sheet::timing` with the rows: one test over all first bytes, carried to each of them.
 use mathlib.Core.Path.{_≡_, refl, ap, _∙_}
-use mathlib.Core.Bool.{Bool, true, false}
-use mathlib.Core.List.{List, [], _∷_}
+use mathlib.Core.Bool.{Bool, true, false, not}
+use mathlib.Core.List.{List, [], _∷_, _++_}
 use mathlib.Core.Logic.{inl, inr}
 use Prim.Native.Nat.{ℕ, _+_, _/_, _%_, _<_}
 use native.Mathlib.Numerals.{one-add}
 use lib.Dec.{T, eqb, eqb→eq, ltb}
 use Rattle.laws.specs.Choice.{both, pick}
 use Rattle.laws.proofs.Computed.{implies, modus, below, at, both-left, both-right, both-i}
-use Rattle.sheet.specs.Code.{Group, hasDigit, fits}
+use Rattle.sheet.specs.Code.{Group, hasDigit, fits, digits}
 use Rattle.sheet.specs.Table.{Code, Line, lines, lineAt}
-use Rattle.sheet.specs.Reading.{rowNumber}
-use Rattle.sheet.specs.Timing.{Timed, TimedFrom}
+use Rattle.sheet.specs.Reading.{rowNumber, begins, beginCode, beginSome}
+use Rattle.sheet.specs.Timing.{Timed, TimedFrom, NoneFrom}
 use Rattle.sheet.specs.declared.Cost.{Cost}
 use Rattle.sheet.proofs.Winning.{At, here, there, line-at, Fitting, winner-is}
 
--- the groups begin with the digits h and l
-abbrev pub begins : List Group → ℕ → ℕ → Bool
-begins [] h l = true
-begins (g ∷ []) h l = hasDigit g h
-begins (g ∷ k ∷ gs) h l = both (hasDigit g h) (hasDigit k l)
+-- groups that fit digits begin with the first of them
+pub begins-of : (gs : List Group) (ds es : List ℕ) → T (fits gs (ds ++ es)) → T (begins gs ds)
+begins-of [] ds es t = tt
+begins-of (g ∷ gs) [] es t = tt
+begins-of (g ∷ gs) (d ∷ ds) es t =
+    both-i (hasDigit g d) (begins gs ds) (both-left (hasDigit g d) (fits gs (ds ++ es)) t)
+    (begins-of gs ds es (both-right (hasDigit g d) (fits gs (ds ++ es)) t))
 
-abbrev pub begin : List Code → ℕ → ℕ → Bool
-begin [] h l = false
-begin (c ∷ cs) h l = pick (begins (c .groups) h l) true (begin cs h l)
-
-pub begins-of : (gs : List Group) (h l : ℕ) (ds : List ℕ) → T (fits gs (h ∷ l ∷ ds)) → T (begins gs h l)
-begins-of [] h l ds t = tt
-begins-of (g ∷ []) h l ds t = both-left (hasDigit g h) true t
-begins-of (g ∷ k ∷ gs) h l ds t =
-    both-i (hasDigit g h) (hasDigit k l) (both-left (hasDigit g h) _ t)
-    (both-left (hasDigit k l) (fits gs ds) (both-right (hasDigit g h) (both (hasDigit k l) (fits gs ds)) t))
-
-yes-pick : (t u : Bool) → T t → T (pick t true u)
+pub yes-pick : (t u : Bool) → T t → T (pick t true u)
 yes-pick true u h = tt
 yes-pick false u h = absurd h
 
-no-pick : (t u : Bool) → T u → T (pick t true u)
+pub no-pick : (t u : Bool) → T u → T (pick t true u)
 no-pick true u h = tt
 no-pick false u h = h
 
-begin-of : (cs : List Code) (h l : ℕ) (ds : List ℕ) → Fitting cs (h ∷ l ∷ ds) → T (begin cs h l)
-begin-of [] h l ds f = f
-begin-of (c ∷ cs) h l ds (inl t) = yes-pick (begins (c .groups) h l) (begin cs h l) (begins-of (c .groups) h l ds t)
-begin-of (c ∷ cs) h l ds (inr f) = no-pick (begins (c .groups) h l) (begin cs h l) (begin-of cs h l ds f)
+pub begin-of : (cs : List Code) (ds es : List ℕ) → Fitting cs (ds ++ es) → T (beginCode cs ds)
+begin-of [] ds es f = f
+begin-of (c ∷ cs) ds es (inl t) = yes-pick (begins (c .groups) ds) (beginCode cs ds) (begins-of (c .groups) ds es t)
+begin-of (c ∷ cs) ds es (inr f) = no-pick (begins (c .groups) ds) (beginCode cs ds) (begin-of cs ds es f)
 
 -- each row that begins with the digits h and l has n bytes and t cycles
 abbrev pub agree : List Line → ℕ → ℕ → ℕ → ℕ → Bool
 agree [] h l n t = true
-agree (r ∷ rs) h l n t = both (implies (begin (r .codes) h l) (both (eqb (r .bytes) n) (eqb (r .cycles) t))) (agree rs h l n t)
+agree (r ∷ rs) h l n t = both (implies (beginCode (r .codes) (h ∷ l ∷ [])) (both (eqb (r .bytes) n) (eqb (r .cycles) t))) (agree rs h l n t)
 
-agree-at : (h l n t : ℕ) {ls : List Line} {j : ℕ} {r : Line} → At ls j r → T (agree ls h l n t) → T (begin (r .codes) h l) → T (both (eqb (r .bytes) n) (eqb (r .cycles) t))
-agree-at h l n t {r = r} (here {ls = ls}) a f = modus (begin (r .codes) h l) (both (eqb (r .bytes) n) (eqb (r .cycles) t)) (both-left (implies (begin (r .codes) h l) (both (eqb (r .bytes) n) (eqb (r .cycles) t))) (agree ls h l n t) a) f
-agree-at h l n t (there {m = m} {ls = ls} p) a f = agree-at h l n t p (both-right (implies (begin (m .codes) h l) (both (eqb (m .bytes) n) (eqb (m .cycles) t))) (agree ls h l n t) a) f
+agree-at : (h l n t : ℕ) {ls : List Line} {j : ℕ} {r : Line} → At ls j r → T (agree ls h l n t) → T (beginCode (r .codes) (h ∷ l ∷ [])) → T (both (eqb (r .bytes) n) (eqb (r .cycles) t))
+agree-at h l n t {r = r} (here {ls = ls}) a f = modus (beginCode (r .codes) (h ∷ l ∷ [])) (both (eqb (r .bytes) n) (eqb (r .cycles) t)) (both-left (implies (beginCode (r .codes) (h ∷ l ∷ [])) (both (eqb (r .bytes) n) (eqb (r .cycles) t))) (agree ls h l n t) a) f
+agree-at h l n t (there {m = m} {ls = ls} p) a f = agree-at h l n t p (both-right (implies (beginCode (m .codes) (h ∷ l ∷ [])) (both (eqb (m .bytes) n) (eqb (m .cycles) t))) (agree ls h l n t) a) f
 
 timed-line : (n t j : ℕ) {r : Line} → At lines j r → T (both (eqb (r .bytes) n) (eqb (r .cycles) t)) → Timed (1 + j) n t
 timed-line n t j {r} p e =
@@ -66,7 +57,7 @@ pub timed : (h l n t : ℕ) (ds : List ℕ) → T (agree lines h l n t) → (row
 unfolding rowNumber
 timed h l n t ds a =
     winner-is (λ (m : ℕ). (m ≡ 0 → ⊥) → Timed m n t) (h ∷ l ∷ ds) lines 1 (λ ne. absurd (ne refl))
-    (λ j r p f ne. timed-line n t j p (agree-at h l n t p a (begin-of (r .codes) h l ds f)))
+    (λ j r p f ne. timed-line n t j p (agree-at h l n t p a (begin-of (r .codes) (h ∷ l ∷ []) ds f)))
 
 -- the bytes and cycles from a first byte b by the branches of `sheet::timing`
 abbrev costs : ℕ → ℕ → Cost
@@ -105,5 +96,27 @@ all-agree = tt
 pub first-byte : (b : ℕ) → b < 256 → TimedFrom b (from b .bytes) (from b .cycles)
 first-byte b h ds = timed (b / 16) (b % 16) (from b .bytes) (from b .cycles) ds (at agreeing 256 all-agree b h)
 
-pub by-first : (b : ℕ) → b < 256 → (r : Cost) → r ≡ from b → TimedFrom b (r .bytes) (r .cycles)
-by-first b h r e = rw e (first-byte b h)
+-- two tests that come out alike
+abbrev pub same : Bool → Bool → Bool
+same true b = b
+same false b = not b
+
+pub same-of : (a b : Bool) → T (same a b) → a ≡ b
+same-of true true t = refl
+same-of true false t = absurd t
+same-of false true t = absurd t
+same-of false false t = refl
+
+-- no bytes exactly where no row begins
+abbrev none : ℕ → Bool
+none b = same (eqb (from b .bytes) 0) (not (beginSome (digits (b ∷ []))))
+
+all-none : T (below 256 none)
+unfolding beginSome lines
+all-none = tt
+
+pub none-from : (b : ℕ) → b < 256 → NoneFrom b (from b .bytes)
+none-from b h = same-of (eqb (from b .bytes) 0) (not (beginSome (digits (b ∷ [])))) (at none 256 all-none b h)
+
+pub by-first : (b : ℕ) → b < 256 → (r : Cost) → r ≡ from b → TimedFrom b (r .bytes) (r .cycles) × NoneFrom b (r .bytes)
+by-first b h r e = rw e (first-byte b h, none-from b h)

@@ -2,8 +2,11 @@ pub mod Winning
 pub mod FirstBytes
 pub mod ReadAs
 pub mod Prefix
+pub mod Lengths
 pub mod Operands
 pub mod WellFormed
 pub mod Meeting
 pub mod Apart
 pub mod Wins
+pub mod Left
+pub mod Ends

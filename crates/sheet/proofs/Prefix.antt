@@ -4,22 +4,19 @@ use mathlib.Core.Bool.{Bool, true, false, not}
 use mathlib.Core.Logic.{_⊎_, inl, inr, ⊎-elim}
 use mathlib.Core.List.{List, [], _∷_}
 use Prim.Native.String.{String}
-use Prim.Native.Nat.{ℕ, zero, suc, _+_, _*_, _/_, _%_, _<_}
+use Prim.Native.Nat.{ℕ, zero, suc, _+_, _≤_}
 use native.Mathlib.Omega.{arith}
 use native.Mathlib.Numerals.{one-add}
 use lib.Dec.{T, T-not, eqb, eqb→eq, ltb}
 use lib.ListN.{take, length}
-use lib.Seq.{take-nil}
 use Rattle.laws.specs.Choice.{pick, both}
-use Rattle.laws.proofs.Computed.{implies, modus, below, at, both-left, both-right}
-use Rattle.sheet.specs.Code.{Group, hasDigit, fits, fixedBits, Operand, absent, valueOf, gives, operandFrom, digits}
+use Rattle.laws.proofs.Computed.{implies, modus, both-left, both-right}
+use Rattle.sheet.specs.Code.{Group, hasDigit, fits, fixedBits, Operand, absent, valueOf, gives, operandFrom}
 use Rattle.sheet.specs.Table.{Code, Line, lines, lineAt}
-use Rattle.sheet.specs.Reading.{bitsFixedIfFits, over, Winner, winner, codeOf, insn, assigned, rowNumber, rowWith, readDigits, readBytes, bytesOf}
-use Rattle.sheet.specs.declared.Insn.{Insn}
+use Rattle.sheet.specs.Reading.{bitsFixedIfFits, over, Winner, winner, codeOf, insn, assigned, rowNumber, rowWith, readDigits, begins}
 use Rattle.sheet.specs.declared.Read.the-variants.{Row, Unassigned}
 use Rattle.sheet.proofs.Winning.{At, here, there, line-at, Fitting, winner-is}
-use Rattle.sheet.proofs.FirstBytes.{begins, begins-of, from, first-byte}
-use Rattle.sheet.proofs.ReadAs.{row-of, has-row}
+use Rattle.sheet.proofs.FirstBytes.{begins-of}
 
 -- groups look at as many digits as they are
 pub fits-take : (gs : List Group) (ds : List ℕ) → fits gs ds ≡ fits gs (take (length gs) ds)
@@ -27,25 +24,35 @@ fits-take [] ds = refl
 fits-take (g ∷ gs) [] = refl
 fits-take (g ∷ gs) (d ∷ ds) = ap (both (hasDigit g d)) (fits-take gs ds)
 
+fits-length : (gs : List Group) (ds : List ℕ) → T (fits gs ds) → length gs ≤ length ds
+fits-length [] ds t = omega arith
+fits-length (g ∷ gs) [] t = absurd t
+fits-length (g ∷ gs) (d ∷ ds) t = let h : length gs ≤ length ds = fits-length gs ds (both-right (hasDigit g d) (fits gs ds) t) in omega arith
+
 pub operand-take : (o : Operand) (ls : String) (gs : List Group) (ds : List ℕ) → operandFrom o ls gs ds ≡ operandFrom o ls gs (take (length gs) ds)
 operand-take o ls [] ds = refl
 operand-take o ls (g ∷ gs) [] = refl
 operand-take o ls (g ∷ gs) (d ∷ ds) = operand-take (gives ls g d o) ls gs ds
 
-no-start : (a b x y : Bool) → both a b ≡ false → both a (both b x) ≡ both a (both b y)
-no-start true true x y e = absurd (subst T e tt)
-no-start true false x y e = refl
-no-start false b x y e = refl
+begins-none : (gs : List Group) → T (begins gs [])
+begins-none [] = tt
+begins-none (g ∷ gs) = tt
+
+no-start : (a b c x y : Bool) → T c → both a (both b c) ≡ false → both a (both b x) ≡ both a (both b y)
+no-start true true true x y t e = absurd (subst T e tt)
+no-start true true false x y t e = absurd t
+no-start true false c x y t e = refl
+no-start false b c x y t e = refl
 
 not-zero : (n : ℕ) → suc n ≡ 0 → ⊥
 not-zero n e = omega arith
 
 -- each code that begins with the digits h and l has m groups
-abbrev wideCodes : List Code → ℕ → ℕ → ℕ → Bool
+abbrev pub wideCodes : List Code → ℕ → ℕ → ℕ → Bool
 wideCodes [] h l m = true
-wideCodes (c ∷ cs) h l m = both (implies (begins (c .groups) h l) (eqb (length (c .groups)) m)) (wideCodes cs h l m)
+wideCodes (c ∷ cs) h l m = both (implies (begins (c .groups) (h ∷ l ∷ [])) (eqb (length (c .groups)) m)) (wideCodes cs h l m)
 
-abbrev wide : List Line → ℕ → ℕ → ℕ → Bool
+abbrev pub wide : List Line → ℕ → ℕ → ℕ → Bool
 wide [] h l m = true
 wide (r ∷ rs) h l m = both (wideCodes (r .codes) h l m) (wide rs h l m)
 
@@ -61,29 +68,29 @@ module _ (h l m : ℕ) (xs ys : List ℕ) (same : take m (h ∷ l ∷ xs) ≡ ta
   es = h ∷ l ∷ ys
 
   -- groups that do not begin with h and l fit neither; those that do are as many as the digits that agree
-  fits-by : (gs : List Group) (t : Bool) → begins gs h l ≡ t → (T t → length gs ≡ m) → fits gs ds ≡ fits gs es
+  fits-by : (gs : List Group) (t : Bool) → begins gs (h ∷ l ∷ []) ≡ t → (T t → length gs ≡ m) → fits gs ds ≡ fits gs es
   fits-by [] t e w = refl
   fits-by (g ∷ []) t e w = refl
-  fits-by (g ∷ k ∷ gs) false e w = no-start (hasDigit g h) (hasDigit k l) (fits gs xs) (fits gs ys) e
+  fits-by (g ∷ k ∷ gs) false e w = no-start (hasDigit g h) (hasDigit k l) (begins gs []) (fits gs xs) (fits gs ys) (begins-none gs) e
   fits-by (g ∷ k ∷ gs) true e w =
       fits-take (g ∷ k ∷ gs) ds ∙ (ap (λ (n : ℕ). fits (g ∷ k ∷ gs) (take n ds)) (w tt) ∙ (ap (fits (g ∷ k ∷ gs)) same ∙ (ap (λ (n : ℕ). fits (g ∷ k ∷ gs) (take n es)) (sym (w tt)) ∙ sym (fits-take (g ∷ k ∷ gs) es))))
 
-  same-fits : (c : Code) → T (implies (begins (c .groups) h l) (eqb (length (c .groups)) m)) → fits (c .groups) ds ≡ fits (c .groups) es
-  same-fits c t = fits-by (c .groups) (begins (c .groups) h l) refl (λ b. eqb→eq (length (c .groups)) m (modus (begins (c .groups) h l) (eqb (length (c .groups)) m) t b))
+  same-fits : (c : Code) → T (implies (begins (c .groups) (h ∷ l ∷ [])) (eqb (length (c .groups)) m)) → fits (c .groups) ds ≡ fits (c .groups) es
+  same-fits c t = fits-by (c .groups) (begins (c .groups) (h ∷ l ∷ [])) refl (λ b. eqb→eq (length (c .groups)) m (modus (begins (c .groups) (h ∷ l ∷ [])) (eqb (length (c .groups)) m) t b))
 
   same-claim : (cs : List Code) → T (wideCodes cs h l m) → bitsFixedIfFits cs ds ≡ bitsFixedIfFits cs es
   same-claim [] t = refl
   same-claim (c ∷ cs) t =
-      let f = same-fits c (both-left (implies (begins (c .groups) h l) (eqb (length (c .groups)) m)) (wideCodes cs h l m) t) in
-      let g = same-claim cs (both-right (implies (begins (c .groups) h l) (eqb (length (c .groups)) m)) (wideCodes cs h l m) t) in
+      let f = same-fits c (both-left (implies (begins (c .groups) (h ∷ l ∷ [])) (eqb (length (c .groups)) m)) (wideCodes cs h l m) t) in
+      let g = same-claim cs (both-right (implies (begins (c .groups) (h ∷ l ∷ [])) (eqb (length (c .groups)) m)) (wideCodes cs h l m) t) in
       (λ i. pick (f i) (fixedBits (c .groups)) (g i))
 
   same-code : (cs : List Code) → T (wideCodes cs h l m) → codeOf cs ds ≡ codeOf cs es
   same-code [] t = refl
   same-code (c ∷ []) t = refl
   same-code (c ∷ d ∷ cs) t =
-      let f = same-fits c (both-left (implies (begins (c .groups) h l) (eqb (length (c .groups)) m)) (wideCodes (d ∷ cs) h l m) t) in
-      let g = same-code (d ∷ cs) (both-right (implies (begins (c .groups) h l) (eqb (length (c .groups)) m)) (wideCodes (d ∷ cs) h l m) t) in
+      let f = same-fits c (both-left (implies (begins (c .groups) (h ∷ l ∷ [])) (eqb (length (c .groups)) m)) (wideCodes (d ∷ cs) h l m) t) in
+      let g = same-code (d ∷ cs) (both-right (implies (begins (c .groups) (h ∷ l ∷ [])) (eqb (length (c .groups)) m)) (wideCodes (d ∷ cs) h l m) t) in
       (λ i. pick (f i) c (g i))
 
   same-winner : (ls : List Line) (n : ℕ) → T (wide ls h l m) → winner ls n ds ≡ winner ls n es
@@ -98,8 +105,8 @@ module _ (h l m : ℕ) (xs ys : List ℕ) (same : take m (h ∷ l ∷ xs) ≡ ta
   same-number t = ap (λ (w : Winner). w .row) (same-winner lines 1 t)
 
   -- the code that was read has m groups
-  width-of : (c : Code) → T (implies (begins (c .groups) h l) (eqb (length (c .groups)) m)) → T (fits (c .groups) ds) → length (c .groups) ≡ m
-  width-of c t f = eqb→eq (length (c .groups)) m (modus (begins (c .groups) h l) (eqb (length (c .groups)) m) t (begins-of (c .groups) h l xs f))
+  width-of : (c : Code) → T (implies (begins (c .groups) (h ∷ l ∷ [])) (eqb (length (c .groups)) m)) → T (fits (c .groups) ds) → length (c .groups) ≡ m
+  width-of c t f = eqb→eq (length (c .groups)) m (modus (begins (c .groups) (h ∷ l ∷ [])) (eqb (length (c .groups)) m) t (begins-of (c .groups) (h ∷ l ∷ []) xs f))
 
   width-by : (t : Bool) (c d : Code) → (T t → length (c .groups) ≡ m) → (T (not t) → length (d .groups) ≡ m) → length (pick t c d .groups) ≡ m
   width-by true c d p q = p tt
@@ -107,12 +114,12 @@ module _ (h l m : ℕ) (xs ys : List ℕ) (same : take m (h ∷ l ∷ xs) ≡ ta
 
   chosen-width : (cs : List Code) → T (wideCodes cs h l m) → Fitting cs ds → length (codeOf cs ds .groups) ≡ m
   chosen-width [] t f = absurd f
-  chosen-width (c ∷ []) t (inl f) = width-of c (both-left (implies (begins (c .groups) h l) (eqb (length (c .groups)) m)) true t) f
+  chosen-width (c ∷ []) t (inl f) = width-of c (both-left (implies (begins (c .groups) (h ∷ l ∷ [])) (eqb (length (c .groups)) m)) true t) f
   chosen-width (c ∷ []) t (inr f) = absurd f
   chosen-width (c ∷ d ∷ cs) t f =
       width-by (fits (c .groups) ds) c (codeOf (d ∷ cs) ds)
-      (width-of c (both-left (implies (begins (c .groups) h l) (eqb (length (c .groups)) m)) (wideCodes (d ∷ cs) h l m) t))
-      (λ n. chosen-width (d ∷ cs) (both-right (implies (begins (c .groups) h l) (eqb (length (c .groups)) m)) (wideCodes (d ∷ cs) h l m) t) (⊎-elim (λ g. absurd (T-not (fits (c .groups) ds) n g)) (λ g. g) f))
+      (width-of c (both-left (implies (begins (c .groups) (h ∷ l ∷ [])) (eqb (length (c .groups)) m)) (wideCodes (d ∷ cs) h l m) t))
+      (λ n. chosen-width (d ∷ cs) (both-right (implies (begins (c .groups) (h ∷ l ∷ [])) (eqb (length (c .groups)) m)) (wideCodes (d ∷ cs) h l m) t) (⊎-elim (λ g. absurd (T-not (fits (c .groups) ds) n g)) (λ g. g) f))
 
   same-operand : (o : Operand) (ls : String) (gs : List Group) → length gs ≡ m → operandFrom o ls gs ds ≡ operandFrom o ls gs es
   same-operand o ls gs w =
@@ -151,29 +158,14 @@ module _ (h l m : ℕ) (xs ys : List ℕ) (same : take m (h ∷ l ∷ xs) ≡ ta
   unfolding rowNumber
   fair t = winner-is (λ (n : ℕ). Fair n) ds lines 1 fair-none (fair-line t)
 
-  same-read : T (wide lines h l m) → readDigits ds ≡ readDigits es
+  -- and has as many digits as its code groups
+  fitting-wide : (cs : List Code) → T (wideCodes cs h l m) → Fitting cs ds → m ≤ length ds
+  fitting-wide [] t f = absurd f
+  fitting-wide (c ∷ cs) t (inl f) = rw (← width-of c (both-left (implies (begins (c .groups) (h ∷ l ∷ [])) (eqb (length (c .groups)) m)) (wideCodes cs h l m) t) f) (fits-length (c .groups) ds f)
+  fitting-wide (c ∷ cs) t (inr f) = fitting-wide cs (both-right (implies (begins (c .groups) (h ∷ l ∷ [])) (eqb (length (c .groups)) m)) (wideCodes cs h l m) t) f
+
+  pub row-wide : T (wide lines h l m) → (rowNumber ds ≡ 0 → ⊥) → m ≤ length ds
+  row-wide t some = fitting-wide (lineAt (rowNumber ds) .codes) (fair t .width) (⊎-elim (λ e. absurd (some e)) (λ f. f) (fair t .fitting))
+
+  pub same-read : T (wide lines h l m) → readDigits ds ≡ readDigits es
   same-read t = same-row t (rowNumber ds) (fair t .fitting) (fair t .width) ∙ ap (λ (n : ℕ). rowWith n es) (same-number t)
-
-abbrev allWide : ℕ → Bool
-allWide b = wide lines (b / 16) (b % 16) (2 * (from b .bytes))
-
--- one test over all first bytes
-all-wide : T (below 256 allWide)
-unfolding lines
-all-wide = tt
-
-double : (n : ℕ) → 2 * suc n ≡ suc (suc (2 * n))
-double n = omega arith
-
-digits-take : (n : ℕ) (bs : List ℕ) → take (2 * n) (digits bs) ≡ digits (take n bs)
-digits-take n [] = take-nil (2 * n) ∙ ap digits (sym (take-nil n))
-digits-take zero (b ∷ bs) = refl
-digits-take (suc n) (b ∷ bs) = rw (double n) (ap (λ (ds : List ℕ). b / 16 ∷ b % 16 ∷ ds) (digits-take n bs))
-
--- two codes with the same first byte that agree in as many bytes as the row has are read alike
-pub past-length : (b : ℕ) (bs cs : List ℕ) (i : Insn) → b < 256 → readBytes (b ∷ bs) ≡ Row i → take (bytesOf (i .row)) (b ∷ bs) ≡ take (bytesOf (i .row)) (b ∷ cs) → readBytes (b ∷ cs) ≡ Row i
-past-length b bs cs i below256 e same =
-    let n : bytesOf (i .row) ≡ from b .bytes = ap bytesOf (row-of (digits (b ∷ bs)) i e) ∙ first-byte b below256 (digits bs) (has-row (digits (b ∷ bs)) i e) .bytes in
-    let agree : take (2 * (from b .bytes)) (digits (b ∷ bs)) ≡ take (2 * (from b .bytes)) (digits (b ∷ cs)) =
-    rw (← n) (digits-take (bytesOf (i .row)) (b ∷ bs) ∙ (ap digits same ∙ sym (digits-take (bytesOf (i .row)) (b ∷ cs)))) in
-    sym (same-read (b / 16) (b % 16) (2 * (from b .bytes)) (digits bs) (digits cs) agree (at allWide 256 all-wide b below256)) ∙ e

@@ -12,7 +12,7 @@ use Rattle.laws.specs.Choice.{pick, both}
 use Rattle.laws.proofs.Computed.{both-left, both-right}
 use Rattle.sheet.specs.Code.{operandFrom, valueOf, absent}
 use Rattle.sheet.specs.Table.{Code, Line, lines, lineIn, lineAt, no-line}
-use Rattle.sheet.specs.Reading.{codeOf, withOperands, rowNumber, rowWith, readDigits, bytesOf}
+use Rattle.sheet.specs.Reading.{codeOf, withOperands, rowNumber, rowWith, readDigits, readBytes, bytesOf}
 use Rattle.sheet.specs.declared.Insn.{Insn}
 use Rattle.sheet.specs.declared.Read.the-variants.{Row, Unassigned}
 use Rattle.sheet.proofs.Winning.{At, here, there, line-at, winner-is}
@@ -44,6 +44,11 @@ row-of ds i e = ap (λ (j : Insn). j .row) (row-with (rowNumber ds) ds i e .insn
 
 pub has-row : (ds : List ℕ) (i : Insn) → readDigits ds ≡ Row i → rowNumber ds ≡ 0 → ⊥
 has-row ds i e = row-with (rowNumber ds) ds i e .row
+
+-- no bytes are no row's
+pub nothing-read : (i : Insn) → readBytes [] ≡ Row i → ⊥
+unfolding rowNumber
+nothing-read i e = row-with 0 [] i e .row refl
 
 -- each row has one to three bytes
 abbrev short : List Line → Bool

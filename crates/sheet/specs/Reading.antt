@@ -1,15 +1,16 @@
--- What a code is, by document 01's general rules over the table: a row with its operands, or unassigned.
-use Prim.Native.Nat.{ℕ, zero, suc, _+_, _%_}
+-- What a code is, by document 01's general rules over the table: a row with its operands, unassigned, or one whose bytes pass the end of the image.
+use Prim.Native.Nat.{ℕ, zero, suc, _+_, _-_, _%_}
 use mathlib.Core.List.{List, [], _∷_}
-use lib.Dec.{ltb}
-use lib.ListN.{getD}
+use mathlib.Core.Bool.{Bool, true, false}
+use lib.Dec.{eqb, ltb}
+use lib.ListN.{getD, take}
 use Rattle.numbers.specs.Sizes.{addresses}
-use Rattle.laws.specs.Choice.{pick}
-use Rattle.sheet.specs.Code.{fits, fixedBits, absent, valueOf, operandFrom, digits}
+use Rattle.laws.specs.Choice.{pick, both, either}
+use Rattle.sheet.specs.Code.{Group, hasDigit, fits, fixedBits, absent, valueOf, operandFrom, digits}
 use Rattle.sheet.specs.Table.{Code, Line, lines, lineAt}
 use Rattle.sheet.specs.declared.Insn.{Insn}
 use Rattle.sheet.specs.declared.Read.{Read}
-use Rattle.sheet.specs.declared.Read.the-variants.{Row, Unassigned}
+use Rattle.sheet.specs.declared.Read.the-variants.{Row, Unassigned, PastEnd}
 
 -- how many bits of the digits a row fixes, by the one of its codes that they begin with; 0 where they begin with none
 abbrev pub bitsFixedIfFits : List Code → List ℕ → ℕ
@@ -66,16 +67,45 @@ readDigits ds = rowWith (rowNumber ds) ds
 abbrev pub readBytes : List ℕ → Read
 readBytes bs = readDigits (digits bs)
 
--- "Fetch and PC wrap at 8192."
-abbrev pub wrapped : ℕ → ℕ → ℕ
-wrapped at n = (at + n) % addresses
+-- the digits begin the groups: they are the first of some code that has them, or all of one and more
+abbrev pub begins : List Group → List ℕ → Bool
+begins [] ds = true
+begins (g ∷ gs) [] = true
+begins (g ∷ gs) (d ∷ ds) = both (hasDigit g d) (begins gs ds)
 
+abbrev pub beginCode : List Code → List ℕ → Bool
+beginCode [] ds = false
+beginCode (c ∷ cs) ds = either (begins (c .groups) ds) (beginCode cs ds)
+
+abbrev pub beginRow : List Line → List ℕ → Bool
+beginRow [] ds = false
+beginRow (l ∷ ls) ds = either (beginCode (l .codes) ds) (beginRow ls ds)
+
+unfoldable pub beginSome : List ℕ → Bool
+unfolding lines
+beginSome ds = beginRow lines ds
+
+-- Q-8: "An instruction whose bytes pass the end of the image is now a fault of its own .. given when the bytes left before the end are too few but still begin some row; when they begin none it is 30 as before."
+abbrev pub tooFew : List ℕ → Bool
+tooFew ds = both (eqb (rowNumber ds) 0) (beginSome ds)
+
+abbrev pub readLeft : List ℕ → Read
+readLeft bs = pick (tooFew (digits bs)) PastEnd (readBytes bs)
+
+-- the byte at an address and the two behind it; and those of them that are left before the end
 abbrev pub fetched : (ℕ → ℕ) → ℕ → List ℕ
-fetched rom at = rom at ∷ rom (wrapped at 1) ∷ rom (wrapped at 2) ∷ []
+fetched rom at = rom at ∷ rom (at + 1) ∷ rom (at + 2) ∷ []
+
+abbrev pub left : (ℕ → ℕ) → ℕ → List ℕ
+left rom at = take (addresses - at) (fetched rom at)
 
 -- what stands at an address of a ROM
 abbrev pub readAt : (ℕ → ℕ) → ℕ → Read
-readAt rom at = readBytes (fetched rom at)
+readAt rom at = readLeft (left rom at)
+
+-- PC wraps at 8192: "a one-byte instruction at the last address still moves PC to 0"
+abbrev pub wrapped : ℕ → ℕ → ℕ
+wrapped at n = (at + n) % addresses
 
 abbrev pub romOf : List ℕ → ℕ → ℕ
 romOf image at = getD image at 0

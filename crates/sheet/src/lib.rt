@@ -4,7 +4,7 @@ pub mod rows;
 
 ghost use mathlib.Core.Path.{_≡_};
 ghost use Prim.Native.Nat.{_/_};
-ghost use Rattle.sheet.specs.Timing.{TimedFrom};
+ghost use Rattle.sheet.specs.Timing.{TimedFrom, NoneFrom};
 
 // One row by its number, and its operands: a is its x, k, a, b, r or n, and b its y or p; 0 for one that it does not have.
 pub struct Insn {
@@ -16,6 +16,7 @@ pub struct Insn {
 pub enum Read {
     Row(Insn),
     Unassigned,
+    PastEnd,
 }
 
 pub struct Cost {
@@ -36,6 +37,7 @@ fn costs(bytes: u8, cycles: u8) -> Cost
 fn timing_4(first: u8) -> Cost
     requires { ⌜ first / 16 ≡ 4 ⌝ }
     ensures { λ r. ⌜ TimedFrom first (r .bytes) (r .cycles) ⌝ }
+    ensures { λ r. ⌜ NoneFrom first (r .bytes) ⌝ }
 {
     match first {
         0x4D => costs(1, 2),
@@ -48,6 +50,7 @@ fn timing_4(first: u8) -> Cost
 fn timing_5(first: u8) -> Cost
     requires { ⌜ first / 16 ≡ 5 ⌝ }
     ensures { λ r. ⌜ TimedFrom first (r .bytes) (r .cycles) ⌝ }
+    ensures { λ r. ⌜ NoneFrom first (r .bytes) ⌝ }
 {
     match first {
         0x54 => costs(0, 0),
@@ -61,6 +64,7 @@ fn timing_5(first: u8) -> Cost
 fn timing_6(first: u8) -> Cost
     requires { ⌜ first / 16 ≡ 6 ⌝ }
     ensures { λ r. ⌜ TimedFrom first (r .bytes) (r .cycles) ⌝ }
+    ensures { λ r. ⌜ NoneFrom first (r .bytes) ⌝ }
 {
     if first == 0x63 {
         return costs(2, 2);
@@ -75,6 +79,7 @@ fn timing_6(first: u8) -> Cost
 fn timing_7(first: u8) -> Cost
     requires { ⌜ first / 16 ≡ 7 ⌝ }
     ensures { λ r. ⌜ TimedFrom first (r .bytes) (r .cycles) ⌝ }
+    ensures { λ r. ⌜ NoneFrom first (r .bytes) ⌝ }
 {
     match first {
         0x77 => costs(0, 0),
@@ -86,6 +91,7 @@ fn timing_7(first: u8) -> Cost
 // The length and the cycles of whatever row begins with the byte, by the bit patterns of the rows; 0 where none does.
 pub fn timing(first: u8) -> Cost
     ensures { λ r. ⌜ TimedFrom first (r .bytes) (r .cycles) ⌝ }
+    ensures { λ r. ⌜ NoneFrom first (r .bytes) ⌝ }
 {
     match first / 16 {
         4 => timing_4(first),

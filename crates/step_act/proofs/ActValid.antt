@@ -61,6 +61,7 @@ module _ (rom : ℕ → ℕ) (sound : Bool) (m : Machine) (valid : Valid m) (run
       let f = read-in-fields rom (m .core .pc) i e bytes in
       executed-valid (record { rom = rom; sound = sound; insn = i }) m valid running bytes (f .row) (f .a)
   read-valid Read.Unassigned e = valid
+  read-valid Read.PastEnd e = valid
 
   run-valid : Valid (runOne rom sound m .machine)
   unfolding runOne

@@ -1,13 +1,15 @@
 -- From what the parts give to what the definitions of a turn say.
-use mathlib.Core.Path.{_≡_, sym, ap, subst, _∙_}
+use mathlib.Core.Path.{_≡_, refl, sym, ap, subst, _∙_}
 use mathlib.Core.Bool.{Bool, true, false}
 use mathlib.Core.List.{List}
 use Prim.Native.Nat.{ℕ, _<_, _≤_}
 use borrow.Author.Tests.{lt-ltb, le-ltb}
-use Rattle.numbers.specs.ComesBack.{stack-level, unassigned-code}
+use Rattle.numbers.specs.ComesBack.{stack-level}
 use Rattle.sheet.specs.Reading.{readAt}
 use Rattle.sheet.specs.declared.Insn.{Insn}
 use Rattle.sheet.specs.declared.Read.{Read}
+use Rattle.reader.specs.Answer.{stopOf}
+use Rattle.reader.proofs.NoRow.{NoRow, no-row}
 use Rattle.ports.specs.declared.Mode.{Mode}
 use Rattle.machine.specs.Stack.{canPush, accepted}
 use Rattle.machine.specs.Valid.{Valid}
@@ -16,7 +18,7 @@ use Rattle.row.specs.Rows.{Done, spent}
 use Rattle.machine.specs.With.{assembled}
 use Rattle.row.specs.declared.Turn.{Turn}
 use Rattle.row_dispatch.specs.Performs.{Performs}
-use Rattle.step_act.specs.Act.{sourceOf, acceptOf, runOne, acceptOrRun, coreIn, coreAfter, actOf}
+use Rattle.step_act.specs.Act.{sourceOf, acceptOf, runRead, runOne, acceptOrRun, coreIn, coreAfter, actOf}
 use Rattle.row.specs.Turns.{stoppedTurn, Gives}
 
 module _ (m : Core) (l : List ℕ) (source : ℕ) where
@@ -28,9 +30,9 @@ module _ (m : Core) (l : List ℕ) (source : ℕ) where
   unfolding acceptOf
   accepts k x h g = record { same = g .same ∙ rw h }
 
-pub none-read : (rom : ℕ → ℕ) (sound : Bool) (m : Core) (l : List ℕ) → readAt rom (m .pc) ≡ Read.Unassigned → Gives (runOne rom sound (assembled m l)) l (stoppedTurn m unassigned-code)
+pub none-read : (rom : ℕ → ℕ) (sound : Bool) (m : Core) (l : List ℕ) (r : Read) → r ≡ readAt rom (m .pc) → NoRow r → Gives (runOne rom sound (assembled m l)) l (stoppedTurn m (stopOf r))
 unfolding runOne
-none-read rom sound m l e = record { same = rw e }
+none-read rom sound m l r e t = rw (← e) (no-row r (λ (s : Read). Gives (runRead rom sound (assembled m l) s) l (stoppedTurn m (stopOf s))) t (record { same = refl }) (record { same = refl }))
 
 module _ (rom : ℕ → ℕ) (sound : Bool) (m : Core) (l k : List ℕ) where
   pub row-read : (i : Insn) (x : Turn) → readAt rom (m .pc) ≡ Read.Row i → Performs rom sound m i l k x → Gives (runOne rom sound (assembled m l)) k x

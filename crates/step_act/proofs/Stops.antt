@@ -29,6 +29,7 @@ module _ (rom : ℕ → ℕ) (sound : Bool) (m : Machine) where
   read-keeps (Read.Row i) =
       λ z. ap (λ (x : Done). x .machine) (stop-undone m (record { rom = rom; sound = sound; insn = i }) (lineAt (i .row)) (lineAt (i .row) .operation) z)
   read-keeps Read.Unassigned = λ z. refl
+  read-keeps Read.PastEnd = λ z. refl
 
   pub turn-keeps : Keeps m (acceptOrRun rom sound m)
   unfolding acceptOrRun runOne

@@ -4,9 +4,10 @@ use mathlib.Core.Bool.{Bool}
 use lib.Dec.{ltb}
 use Rattle.laws.specs.Choice.{pick}
 use Rattle.bits.specs.Bits.{hasBit}
-use Rattle.numbers.specs.ComesBack.{unassigned-code, stack-level}
+use Rattle.numbers.specs.ComesBack.{stack-level}
 use Rattle.sheet.specs.Reading.{readAt}
 use Rattle.sheet.specs.declared.Read.{Read}
+use Rattle.reader.specs.Answer.{stopOf}
 use Rattle.clock.specs.Clock.{passed}
 use Rattle.clock.specs.declared.Rates.{Rates}
 use Rattle.ports.specs.declared.Mode.{Mode}
@@ -26,10 +27,11 @@ unfoldable pub acceptOf : Machine → ℕ → Done
 acceptOf m source =
     pick (canPush (m .core)) (spent 2 (accepted m source)) (stops stack-level m)
 
--- "Otherwise one instruction runs.", or is an unassigned code
+-- "Otherwise one instruction runs."; what is no row stops with its number, 30 or 35
 abbrev pub runRead : (ℕ → ℕ) → Bool → Machine → Read → Done
 runRead rom sound m (Read.Row i) = executed (record { rom = rom; sound = sound; insn = i }) m
-runRead rom sound m Read.Unassigned = stops unassigned-code m
+runRead rom sound m Read.Unassigned = stops (stopOf Read.Unassigned) m
+runRead rom sound m Read.PastEnd = stops (stopOf Read.PastEnd) m
 
 unfoldable pub runOne : (ℕ → ℕ) → Bool → Machine → Done
 runOne rom sound m = runRead rom sound m (readAt rom (m .core .pc))

@@ -7,9 +7,9 @@ use machine::Ram;
 use machine::interrupts_of;
 use machine::stack::can_push;
 use numbers::STACK_LEVEL;
-use numbers::UNASSIGNED_CODE;
 use ports::Mode;
 use reader::read_at;
+use reader::stop_of;
 use row::Turn;
 use row::held;
 use row::moved_on;
@@ -37,13 +37,14 @@ fn accept(m: Core, ram: &mut Ram, source: u8) -> Turn
     moved_on(held(m, ram).accept(source), ram)
 }
 
-// The row at PC, or stop 30.
+// The row at PC, or the stop of what is no row.
 fn run_one(image: &[u8], sound: bool, m: Core, ram: &mut Ram) -> Turn
     requires { ⌜ (ValidCore m) × (Nibbles (now ram)) × (length (now image) ≡ imageBytes) ⌝ }
     ensures { λ x. ⌜ Gives (runOne (romOf (now (image .entry))) sound (record { core = m; ram = now (ram .entry) })) (now (ram .exit)) x ⌝ }
 {
-    let Read::Row(insn) = read_at(image, m.pc) else {
-        return stopped(m, UNASSIGNED_CODE);
+    let read = read_at(image, m.pc);
+    let Read::Row(insn) = read else {
+        return stopped(m, stop_of(read));
     };
     perform(image, sound, m, ram, insn)
 }

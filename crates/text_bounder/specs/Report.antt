@@ -36,6 +36,7 @@ pathLineOf rom at total = columnsOf rom at ++ (characters " " ++ (rightAligned 5
 abbrev pub cyclesRead : Read → ℕ
 cyclesRead (Read.Row i) = cyclesOf (i .row)
 cyclesRead Read.Unassigned = 0
+cyclesRead Read.PastEnd = 0
 
 abbrev pub cyclesAt : (ℕ → ℕ) → ℕ → ℕ
 cyclesAt rom at = cyclesRead (readAt rom at)

@@ -2,10 +2,10 @@
 use mathlib.Core.Path.{_≡_, refl}
 use mathlib.Core.List.{List, [], _∷_}
 use Prim.Native.Nat.{ℕ}
-use Rattle.sheet.specs.Reading.{readBytes, rowNumber, rowWith, romOf}
+use Rattle.sheet.specs.Reading.{readBytes, rowNumber, rowWith, beginSome, romOf}
 use Rattle.sheet.specs.Table.{lineAt}
 use Rattle.sheet.specs.declared.Read.{Read}
-use Rattle.sheet.specs.declared.Read.the-variants.{Row, Unassigned}
+use Rattle.sheet.specs.declared.Read.the-variants.{Row, Unassigned, PastEnd}
 use Rattle.text_digits.specs.Digits.{characters, digit, inBase, placesOf}
 use Rattle.text_notation.specs.Notation.{goesTo, sign, rowText}
 use Rattle.text_lister.specs.Listing.{lineOf}
@@ -13,6 +13,7 @@ use Rattle.text_lister.specs.Listing.{lineOf}
 abbrev codeText : ℕ → Read → List ℕ
 codeText at (Row i) = rowText at i
 codeText at Unassigned = characters "refused 30"
+codeText at PastEnd = characters "refused 35"
 
 -- a code of two bytes that stands at 0014h
 abbrev shown : ℕ → ℕ → List ℕ
@@ -38,3 +39,10 @@ two-lines : (lineOf rom 0 ≡ characters "0000  6A 20     LDA 20h          2 2\n
     × (lineOf rom 2 ≡ characters "0002  6E 61     ANDA #1h         2 2\n")
 unfolding lineOf lineAt rowNumber rowWith goesTo sign digit inBase placesOf
 two-lines = (refl, refl)
+
+-- at the last address: a row of one byte, the first byte of a longer one, and one that begins none
+last-lines : (lineOf (λ at. 0x56) 0x1FFF ≡ characters "1FFF  56        NOP              1 1\n")
+    × (lineOf (λ at. 0x6A) 0x1FFF ≡ characters "1FFF  6A        refused 35\n")
+    × (lineOf (λ at. 0x54) 0x1FFF ≡ characters "1FFF  54        refused 30\n")
+unfolding lineOf lineAt rowNumber rowWith beginSome goesTo sign digit inBase placesOf
+last-lines = (refl, refl, refl)

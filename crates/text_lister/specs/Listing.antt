@@ -8,7 +8,8 @@ use Rattle.laws.specs.Choice.{pick}
 use Rattle.sheet.specs.Reading.{readAt, fetched, bytesOf, cyclesOf}
 use Rattle.sheet.specs.declared.Insn.{Insn}
 use Rattle.sheet.specs.declared.Read.{Read}
-use Rattle.sheet.specs.declared.Read.the-variants.{Row, Unassigned}
+use Rattle.sheet.specs.declared.Read.the-variants.{Row, Unassigned, PastEnd}
+use Rattle.reader.specs.Answer.{stopOf}
 use Rattle.text_digits.specs.Digits.{characters, joined, inBase, hex, blanks, padded}
 use Rattle.text_notation.specs.Notation.{rowText}
 
@@ -31,13 +32,14 @@ rowColumns rom at i n t =
     inBase 10 1 t ∷
     [])
 
--- "An unassigned code is one line with its first byte in the bytes' column and `refused 30` in the row's, nothing after"
-abbrev pub refusedColumns : ℕ → List ℕ
-refusedColumns b = joined (padded 8 (hex 2 b) ∷ blanks 2 ∷ characters "refused 30" ∷ [])
+-- "An unassigned code is one line with its first byte in the bytes' column and `refused 30` in the row's, nothing after"; "one whose bytes pass the end of the image is shown in the same way with `refused 35`"
+abbrev pub refusedColumns : ℕ → ℕ → List ℕ
+refusedColumns b n = joined (padded 8 (hex 2 b) ∷ blanks 2 ∷ characters "refused " ∷ inBase 10 2 n ∷ [])
 
 abbrev pub codeColumns : (ℕ → ℕ) → ℕ → Read → List ℕ
 codeColumns rom at (Row i) = rowColumns rom at i (bytesOf (i .row)) (cyclesOf (i .row))
-codeColumns rom at Unassigned = refusedColumns (rom at)
+codeColumns rom at Unassigned = refusedColumns (rom at) (stopOf Unassigned)
+codeColumns rom at PastEnd = refusedColumns (rom at) (stopOf PastEnd)
 
 -- "the address in four digits; two blanks"
 abbrev pub columnsOf : (ℕ → ℕ) → ℕ → List ℕ
@@ -46,12 +48,13 @@ columnsOf rom at = hex 4 at ++ (blanks 2 ++ codeColumns rom at (readAt rom at))
 unfoldable pub lineOf : (ℕ → ℕ) → ℕ → List ℕ
 lineOf rom at = columnsOf rom at ++ characters "\n"
 
--- where the sweep goes on: after a row, and after an unassigned code "at the next byte"
+-- where the sweep goes on: after a row, and after what is none "at the next byte"
 abbrev pub sweepNext : ℕ → Read → ℕ
 sweepNext at (Row i) = at + bytesOf (i .row)
 sweepNext at Unassigned = at + 1
+sweepNext at PastEnd = at + 1
 
--- "one row a line, as a sweep from ADDRESS (default 0000) for COUNT lines (decimal, default and at most to the end of the image)"; "A row that begins before the end and wraps is shown whole, and is the last line."
+-- "one row a line, as a sweep from ADDRESS (default 0000) for COUNT lines (decimal, default and at most to the end of the image)"
 unfoldable pub sweptLines : (ℕ → ℕ) → ℕ → ℕ → List ℕ
 sweptLines rom at zero = []
 sweptLines rom at (suc n) = pick (ltb at addresses) (lineOf rom at ++ sweptLines rom (sweepNext at (readAt rom at)) n) []

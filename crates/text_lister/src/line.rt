@@ -1,6 +1,6 @@
 // A line of the listing, and the listing.
-use numbers::IMAGE_BYTES;
 use reader::read_at;
+use reader::stop_of;
 use sheet::Insn;
 use sheet::Read;
 use text_digits::blanks;
@@ -30,7 +30,7 @@ fn byte(out: &mut [u8], from: usize, b: u8) -> usize
 }
 
 fn bytes(out: &mut [u8], from: usize, image: &[u8], at: u16, n: u8) -> usize
-    requires { ⌜ (length (now image) ≡ imageBytes) × (at < addresses) × (from + 8 ≤ length (now out)) ⌝ }
+    requires { ⌜ (length (now image) ≡ imageBytes) × (at + n ≤ addresses) × (from + 8 ≤ length (now out)) ⌝ }
     ensures { λ r. ⌜ Wrote (now (out .entry)) (now (out .exit)) from r (spaced (take n (fetched (romOf (now (image .entry))) at))) ⌝ }
     ensures { λ r. ⌜ r ≤ from + 8 ⌝ }
 {
@@ -43,16 +43,16 @@ fn bytes(out: &mut [u8], from: usize, image: &[u8], at: u16, n: u8) -> usize
         return one;
     }
     let gap = put(out, one, b' ');
-    let two = byte(out, gap, image[(i + 1) % IMAGE_BYTES]);
+    let two = byte(out, gap, image[i + 1]);
     if n == 2 {
         return two;
     }
     let gap = put(out, two, b' ');
-    byte(out, gap, image[(i + 2) % IMAGE_BYTES])
+    byte(out, gap, image[i + 2])
 }
 
 fn bytes_column(out: &mut [u8], from: usize, image: &[u8], at: u16, n: u8) -> usize
-    requires { ⌜ (length (now image) ≡ imageBytes) × (at < addresses) × (from + 8 ≤ length (now out)) ⌝ }
+    requires { ⌜ (length (now image) ≡ imageBytes) × (at + n ≤ addresses) × (from + 8 ≤ length (now out)) ⌝ }
     ensures { λ r. ⌜ Wrote (now (out .entry)) (now (out .exit)) from r (padded 8 (spaced (take n (fetched (romOf (now (image .entry))) at)))) ⌝ }
     ensures { λ r. ⌜ r ≡ from + 8 ⌝ }
 {
@@ -70,7 +70,7 @@ fn row_column(out: &mut [u8], from: usize, at: u16, insn: Insn) -> usize
 }
 
 fn shown(out: &mut [u8], from: usize, image: &[u8], at: u16, insn: Insn, n: u8, t: u8) -> usize
-    requires { ⌜ (length (now image) ≡ imageBytes) × (at < addresses) × (from + 34 ≤ length (now out)) ⌝ }
+    requires { ⌜ (length (now image) ≡ imageBytes) × (at + n ≤ addresses) × (from + 34 ≤ length (now out)) ⌝ }
     ensures { λ r. ⌜ Wrote (now (out .entry)) (now (out .exit)) from r (rowColumns (romOf (now (image .entry))) at insn n t) ⌝ }
     ensures { λ r. ⌜ r ≤ from + 30 ⌝ }
 {
@@ -83,14 +83,15 @@ fn shown(out: &mut [u8], from: usize, image: &[u8], at: u16, insn: Insn, n: u8, 
     number(out, gap, 10, 1, t as u32)
 }
 
-fn refused(out: &mut [u8], from: usize, image: &[u8], at: u16) -> usize
+fn refused(out: &mut [u8], from: usize, image: &[u8], at: u16, refusal: u8) -> usize
     requires { ⌜ (length (now image) ≡ imageBytes) × (at < addresses) × (from + 34 ≤ length (now out)) ⌝ }
-    ensures { λ r. ⌜ Wrote (now (out .entry)) (now (out .exit)) from r (refusedColumns (romOf (now (image .entry)) at)) ⌝ }
+    ensures { λ r. ⌜ Wrote (now (out .entry)) (now (out .exit)) from r (refusedColumns (romOf (now (image .entry)) at) refusal) ⌝ }
     ensures { λ r. ⌜ r ≤ from + 30 ⌝ }
 {
     let end = bytes_column(out, from, image, at, 1);
     let gap = blanks(out, end, 2);
-    put_text(out, gap, b"refused 30")
+    let end = put_text(out, gap, b"refused ");
+    number(out, end, 10, 2, refusal as u32)
 }
 
 // A line without its end, for a program that has more to say on it: at most 36 characters, with room for 40.
@@ -101,8 +102,9 @@ pub fn columns(out: &mut [u8], from: usize, image: &[u8], at: u16) -> usize
 {
     let end = number(out, from, 16, 4, at as u32);
     let gap = blanks(out, end, 2);
-    let Read::Row(insn) = read_at(image, at) else {
-        return refused(out, gap, image, at);
+    let read = read_at(image, at);
+    let Read::Row(insn) = read else {
+        return refused(out, gap, image, at, stop_of(read));
     };
     let cost = sheet::timing(image[at as usize]);
     shown(out, gap, image, at, insn, cost.bytes, cost.cycles)

@@ -15,7 +15,7 @@ use Rattle.sheet.specs.Reading.{readBytes, bytesOf}
 use Rattle.sheet.specs.Timing.{TimedFrom}
 use Rattle.sheet.specs.declared.Insn.{Insn}
 use Rattle.sheet.specs.declared.Read.{Read}
-use Rattle.sheet.specs.declared.Read.the-variants.{Row, Unassigned}
+use Rattle.sheet.specs.declared.Read.the-variants.{Row, Unassigned, PastEnd}
 use Rattle.sheet.proofs.ReadAs.{row-of, has-row, short-row, no-such-row}
 use Rattle.writer.specs.Spelling.{spelling, sameInsn, readsAs}
 use Rattle.writer.specs.Writing.{CodeOf, fromPaper, Writes, code, no-code}
@@ -48,6 +48,7 @@ is-same i j t =
 pub reads-row : (i : Insn) (r : Read) → readsAs i r ≡ true → r ≡ Row i
 reads-row i (Row j) e = ap Row (is-same i j (true→T e))
 reads-row i Unassigned e = absurd (true→T e)
+reads-row i PastEnd e = absurd (true→T e)
 
 -- an instruction has no code where what it spells does not read as it
 pub none-read : (i : Insn) → readsAs i (readBytes (three (spelling i))) ≡ false → (bs : List ℕ) → CodeOf i bs → ⊥
@@ -84,7 +85,7 @@ module _ (i : Insn) (n t : ℕ) (reads : readBytes (three (spelling i)) ≡ Row 
   count = bytes-of i b0 b1 b2 n t reads timed
 
   is-code : CodeOf i (take n (three (spelling i)))
-  is-code = rw count at (spelled-code i b0 b1 b2 (omega arith) (omega arith) (omega arith) reads)
+  is-code = rw count at (spelled-code i (three (spelling i)) (omega arith, (omega arith, (omega arith, tt))) reads)
 
   number : spelling i ≡ numberOf n (b0 / 16) (b0 % 16) (b1 / 16) (b1 % 16) (b2 / 16) (b2 % 16)
   number = rw count at (spells (b0 / 16) (b0 % 16) (b1 / 16) (b1 % 16) (b2 / 16) (b2 % 16) (omega arith) (omega arith) (omega arith) (omega arith) (omega arith) (omega arith) i reads)

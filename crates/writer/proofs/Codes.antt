@@ -7,11 +7,11 @@ use native.Mathlib.Nat.{le-refl}
 use lib.ListN.{take, length}
 use lib.Seq.{take-take, length-take-le}
 use Rattle.sheet.specs.Code.{digits}
-use Rattle.sheet.specs.Reading.{rowNumber, readBytes, bytesOf}
+use Rattle.sheet.specs.Reading.{readBytes, bytesOf}
 use Rattle.sheet.specs.declared.Insn.{Insn}
 use Rattle.sheet.specs.declared.Read.the-variants.{Row}
-use Rattle.sheet.proofs.Prefix.{past-length}
-use Rattle.sheet.proofs.ReadAs.{short-row, row-with}
+use Rattle.sheet.proofs.Lengths.{past-length, row-enough}
+use Rattle.sheet.proofs.ReadAs.{short-row, nothing-read}
 use Rattle.writer.specs.Spelling.{spelling}
 use Rattle.writer.specs.Writing.{AreBytes, CodeOf}
 use Rattle.writer.proofs.Spells.{numberOf, spells}
@@ -44,10 +44,6 @@ pub record Filled (i : Insn) (bs : List ℕ) : Type 0 where
 
 filled : (i : Insn) (bs cs : List ℕ) → three (spelling i) ≡ cs → readBytes cs ≡ Row i → bs ≡ take (bytesOf (i .row)) cs → Filled i bs
 filled i bs cs e r q = record { reads = ap readBytes e ∙ r; code = q ∙ ap (take (bytesOf (i .row))) (sym e) }
-
-pub nothing-read : (i : Insn) → readBytes [] ≡ Row i → ⊥
-unfolding rowNumber
-nothing-read i e = row-with 0 [] i e .row refl
 
 pub fill : (i : Insn) (bs : List ℕ) → CodeOf i bs → Filled i bs
 fill i [] k = absurd (nothing-read i (k .reads))
@@ -94,7 +90,10 @@ started i b bs (suc n) e h k r =
       reads = past-length b bs (take n bs) i (k .0) r (rw e (ap (λ (cs : List ℕ). b ∷ cs) (sym (take-take n n bs (le-refl n)))));
     }
 
-pub spelled-code : (i : Insn) (b0 b1 b2 : ℕ) → b0 < 256 → b1 < 256 → b2 < 256 → readBytes (b0 ∷ b1 ∷ b2 ∷ []) ≡ Row i → CodeOf i (take (bytesOf (i .row)) (b0 ∷ b1 ∷ b2 ∷ []))
-spelled-code i b0 b1 b2 h0 h1 h2 r =
-    let few : bytesOf (i .row) < 4 = short-row (digits (b0 ∷ b1 ∷ b2 ∷ [])) i r .few in
-    started i b0 (b1 ∷ b2 ∷ []) (bytesOf (i .row)) refl (omega arith) (h0, (h1, (h2, tt))) r
+-- three bytes at most
+pub left-bytes : (n b0 b1 b2 : ℕ) → b0 < 256 → b1 < 256 → b2 < 256 → AreBytes (take n (b0 ∷ b1 ∷ b2 ∷ []))
+left-bytes n b0 b1 b2 h0 h1 h2 = bytes-take n (b0 ∷ b1 ∷ b2 ∷ []) (h0, (h1, (h2, tt)))
+
+pub spelled-code : (i : Insn) (bs : List ℕ) → AreBytes bs → readBytes bs ≡ Row i → CodeOf i (take (bytesOf (i .row)) bs)
+spelled-code i [] k r = absurd (nothing-read i r)
+spelled-code i (b ∷ bs) k r = started i b bs (bytesOf (i .row)) refl (row-enough b bs i (k .0) r) k r

@@ -2,24 +2,28 @@
 use mathlib.Core.Path.{_≡_, sym, ap, subst, _∙_}
 use mathlib.Core.Bool.{Bool, true, false}
 use mathlib.Core.List.{List, [], _∷_}
-use Prim.Native.Nat.{ℕ}
+use Prim.Native.Nat.{ℕ, zero, suc, _+_, _-_, _<_, min}
 use native.Mathlib.Omega.{arith}
 use lib.Dec.{eqb, ltb}
-use lib.ListN.{length, take, getD}
+use lib.ListN.{length, take, drop, getD, take-append-drop, length-take}
 use lib.Seq.{take-length}
 use borrow.Author.Tests.{eq-eqb, lt-ltb}
 use Rattle.laws.specs.Choice.{pick}
 use Rattle.numbers.specs.ComesBack.{Paper, answered, refused, image-is-not-8192-bytes, address-over-8191}
-use Rattle.sheet.specs.Reading.{insn, readBytes, readAt, romOf, wrapped}
+use Rattle.sheet.specs.Reading.{insn, readLeft, left, readAt, romOf, bytesOf}
 use Rattle.sheet.specs.declared.Insn.{Insn}
 use Rattle.sheet.specs.declared.Read.{Read}
-use Rattle.sheet.specs.declared.Read.the-variants.{Row, Unassigned}
-use Rattle.sheet.proofs.Prefix.{past-length}
+use Rattle.sheet.specs.declared.Read.the-variants.{Row, Unassigned, PastEnd}
+use Rattle.sheet.proofs.FirstBytes.{from}
+use Rattle.sheet.proofs.ReadAs.{nothing-read}
+use Rattle.sheet.proofs.Lengths.{bytes-read, past-length}
+use Rattle.sheet.proofs.Left.{read-enough}
+use Rattle.sheet.proofs.Ends.{left-row, cut-short}
 use Rattle.reader.specs.Answer.{paperOfCode}
 use Rattle.writer.specs.Writing.{CodeOf, paperOf, fromPaper, WritePaper, code, no-code, Writes}
-use Rattle.writer.specs.RoundTrips.{ReadThenWritten, WrittenThenRead}
+use Rattle.writer.specs.RoundTrips.{ReadThenWritten, WrittenThenRead, CutShort}
 use Rattle.writer.specs.declared.Written.{Written}
-use Rattle.writer.proofs.Codes.{nothing-read, one-code, spelled-code}
+use Rattle.writer.proofs.Codes.{one-code, left-bytes, spelled-code}
 
 written-back : (i : Insn) (bs : List ℕ) (p : Paper) → CodeOf i bs → WritePaper i p → p ≡ answered bs
 written-back i bs p k (code cs m e) = e ∙ ap answered (one-code i cs bs m k)
@@ -38,6 +42,7 @@ answered-code i p bs e (no-code n d) = let q : _≡_ {A = ℕ} 11 0 = ap (λ (q 
 row-answered : (t u : Bool) (r : Read) (i : Insn) → pick t (pick u (paperOfCode r) (refused address-over-8191)) (refused image-is-not-8192-bytes) ≡ paperOfCode (Row i) → r ≡ Row i
 row-answered true true (Row j) i e = ap (λ (p : Paper). Row (insn (getD (p .values) 0 0) (getD (p .values) 1 0) (getD (p .values) 2 0))) e
 row-answered true true Unassigned i e = let q : _≡_ {A = ℕ} 30 0 = ap (λ (p : Paper). p .number) e in absurd (omega arith)
+row-answered true true PastEnd i e = let q : _≡_ {A = ℕ} 35 0 = ap (λ (p : Paper). p .number) e in absurd (omega arith)
 row-answered true false r i e = let q : _≡_ {A = ℕ} 20 0 = ap (λ (p : Paper). p .number) e in absurd (omega arith)
 row-answered false u r i e = let q : _≡_ {A = ℕ} 1 0 = ap (λ (p : Paper). p .number) e in absurd (omega arith)
 
@@ -45,20 +50,40 @@ pub read-then-written : ReadThenWritten
 read-then-written image bytes at i e r w =
     let rom = romOf image in
     let is : readAt rom at ≡ Row i = row-answered (eqb (length image) 8192) (ltb at 8192) (readAt rom at) i e in
-    read-write i _ r (spelled-code i (rom at) (rom (wrapped at 1)) (rom (wrapped at 2)) (bytes at) (bytes (wrapped at 1)) (bytes (wrapped at 2)) is) w
+    read-write i _ r (spelled-code i (left rom at) (left-bytes (8192 - at) (rom at) (rom (at + 1)) (rom (at + 2)) (bytes at) (bytes (at + 1)) (bytes (at + 2))) (left-row (left rom at) i is)) w
 
 -- a code that stands at the start of some bytes reads as it does alone
-stands : (i : Insn) (bs : List ℕ) (c : ℕ) (cs : List ℕ) → CodeOf i bs → take (length bs) (c ∷ cs) ≡ bs → readBytes (c ∷ cs) ≡ Row i
-stands i [] c cs k e = absurd (nothing-read i (k .reads))
-stands i (b ∷ bs) c cs k e =
+stands : (i : Insn) (bs cs : List ℕ) → CodeOf i bs → take (length bs) cs ≡ bs → readLeft cs ≡ Row i
+stands i [] cs k e = absurd (nothing-read i (k .reads))
+stands i (b ∷ bs) [] k e = let z : _≡_ {A = ℕ} 0 (length (b ∷ bs)) = ap length e in absurd (omega arith)
+stands i (b ∷ bs) (c ∷ cs) k e =
     let first : c ≡ b = ap (λ (l : List ℕ). getD l 0 0) e in
-    past-length c bs cs i (rw first (k .bytes .0)) (rw first (k .reads))
-    (rw (← k .size) (ap (λ (x : ℕ). x ∷ take (length bs) bs) first ∙ (take-length (b ∷ bs) ∙ sym e)))
+    let h : c < 256 = rw first (k .bytes .0) in
+    let n : from c .bytes ≡ length (b ∷ bs) = ap (λ (x : ℕ). from x .bytes) first ∙ (sym (bytes-read b bs i (k .bytes .0) (k .reads)) ∙ sym (k .size)) in
+    let m : length (take (length (b ∷ bs)) (c ∷ cs)) ≡ length (b ∷ bs) = ap length e in
+    let l : length (take (length (b ∷ bs)) (c ∷ cs)) ≡ min (length (b ∷ bs)) (length (c ∷ cs)) = length-take (length (b ∷ bs)) (c ∷ cs) in
+    read-enough c cs h (omega arith)
+    ∙ past-length c bs cs i h (rw first (k .reads)) (rw (← k .size) (ap (λ (x : ℕ). x ∷ take (length bs) bs) first ∙ (take-length (b ∷ bs) ∙ sym e)))
 
 pub written-then-read : WrittenThenRead
 written-then-read i r bs w e image size bytes at h there =
     let k = answered-code i (paperOf r) bs e (w .paper) in
-    let is : readAt (romOf image) at ≡ Row i = stands i bs (romOf image at) (romOf image (wrapped at 1) ∷ romOf image (wrapped at 2) ∷ []) k there in
+    let is : readAt (romOf image) at ≡ Row i = stands i bs (left (romOf image) at) k there in
+    rw (eq-eqb (length image) 8192 size, lt-ltb at 8192 h, is)
+
+-- the first bytes of a code, not all and not none
+cut : (i : Insn) (n : ℕ) (bs : List ℕ) → CodeOf i bs → 0 < n → n < length bs → readLeft (take n bs) ≡ PastEnd
+cut i zero bs k h l = absurd (omega arith)
+cut i (suc n) [] k h l = absurd (omega arith)
+cut i (suc n) (b ∷ bs) k h l =
+    let m : length (take n bs) ≡ min n (length bs) = length-take n bs in
+    let size : length (b ∷ bs) ≡ bytesOf (i .row) = k .size in
+    cut-short b (take n bs) (drop n bs) i (k .bytes .0) (rw (take-append-drop n bs) (k .reads)) (omega arith)
+
+pub cut-code : CutShort
+cut-code i r bs w e image size bytes at h l there =
+    let k = answered-code i (paperOf r) bs e (w .paper) in
+    let is : readAt (romOf image) at ≡ PastEnd = ap readLeft there ∙ cut i (8192 - at) bs k (omega arith) (omega arith) in
     rw (eq-eqb (length image) 8192 size, lt-ltb at 8192 h, is)
 
 one-paper : (i : Insn) (p q : Paper) → WritePaper i p → WritePaper i q → p ≡ q

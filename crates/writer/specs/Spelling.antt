@@ -9,7 +9,7 @@ use Rattle.sheet.specs.Code.{Group, #, all, fixed1, fixed2, fixed3, above2, has
 use Rattle.sheet.specs.Table.{Code, Line, lineAt}
 use Rattle.sheet.specs.declared.Insn.{Insn}
 use Rattle.sheet.specs.declared.Read.{Read}
-use Rattle.sheet.specs.declared.Read.the-variants.{Row, Unassigned}
+use Rattle.sheet.specs.declared.Read.the-variants.{Row, Unassigned, PastEnd}
 
 -- a group with 0 for the bits of operands
 abbrev pub fixedOf : Group → ℕ
@@ -72,3 +72,4 @@ sameInsn i j = both (eqb (i .row) (j .row)) (both (eqb (i .a) (j .a)) (eqb (i .b
 abbrev pub readsAs : Insn → Read → Bool
 readsAs i (Row j) = sameInsn i j
 readsAs i Unassigned = false
+readsAs i PastEnd = false

@@ -64,7 +64,8 @@ fn refused_bounds(asker: &mut Asker, chance: &mut Chance) -> Result<(), Differen
 
 /// A handler of some rows with branches, from a place of the image on, and some starts within it.
 fn bounds_of_a_handler(asker: &mut Asker, chance: &mut Chance, codes: &Codes) -> Result<(), Difference> {
-    let start = chance.below(IMAGE_SIZE);
+    // Across the end of the image often enough.
+    let start = if chance.one_in(8) { IMAGE_SIZE - 1 - chance.below(24) } else { chance.below(IMAGE_SIZE) };
     let image = handler(chance, codes, start);
     for turn in 0..8 {
         let offset = if turn == 0 { 0 } else { chance.below(8) };

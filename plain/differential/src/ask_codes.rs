@@ -9,6 +9,7 @@ use plain::{IMAGE_SIZE, SHEET};
 
 pub fn reads(asker: &mut Asker, chance: &mut Chance, codes: &Codes, wanted: u64) -> Result<(), Difference> {
     every_pair(asker)?;
+    every_end(asker, chance)?;
     while asker.coverage.asked(Kind::Read) < wanted {
         let image = if chance.one_in(20) { of_wrong_size(chance) } else { whole(chance, codes) };
         for _ in 0..64 {
@@ -31,6 +32,22 @@ fn every_pair(asker: &mut Asker) -> Result<(), Difference> {
         for address in (0..IMAGE_SIZE as u32).step_by(2) {
             asker.ask(Call::Read { image: image.clone(), address })?;
         }
+    }
+    Ok(())
+}
+
+/// Each first byte at the last address, and at the one before it with second bytes of each high digit.
+fn every_end(asker: &mut Asker, chance: &mut Chance) -> Result<(), Difference> {
+    for first in 0..=255 {
+        for high in 0..16 {
+            let mut image = [chance.byte(); IMAGE_SIZE];
+            image[IMAGE_SIZE - 2] = first;
+            image[IMAGE_SIZE - 1] = 16 * high + chance.nibble();
+            asker.ask(Call::Read { image: image.into(), address: 8190 })?;
+        }
+        let mut image = [chance.byte(); IMAGE_SIZE];
+        image[IMAGE_SIZE - 1] = first;
+        asker.ask(Call::Read { image: image.into(), address: 8191 })?;
     }
     Ok(())
 }

@@ -4,23 +4,33 @@ use crate::calls::{Answer, Call, Kind};
 use crate::layout::machine_of;
 use plain::{read, Machine, Mode, Row, MOST_FRAMES, SHEET};
 
-const NUMBERS: usize = 35;
+const NUMBERS: usize = 36;
 
 /// Each answer's number, and how often it comes at least in a whole comparison (with the factor 1).
 const AT_LEAST: [(Kind, &[(u8, u64)]); 9] = [
     (Kind::Step, &STEP_AT_LEAST),
     (Kind::Run, &RUN_AT_LEAST),
     (Kind::Display, &[(0, 30_000), (2, 10_000), (5, 10_000)]),
-    (Kind::Read, &[(0, 60_000), (1, 500), (20, 5_000), (30, 1_500)]),
+    (Kind::Read, &[(0, 60_000), (1, 500), (20, 5_000), (30, 1_500), (35, 1_500)]),
     (Kind::Write, &[(0, 10_000), (11, 50_000)]),
     (Kind::Bound, &[(0, 20_000), (1, 500), (20, 500), (21, 10_000), (22, 10_000), (23, 10_000)]),
     (Kind::Fresh, &[(0, 30_000), (2, 10_000)]),
     (Kind::Reset, &[(0, 30_000), (2, 30_000)]),
     (Kind::IsValid, &[(0, 30_000), (2, 30_000)]),
 ];
-const STEP_AT_LEAST: [(u8, u64); 9] =
-    [(0, 400_000), (1, 5_000), (2, 5_000), (3, 5_000), (30, 3_000), (31, 5_000), (32, 5_000), (33, 5_000), (34, 500)];
-const RUN_AT_LEAST: [(u8, u64); 10] = [
+const STEP_AT_LEAST: [(u8, u64); 10] = [
+    (0, 400_000),
+    (1, 5_000),
+    (2, 5_000),
+    (3, 5_000),
+    (30, 3_000),
+    (31, 5_000),
+    (32, 5_000),
+    (33, 5_000),
+    (34, 500),
+    (35, 3_000),
+];
+const RUN_AT_LEAST: [(u8, u64); 11] = [
     (0, 20_000),
     (1, 300),
     (2, 1_000),
@@ -31,6 +41,7 @@ const RUN_AT_LEAST: [(u8, u64); 10] = [
     (32, 1_000),
     (33, 1_000),
     (34, 300),
+    (35, 300),
 ];
 
 /// Each row is executed so often at least by single steps that do not stop.

@@ -211,7 +211,7 @@ fn favouring(chance: &mut Chance, codes: &Codes) -> Image {
     })
 }
 
-/// Fills an image; then, half of the time, puts a code across its end.
+/// Fills an image; then, half of the time, puts a code at its end, whole or cut.
 fn rows(chance: &mut Chance, codes: &Codes, put: impl Fn(&mut Chance, &Codes, &mut Vec<u8>)) -> Image {
     let mut image = Vec::with_capacity(IMAGE_SIZE + 3);
     while image.len() < IMAGE_SIZE {
@@ -223,9 +223,9 @@ fn rows(chance: &mut Chance, codes: &Codes, put: impl Fn(&mut Chance, &Codes, &m
             [Row::Slbr, Row::Slbr, Row::Lbr, Row::Lcall, Row::Sta, Row::Std, Row::Out, Row::Adda, Row::Tt];
         let row = chance.pick(&LONG);
         let code = codes.calm_of(chance, row);
-        let start = IMAGE_SIZE - 1 - chance.below(code.len() - 1);
-        for (place, byte) in (start..).zip(code) {
-            image[place % IMAGE_SIZE] = *byte;
+        let start = IMAGE_SIZE - 1 - chance.below(code.len());
+        for (place, byte) in (start..IMAGE_SIZE).zip(code) {
+            image[place] = *byte;
         }
     }
     image.into()

@@ -1,5 +1,6 @@
 -- `bound_flow::node_at` meets its contract.
 use mathlib.Core.Path.{sym, _∙_}
+use Prim.Native.Nat.{_/_}
 use native.Mathlib.Omega.{arith}
 use denote.Ref.{now}
 use Rattle.sheet.specs.Reading.{romOf}
@@ -18,14 +19,11 @@ read-at-requires c κs = search needs
 enum-known-insn : tie.Need-enum-known-insn
 enum-known-insn c = search needs
 
-enum-told : tie.Need-enum-told
-enum-told c = search needs
-
 nowhere-requires : tie.Need-nowhere-requires
 nowhere-requires c κs = search needs
 
 returns : tie.Need-returns
-returns c = none-node _ _ (sym (c .before .before .before .read-at .ensures) ∙ c .before .enum-told .given .1) _ (c .nowhere .ensures)
+returns c = none-node _ _ _ (c .before .before .read-at .ensures) (c .before .match .keys2) _ (c .nowhere .ensures)
 
 shared-slice-read-timing : tie.Need-shared-slice-read-timing
 shared-slice-read-timing c = search needs
@@ -34,13 +32,13 @@ timing-requires : tie.Need-timing-requires
 timing-requires c κs = search needs
 
 way-of-requires : tie.Need-way-of-requires
-way-of-requires c κs = read-in-fields (romOf (now (c .before .before .before .before .before .before .before .args .image))) _ _ (sym (c .before .before .before .before .before .read-at .ensures) ∙ c .before .before .before .insn .given .1) (λ at. c .before .before .before .before .before .before .shared-slice-known .given at .fits)
+way-of-requires c κs = read-in-fields (romOf (now (c .before .before .before .before .before .before .before .args .image))) (c .before .before .before .before .before .before .before .args .v / 2) _ (sym (c .before .before .before .before .before .read-at .ensures) ∙ c .before .before .before .insn .given .1) (λ at. c .before .before .before .before .before .before .shared-slice-known .given at .fits)
 
 node-by-requires : tie.Need-node-by-requires
-node-by-requires c κs = (omega arith, operand-lt _ (read-in-fields (romOf (now (c .before .before .before .before .before .before .before .before .args .image))) _ _ (sym (c .before .before .before .before .before .before .read-at .ensures) ∙ c .before .before .before .before .insn .given .1) (λ at. c .before .before .before .before .before .before .before .shared-slice-known .given at .fits)), c .way-of .ensures .few)
+node-by-requires c κs = (omega arith, operand-lt _ (read-in-fields (romOf (now (c .before .before .before .before .before .before .before .before .args .image))) (c .before .before .before .before .before .before .before .before .args .v / 2) _ (sym (c .before .before .before .before .before .before .read-at .ensures) ∙ c .before .before .before .before .insn .given .1) (λ at. c .before .before .before .before .before .before .before .shared-slice-known .given at .fits)), c .way-of .ensures .few)
 
 returns-2 : tie.Need-returns-2
-returns-2 c = row-node _ _ _ (sym (c .before .before .before .before .before .before .before .read-at .ensures) ∙ c .before .before .before .before .before .insn .given .1) _ _ _ (c .before .before .timing .ensures) (c .before .way-of .ensures) _ (c .node-by .ensures)
+returns-2 c = row-node _ _ _ (sym (c .before .before .before .before .before .before .before .read-at .ensures) ∙ c .before .before .before .before .before .insn .given .1) _ _ _ (c .before .before .timing .ensures .0) (c .before .way-of .ensures) _ (c .node-by .ensures)
 
 pub node-at-spec : {M : Type 1} → statement M
 node-at-spec =
@@ -49,7 +47,6 @@ node-at-spec =
     cast-at
     read-at-requires
     enum-known-insn
-    enum-told
     nowhere-requires
     returns
     shared-slice-read-timing

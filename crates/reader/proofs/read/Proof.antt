@@ -18,18 +18,6 @@ returns-2 c = rw (eq-eqb _ _ (c .before .if1 .left), le-ltb (c .before .before .
 cast-at : tie.Need-cast-at
 cast-at c = search needs
 
-read-at-requires : tie.Need-read-at-requires
-read-at-requires c κs = search needs
-
-enum-known-insn : tie.Need-enum-known-insn
-enum-known-insn c = search needs
-
-enum-told : tie.Need-enum-told
-enum-told c = search needs
-
-returns-3 : tie.Need-returns-3
-returns-3 c = rw (eq-eqb _ _ (c .before .before .before .before .if1 .left), lt-ltb (c .before .before .before .before .before .before .args .address) 8192 (omega arith), sym (c .before .before .read-at .ensures) ∙ c .enum-told .given .1)
-
 cast-timing : tie.Need-cast-timing
 cast-timing c = search needs
 
@@ -39,8 +27,26 @@ shared-slice-read-timing c = search needs
 timing-requires : tie.Need-timing-requires
 timing-requires c κs = search needs
 
+read-at-requires : tie.Need-read-at-requires
+read-at-requires c κs = search needs
+
+enum-known-insn : tie.Need-enum-known-insn
+enum-known-insn c = search needs
+
+enum-told : tie.Need-enum-told
+enum-told c = search needs
+
+enum-told-2 : tie.Need-enum-told-2
+enum-told-2 c = search needs
+
+returns-3 : tie.Need-returns-3
+returns-3 c = rw (eq-eqb _ _ (c .before .before .before .before .before .before .before .if1 .left), lt-ltb (c .before .before .before .before .before .before .before .before .before .args .address) 8192 (omega arith)) (decoded (romOf (now (c .before .before .before .before .before .before .before .before .before .args .image))) (c .before .before .before .before .before .before .before .before .before .args .address) _ _ _ (sym (c .before .before .before .read-at .ensures) ∙ c .before .insn .given .1) (c .before .before .before .before .timing .ensures .0))
+
 returns-4 : tie.Need-returns-4
-returns-4 c = rw (eq-eqb _ _ (c .before .before .before .before .before .before .before .if1 .left), lt-ltb (c .before .before .before .before .before .before .before .before .before .args .address) 8192 (omega arith)) (decoded (romOf (now (c .before .before .before .before .before .before .before .before .before .args .image))) (c .before .before .before .before .before .before .before .before .before .args .address) _ _ _ (sym (c .before .before .before .before .before .read-at .ensures) ∙ c .before .before .before .insn .given .1) (c .timing .ensures))
+returns-4 c = rw (eq-eqb _ _ (c .before .before .before .before .before .before .if1 .left), lt-ltb (c .before .before .before .before .before .before .before .before .args .address) 8192 (omega arith), sym (c .before .before .read-at .ensures) ∙ c .enum-told .given .1)
+
+returns-5 : tie.Need-returns-5
+returns-5 c = rw (eq-eqb _ _ (c .before .before .before .before .before .before .if1 .left), lt-ltb (c .before .before .before .before .before .before .before .before .args .address) 8192 (omega arith), sym (c .before .before .read-at .ensures) ∙ c .enum-told2 .given .1)
 
 pub read-spec : {M : Type 1} → statement M
 read-spec =
@@ -49,11 +55,13 @@ read-spec =
     returns
     returns-2
     cast-at
-    read-at-requires
-    enum-known-insn
-    enum-told
-    returns-3
     cast-timing
     shared-slice-read-timing
     timing-requires
-    returns-4)
+    read-at-requires
+    enum-known-insn
+    enum-told
+    enum-told-2
+    returns-3
+    returns-4
+    returns-5)

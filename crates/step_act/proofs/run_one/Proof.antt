@@ -11,17 +11,17 @@ use Rattle.step_act.proofs.run_one.Tie as tie
 read-at-requires : tie.Need-read-at-requires
 read-at-requires c κs = search needs
 
-enum-known-insn : tie.Need-enum-known-insn
-enum-known-insn c = search needs
+enum-known-read : tie.Need-enum-known-read
+enum-known-read c = search needs
 
-enum-told : tie.Need-enum-told
-enum-told c = search needs
+stop-of-requires : tie.Need-stop-of-requires
+stop-of-requires c κs = search needs
 
 stopped-requires : tie.Need-stopped-requires
 stopped-requires c κs = search needs
 
 returns : tie.Need-returns
-returns c = rw (c .stopped .ensures) (none-read _ _ _ _ (sym (c .before .before .before .read-at .ensures) ∙ c .before .enum-told .given .1))
+returns c = rw (c .stopped .ensures, c .before .stop-of .ensures) (none-read _ _ _ _ _ (c .before .before .before .read-at .ensures) (c .before .before .match .keys2))
 
 perform-requires : tie.Need-perform-requires
 perform-requires c κs =
@@ -29,19 +29,19 @@ perform-requires c κs =
     let args = c .before .before .before .before .before .before .args in
     let shared-slice-known = c .before .before .before .before .before .shared-slice-known in
     let read-at = c .before .before .before .before .read-at in
-    let the-insn = c .before .before .insn in
-    (record { core = pre .0; ram = pre .1; insn = read-in-fields (romOf (now (args .image))) _ _ (sym (read-at .ensures) ∙ the-insn .given .1) (λ at. shared-slice-known .given at .fits) }, pre .2)
+    let the-insn = c .before .before .read in
+    (record { core = pre .0; ram = pre .1; insn = read-in-fields (romOf (now (args .image))) (args .m .pc) _ (sym (read-at .ensures) ∙ the-insn .given .1) (λ at. shared-slice-known .given at .fits) }, pre .2)
 
 returns-2 : tie.Need-returns-2
-returns-2 c = row-read _ _ _ _ _ _ _ (sym (c .before .before .before .before .before .read-at .ensures) ∙ c .before .before .before .insn .given .1) (c .perform .ensures)
+returns-2 c = row-read _ _ _ _ _ _ _ (sym (c .before .before .before .before .before .read-at .ensures) ∙ c .before .before .before .read .given .1) (c .perform .ensures)
 
 pub run-one-spec : {M : Type 1} → statement M
 run-one-spec =
     tie.close
     (tie.spec
     read-at-requires
-    enum-known-insn
-    enum-told
+    enum-known-read
+    stop-of-requires
     stopped-requires
     returns
     perform-requires

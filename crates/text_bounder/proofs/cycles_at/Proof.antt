@@ -1,9 +1,9 @@
 -- `text_bounder::cycles_at` meets its contract.
-use mathlib.Core.Path.{refl, sym, _∙_}
+use mathlib.Core.Path.{sym, _∙_}
 use native.Mathlib.Omega.{arith}
 use denote.Ref.{now}
 use Rattle.sheet.specs.Reading.{romOf}
-use Rattle.text_bounder.proofs.Cycles.{cycles-shown}
+use Rattle.text_bounder.proofs.Cycles.{cycles-shown, no-cycles}
 use borrow.Author.Needs.{needs}
 use Rattle.text_bounder.proofs.cycles_at.Statement.{statement}
 use Rattle.text_bounder.proofs.cycles_at.Tie as tie
@@ -14,11 +14,8 @@ read-at-requires c κs = search needs
 enum-told : tie.Need-enum-told
 enum-told c = search needs
 
-enum-told-2 : tie.Need-enum-told-2
-enum-told-2 c = search needs
-
 returns : tie.Need-returns
-returns c = rw (sym (c .before .before .read-at .ensures) ∙ c .enum-told2 .given .1) (refl, omega arith)
+returns c = (no-cycles (romOf (now (c .before .before .before .args .image))) (c .before .before .before .args .at) (c .before .read-at .result) (c .before .read-at .ensures) (c .match .keys2), omega arith)
 
 shared-slice-read-timing : tie.Need-shared-slice-read-timing
 shared-slice-read-timing c = search needs
@@ -35,7 +32,7 @@ returns-2 c =
     let shared-slice-known = c .before .before .before .before .before .before .shared-slice-known in
     let read-at = c .before .before .before .before .before .read-at in
     let enum-told = c .before .before .before .enum-told in
-    cycles-shown (romOf (now (args .image))) (args .at) (λ at. shared-slice-known .given at .fits) (sym (read-at .ensures) ∙ enum-told .given .1) (c .before .timing .ensures)
+    cycles-shown (romOf (now (args .image))) (args .at) (λ at. shared-slice-known .given at .fits) (sym (read-at .ensures) ∙ enum-told .given .1) (c .before .timing .ensures .0)
 
 pub cycles-at-spec : {M : Type 1} → statement M
 cycles-at-spec =
@@ -43,7 +40,6 @@ cycles-at-spec =
     (tie.spec
     read-at-requires
     enum-told
-    enum-told-2
     returns
     shared-slice-read-timing
     timing-requires

@@ -29,7 +29,7 @@ timing-requires c κs = search needs
 returns-2 : tie.Need-returns-2
 returns-2 c =
     rw (c .before .before .before .spell .ensures)
-    (writes (c .before .before .before .before .before .before .args .i) _ _ (reads-row (c .before .before .before .before .before .before .args .i) _ (rw (c .before .before .before .spell .ensures) at (sym (c .before .before .reads-as .ensures) ∙ c .before .if2 .taken))) (rw (c .before .before .before .spell .ensures) at (c .timing .ensures)))
+    (writes (c .before .before .before .before .before .before .args .i) _ _ (reads-row (c .before .before .before .before .before .before .args .i) _ (rw (c .before .before .before .spell .ensures) at (sym (c .before .before .reads-as .ensures) ∙ c .before .if2 .taken))) (rw (c .before .before .before .spell .ensures) at (c .timing .ensures .0)))
 
 returns-3 : tie.Need-returns-3
 returns-3 c = refuses (c .before .before .before .before .before .args .i) (none-read (c .before .before .before .before .before .args .i) (rw (c .before .before .spell .ensures) at (sym (c .before .reads-as .ensures) ∙ c .if2 .left)))

@@ -2,7 +2,7 @@
 use mathlib.Core.Path.{sym, _∙_}
 use denote.Ref.{now}
 use Rattle.sheet.specs.Reading.{romOf}
-use Rattle.text_lister.proofs.Costs.{bytes-are}
+use Rattle.text_lister.proofs.Costs.{bytes-are, none-next}
 use borrow.Author.Needs.{needs}
 use Rattle.text_lister.proofs.line.after.Statement.{statement}
 use Rattle.text_lister.proofs.line.after.Tie as tie
@@ -13,14 +13,11 @@ read-at-requires c κs = search needs
 enum-told : tie.Need-enum-told
 enum-told c = search needs
 
-enum-told-2 : tie.Need-enum-told-2
-enum-told-2 c = search needs
-
 add-result : tie.Need-add-result
 add-result c = search needs
 
 returns : tie.Need-returns
-returns c = rw (sym (c .before .before .read-at .ensures) ∙ c .enum-told2 .given .1)
+returns c = none-next (romOf (now (c .before .before .before .args .image))) (c .before .before .before .args .at) (c .before .read-at .result) (c .before .read-at .ensures) (c .match .keys2)
 
 shared-slice-read-timing : tie.Need-shared-slice-read-timing
 shared-slice-read-timing c = search needs
@@ -37,7 +34,7 @@ add-result-2 c = search needs
 returns-2 : tie.Need-returns-2
 returns-2 c =
     let e = sym (c .before .before .before .before .before .read-at .ensures) ∙ c .before .before .before .enum-told .given .1 in
-    rw (e, ← bytes-are (romOf (now (c .before .before .before .before .before .before .before .args .image))) (c .before .before .before .before .before .before .before .args .at) e (c .before .timing .ensures))
+    rw (e, ← bytes-are (romOf (now (c .before .before .before .before .before .before .before .args .image))) (c .before .before .before .before .before .before .before .args .at) e (c .before .timing .ensures .0))
 
 pub after-spec : {M : Type 1} → statement M
 after-spec =
@@ -45,7 +42,6 @@ after-spec =
     (tie.spec
     read-at-requires
     enum-told
-    enum-told-2
     add-result
     returns
     shared-slice-read-timing

@@ -4,7 +4,7 @@ use native.Mathlib.Omega.{arith}
 use denote.Ref.{now}
 use Rattle.laws.proofs.Writing.{wrote-then}
 use Rattle.sheet.specs.Reading.{romOf}
-use Rattle.text_lister.proofs.Costs.{bytes-are, cycles-are}
+use Rattle.text_lister.proofs.Costs.{bytes-are, cycles-are, bytes-end, none-columns}
 use borrow.Author.Needs.{needs}
 use Rattle.text_lister.proofs.line.columns.Statement.{statement}
 use Rattle.text_lister.proofs.line.columns.Tie as tie
@@ -18,11 +18,11 @@ blanks-requires c κs = search needs
 read-at-requires : tie.Need-read-at-requires
 read-at-requires c κs = search needs
 
-enum-known-insn : tie.Need-enum-known-insn
-enum-known-insn c = search needs
+enum-known-read : tie.Need-enum-known-read
+enum-known-read c = search needs
 
-enum-told : tie.Need-enum-told
-enum-told c = search needs
+stop-of-requires : tie.Need-stop-of-requires
+stop-of-requires c κs = search needs
 
 refused-requires : tie.Need-refused-requires
 refused-requires c κs = search needs
@@ -31,7 +31,9 @@ same-length : tie.Need-same-length
 same-length c = search needs
 
 returns : tie.Need-returns
-returns c = rw (sym (c .before .before .before .before .before .before .read-at .ensures) ∙ c .before .before .before .before .enum-told .given .1) (wrote-then (c .before .before .before .before .before .before .before .before .before .before .before .before .before .number .ensures .0) (wrote-then (c .before .before .before .before .before .before .before .before .before .blanks .ensures .0) (c .before .before .refused .ensures .0)), omega arith)
+returns c =
+    rw (none-columns (romOf (now (c .before .before .before .before .before .before .before .before .before .before .before .before .before .before .before .before .before .args .image))) (c .before .before .before .before .before .before .before .before .before .before .before .before .before .before .before .before .before .args .at) (c .before .before .before .before .before .before .read-at .result) (c .before .before .before .before .before .before .read-at .ensures) (c .before .before .before .before .before .match .keys2) (c .before .before .before .stop-of .result) (c .before .before .before .stop-of .ensures))
+    (wrote-then (c .before .before .before .before .before .before .before .before .before .before .before .before .before .number .ensures .0) (wrote-then (c .before .before .before .before .before .before .before .before .before .blanks .ensures .0) (c .before .before .refused .ensures .0)), omega arith)
 
 shared-slice-read-timing : tie.Need-shared-slice-read-timing
 shared-slice-read-timing c = search needs
@@ -40,16 +42,20 @@ timing-requires : tie.Need-timing-requires
 timing-requires c κs = search needs
 
 shown-requires : tie.Need-shown-requires
-shown-requires c κs = search needs
+shown-requires c κs =
+    let e = sym (c .before .before .before .before .before .before .read-at .ensures) ∙ c .before .before .before .before .read .given .1 in
+    let at = c .before .before .before .before .before .before .before .before .before .before .before .before .before .before .before .before .before .args .at in
+    let ends = bytes-end (romOf (now (c .before .before .before .before .before .before .before .before .before .before .before .before .before .before .before .before .before .args .image))) at e (c .before .timing .ensures .0) (c .before .before .before .before .before .before .before .before .before .before .before .before .before .before .before .before .before .pre .1) (c .before .before .before .before .before .before .before .before .before .before .before .before .before .before .before .shared-slice-known .given at .fits) in
+    (search needs, ends, search needs)
 
 same-length-2 : tie.Need-same-length-2
 same-length-2 c = search needs
 
 returns-2 : tie.Need-returns-2
 returns-2 c =
-    let e = sym (c .before .before .before .before .before .before .before .before .before .read-at .ensures) ∙ c .before .before .before .before .before .before .before .insn .given .1 in
+    let e = sym (c .before .before .before .before .before .before .before .before .before .read-at .ensures) ∙ c .before .before .before .before .before .before .before .read .given .1 in
     let rom = romOf (now (c .before .before .before .before .before .before .before .before .before .before .before .before .before .before .before .before .before .before .before .before .args .image)) in
-    rw (e, ← bytes-are rom (c .before .before .before .before .before .before .before .before .before .before .before .before .before .before .before .before .before .before .before .before .args .at) e (c .before .before .before .before .timing .ensures), ← cycles-are rom (c .before .before .before .before .before .before .before .before .before .before .before .before .before .before .before .before .before .before .before .before .args .at) e (c .before .before .before .before .timing .ensures))
+    rw (e, ← bytes-are rom (c .before .before .before .before .before .before .before .before .before .before .before .before .before .before .before .before .before .before .before .before .args .at) e (c .before .before .before .before .timing .ensures .0), ← cycles-are rom (c .before .before .before .before .before .before .before .before .before .before .before .before .before .before .before .before .before .before .before .before .args .at) e (c .before .before .before .before .timing .ensures .0))
     (wrote-then (c .before .before .before .before .before .before .before .before .before .before .before .before .before .before .before .before .number .ensures .0) (wrote-then (c .before .before .before .before .before .before .before .before .before .before .before .before .blanks .ensures .0) (c .before .before .shown .ensures .0)), omega arith)
 
 pub columns-spec : {M : Type 1} → statement M
@@ -59,8 +65,8 @@ columns-spec =
     number-requires
     blanks-requires
     read-at-requires
-    enum-known-insn
-    enum-told
+    enum-known-read
+    stop-of-requires
     refused-requires
     same-length
     returns

@@ -17,11 +17,14 @@ slice-aggregate-put-text c = search needs
 put-text-requires : tie.Need-put-text-requires
 put-text-requires c κs = search needs
 
+number-requires : tie.Need-number-requires
+number-requires c κs = search needs
+
 same-length : tie.Need-same-length
 same-length c = search needs
 
 returns : tie.Need-returns
-returns c = (wrote-then (c .before .before .before .before .before .before .before .before .before .before .before .bytes-column .ensures .0) (wrote-then (c .before .before .before .before .before .before .before .blanks .ensures .0) (wrote-last (c .before .before .put-text .ensures))), omega arith)
+returns c = (wrote-then (c .before .before .before .before .before .before .before .before .before .before .before .before .before .before .before .bytes-column .ensures .0) (wrote-then (c .before .before .before .before .before .before .before .before .before .before .before .blanks .ensures .0) (wrote-then (c .before .before .before .before .before .before .put-text .ensures) (wrote-last (c .before .before .number .ensures .0)))), omega arith)
 
 pub refused-spec : {M : Type 1} → statement M
 refused-spec =
@@ -31,5 +34,6 @@ refused-spec =
     blanks-requires
     slice-aggregate-put-text
     put-text-requires
+    number-requires
     same-length
     returns)
