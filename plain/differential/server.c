@@ -114,6 +114,14 @@ static struct answer ask(const struct request *r) {
         answer.number = em73862_bound(image, image_length, r->first, changing, n, &first);
         answer.values[0] = first;
         break;
+    case 10:
+        answer.number = em73862_look(r->first, r->second, changing, n, steady, m, &first);
+        answer.values[0] = first;
+        break;
+    case 11:
+        answer.number = em73862_act(image, image_length, r->first, r->second, changing, n, &first);
+        answer.values[0] = first;
+        break;
     default: _exit(1);
     }
     return answer;

@@ -26,5 +26,5 @@ pub use hex::{hex_record, read_hex, write_hex, HexRefusal, TEXT_SIZE};
 pub use machine::{fresh, is_valid, reset, Machine, Mode, Options, Ports, RAM_SIZE};
 pub use rows::{Row, SheetRow, SHEET};
 pub use sound::{sound_start, Sound, MOST_PULSES, PULSES_OVER_THE_LIMIT, TF_OF_ZERO_WHILE_ON};
-pub use step::{run, step, Ran, Stepped, MOST_FRAMES};
+pub use step::{act, look, run, step, Ran, Stepped, MOST_FRAMES};
 pub use worst::{worst_of, Worst, WORST};

@@ -57,6 +57,8 @@ pub struct Machine {
     pub ports: Ports,
     pub last_frame: Frame,
     pub mode: Mode,
+    /// Left by a look in sleep or hold, which was the whole step.
+    pub mark: bool,
 }
 
 /// "Options: eight wake-enable bits (P0.0 to P0.3, P8.0 to P8.3) and SOUND enable."
@@ -90,6 +92,7 @@ pub fn fresh() -> Machine {
         ports: Ports { p4: 15, p8: 15, p9: 0, p16: 0, p23: 15, p24: 15, p25: 0, p27: 0, p28: 0, p29: 0, p30: 0 },
         last_frame: Frame::IDLE,
         mode: Mode::Running,
+        mark: false,
     }
 }
 

@@ -1,6 +1,6 @@
 //! One step, as document 01's "One step" numbers its phases.
 
-use crate::code::{fetch, whole_image};
+use crate::code::{fetch, whole_image, Image};
 use crate::execute::execute;
 use crate::frame::{Frame, FRAME_LENGTH};
 use crate::machine::{is_valid, Machine, Mode, Options, TIME_BASE_SIZE};
@@ -43,38 +43,61 @@ pub struct Ran {
     pub stop: u8,
 }
 
-/// One step. Refuses with 1, 2 and 3.
+/// One step, both its calls. Refuses with 1, 2 and 3.
 pub fn step(image: &[u8], options: Options, machine: &Machine, frame: &[u8]) -> Result<Stepped, u8> {
     let image = whole_image(image)?;
-    if !is_valid(machine) {
-        return Err(numbers::RECORD_RANGE);
-    }
+    let mut machine = valid(machine)?;
     let frame = Frame::parse(frame).ok_or(numbers::NO_FRAME)?;
-    let mut machine = machine.clone();
-    let around = Surroundings { image, options, frame };
-    Ok(match advance(&mut machine, &around) {
+    let advanced = advance(&mut machine, image, options, frame);
+    Ok(stepped(machine, advanced))
+}
+
+/// The first call of a step (request Q-4): "one call takes the frame, updates edges, event counts and waking". Refuses
+/// with 2 and 3.
+pub fn look(options: Options, machine: &Machine, frame: &[u8]) -> Result<Stepped, u8> {
+    let mut machine = valid(machine)?;
+    let frame = Frame::parse(frame).ok_or(numbers::NO_FRAME)?;
+    let cycles = take_frame(&mut machine, options, frame);
+    Ok(stepped(machine, Ok(cycles)))
+}
+
+/// The second: "a second accepts or executes and passes time". Refuses with 1 and 2.
+pub fn act(image: &[u8], options: Options, machine: &Machine) -> Result<Stepped, u8> {
+    let image = whole_image(image)?;
+    let mut machine = valid(machine)?;
+    let acted = take_turn(&mut machine, image, options);
+    Ok(stepped(machine, acted))
+}
+
+fn valid(machine: &Machine) -> Result<Machine, u8> {
+    if is_valid(machine) {
+        Ok(machine.clone())
+    } else {
+        Err(numbers::RECORD_RANGE)
+    }
+}
+
+fn stepped(machine: Machine, cycles: Result<u32, u8>) -> Stepped {
+    match cycles {
         Ok(cycles) => Stepped { machine, cycles, stop: numbers::NONE },
         Err(stop) => Stepped { machine, cycles: 0, stop },
-    })
+    }
 }
 
 /// "A run checks all frames first, makes one step a frame, and ends early at a stop." Refuses
 /// with 1, 2, 4 and 3, in this order.
 pub fn run(image: &[u8], options: Options, machine: &Machine, frames: &[u8]) -> Result<Ran, u8> {
     let image = whole_image(image)?;
-    if !is_valid(machine) {
-        return Err(numbers::RECORD_RANGE);
-    }
+    let machine = valid(machine)?;
     if frames.len() > MOST_FRAMES * FRAME_LENGTH {
         return Err(numbers::TOO_MANY_FRAMES);
     }
     if frames.chunks(FRAME_LENGTH).any(|text| Frame::parse(text).is_none()) {
         return Err(numbers::NO_FRAME);
     }
-    let mut ran = Ran { machine: machine.clone(), steps: 0, cycles: 0, stop: numbers::NONE };
+    let mut ran = Ran { machine, steps: 0, cycles: 0, stop: numbers::NONE };
     for frame in frames.chunks(FRAME_LENGTH).filter_map(Frame::parse) {
-        let around = Surroundings { image, options, frame };
-        match advance(&mut ran.machine, &around) {
+        match advance(&mut ran.machine, image, options, frame) {
             Ok(cycles) => {
                 ran.steps += 1;
                 ran.cycles += cycles as u64;
@@ -88,32 +111,42 @@ pub fn run(image: &[u8], options: Options, machine: &Machine, frames: &[u8]) -> 
     Ok(ran)
 }
 
-/// Makes one step and gives its cycles; or gives the stop and leaves the record as it was.
-fn advance(m: &mut Machine, around: &Surroundings) -> Result<u32, u8> {
-    let cycles = match m.mode {
-        Mode::Running => advance_running(m, around)?,
-        Mode::Sleep | Mode::Hold => look_for_wake(m, around),
-    };
-    m.last_frame = around.frame;
-    Ok(cycles)
+/// Makes one step and gives its cycles, or the stop. "A stop now leaves the record as the first call left it."
+fn advance(m: &mut Machine, image: &Image, options: Options, frame: Frame) -> Result<u32, u8> {
+    let looking = take_frame(m, options, frame);
+    let acting = take_turn(m, image, options)?;
+    Ok(looking + acting)
 }
 
-fn advance_running(m: &mut Machine, around: &Surroundings) -> Result<u32, u8> {
-    let (il, ta, tb) = (m.il, m.ta, m.tb);
-    look_for_edges(m, around.frame);
-    match act(m, around) {
-        Ok(cycles) => {
-            // "Phase 3 is left out" where the row entered sleep or hold.
-            if m.mode == Mode::Running {
-                pass_time(m, around.frame, cycles);
-            }
-            Ok(cycles)
+/// "In sleep or hold the first call does the whole step and gives its cycles, and leaves a mark .. a running first call
+/// clears it too."
+fn take_frame(m: &mut Machine, options: Options, frame: Frame) -> u32 {
+    m.mark = m.mode != Mode::Running;
+    let cycles = match m.mode {
+        Mode::Running => {
+            look_for_edges(m, frame);
+            0
         }
-        Err(stop) => {
-            (m.il, m.ta, m.tb) = (il, ta, tb);
-            Err(stop)
-        }
+        Mode::Sleep | Mode::Hold => look_for_wake(m, options, frame),
+    };
+    m.last_frame = frame;
+    cycles
+}
+
+/// Where there is a mark it "does nothing, spends 0 and clears the mark. In sleep or hold the second always does nothing
+/// and spends 0."
+fn take_turn(m: &mut Machine, image: &Image, options: Options) -> Result<u32, u8> {
+    if m.mark || m.mode != Mode::Running {
+        m.mark = false;
+        return Ok(0);
     }
+    let around = Surroundings { image, options, frame: m.last_frame };
+    let cycles = accept_or_execute(m, &around)?;
+    // "Phase 3 is left out" where the row entered sleep or hold.
+    if m.mode == Mode::Running {
+        pass_time(m, around.frame, cycles);
+    }
+    Ok(cycles)
 }
 
 /// Phase 1: "A falling edge on P8.2 sets IL5, on P8.0 sets IL0. A rising edge on P8.3 (P8.1) adds
@@ -136,7 +169,7 @@ fn look_for_edges(m: &mut Machine, frame: Frame) {
 }
 
 /// Phase 2: accepts an interrupt, or else executes one instruction. Gives the cycles.
-fn act(m: &mut Machine, around: &Surroundings) -> Result<u32, u8> {
+fn accept_or_execute(m: &mut Machine, around: &Surroundings) -> Result<u32, u8> {
     if let Some((latch, entry)) = due_source(m) {
         m.accept(latch, entry)?;
         return Ok(ACCEPTANCE_CYCLES);
@@ -256,10 +289,10 @@ fn count_tb(m: &mut Machine) {
 /// "In sleep or hold a step only looks for a falling edge on an enabled wake pin. None: 0 cycles.
 /// One: running again." With P16 bit 3 set it "wakes when an enabled wake pin reads 0 in the
 /// frame, edge or none". Gives the cycles.
-fn look_for_wake(m: &mut Machine, around: &Surroundings) -> u32 {
-    let low = !around.frame.wake_pins();
+fn look_for_wake(m: &mut Machine, options: Options, frame: Frame) -> u32 {
+    let low = !frame.wake_pins();
     let waking = if m.ports.p16 & LEVEL_RELEASE != 0 { low } else { m.last_frame.wake_pins() & low };
-    if waking & around.options.wake == 0 {
+    if waking & options.wake == 0 {
         return 0;
     }
     m.mode = Mode::Running;

@@ -204,18 +204,20 @@ impl Numbers {
 }
 
 #[test]
-fn a_stop_gives_the_record_from_before_and_every_record_is_valid() {
+fn a_stop_gives_the_record_as_the_look_left_it_and_every_record_is_valid() {
     let mut numbers = Numbers(0x2545_F491_4F6C_DD1D);
     let mut image: Vec<u8> = (0..IMAGE_SIZE).map(|_| numbers.below(256) as u8).collect();
     image[IMAGE_SIZE - 1] = 0xC0; // LBR, without its second byte
     let mut seen = [0u32; 36];
     for _ in 0..200_000 {
         let before = numbers.machine();
-        let stepped = step(&image, OPTIONS, &before, &numbers.frames(1)).unwrap();
+        let frame = numbers.frames(1);
+        let stepped = step(&image, OPTIONS, &before, &frame).unwrap();
         assert!(is_valid(&stepped.machine));
         seen[stepped.stop as usize] += 1;
         if stepped.stop != 0 {
-            assert_eq!((&stepped.machine, stepped.cycles), (&before, 0));
+            let looked = look(OPTIONS, &before, &frame).unwrap();
+            assert_eq!((&stepped.machine, stepped.cycles), (&looked.machine, 0));
         }
     }
     assert!([0, 30, 31, 32, 33, 34, 35].iter().all(|stop| seen[*stop] > 0), "{seen:?}");

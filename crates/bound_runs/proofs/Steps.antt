@@ -3,9 +3,6 @@ use mathlib.Core.Path.{_≡_, refl, sym, ap, _∙_}
 use mathlib.Core.Logic.{_⊎_}
 use Prim.Native.Nat.{ℕ, _≤_, _<_}
 use native.Mathlib.Omega.{arith}
-use lib.Dec.{eqb}
-use borrow.Author.Tests.{eq-eqb}
-use Rattle.laws.proofs.Choices.{picked}
 use Rattle.sheet.specs.Table.{lineAt}
 use Rattle.sheet.specs.Fields.{fieldA}
 use Rattle.sheet.specs.Reading.{readAt}
@@ -16,13 +13,14 @@ use Rattle.machine.specs.Valid.{Valid}
 use Rattle.machine.specs.declared.Machine.{Machine}
 use Rattle.row.specs.Places.{Around}
 use Rattle.row.specs.Rows.{Done, executed}
-use Rattle.step_look.specs.Look.{seen, looked}
+use Rattle.step_look.specs.Look.{isRunning, seen}
 use Rattle.step_act.specs.Act.{sourceOf, runRead, runOne, acceptOrRun, afterTime, actOf}
 use Rattle.reader.proofs.Rows.{read-in-fields}
 use Rattle.row.proofs.RowsValid.{line-fits}
-use Rattle.step.specs.Step.{undone, stepOf}
+use Rattle.step.specs.Step.{stepOf}
 use Rattle.step.specs.declared.Options.{Options}
-use Rattle.step.proofs.StepValid.{stop-undoes}
+use Rattle.step.proofs.StepValid.{stop-leaves}
+use Rattle.step.proofs.Stepping.{step-runs}
 use Rattle.graph.specs.Graph.{GoesOn, Ends as EndsPath, Edge}
 use Rattle.bound_flow.specs.Flow.{isKnown, nodeRow, nodeRead, nodeOf, flowGraph, flowCost}
 use Rattle.bound_flow.specs.declared.Node.{Node}
@@ -42,41 +40,41 @@ module _ (rom : ℕ → ℕ) (o : Options) (m : Machine) (pins : Pins) (v : ℕ)
   looking = record { core = seen (m .core) pins; ram = m .ram }
 
   -- it runs and accepts nothing
-  step-is : stepOf rom o m pins ≡ undone m (afterTime (runRead rom (o .sound) looking (readAt rom (m .core .pc))))
-  unfolding stepOf looked actOf acceptOrRun sourceOf runOne
-  step-is = rw (stands .running, stands .ei)
+  acts-so : actOf rom (o .sound) looking ≡ afterTime (runRead rom (o .sound) looking (readAt rom (m .core .pc)))
+  unfolding actOf acceptOrRun sourceOf runOne
+  acts-so = rw (stands .ei)
+
+  step-is : stepOf rom o m pins ≡ afterTime (runRead rom (o .sound) looking (readAt rom (m .core .pc)))
+  step-is = step-runs rom o m pins (ap isRunning (stands .running)) ∙ acts-so
 
   module _ (i : Insn) (read : readAt rom (m .core .pc) ≡ Read.Row i) where
     abbrev around : Around
     around = record { rom = rom; sound = o .sound; insn = i }
 
-    -- the row there is executed, and a stop of it undoes the step
-    row-is : stepOf rom o m pins ≡ undone m (afterTime (executed around looking))
-    row-is = step-is ∙ ap (λ (r : Read). undone m (afterTime (runRead rom (o .sound) looking r))) read
+    -- the row there is executed
+    row-is : stepOf rom o m pins ≡ afterTime (executed around looking)
+    row-is = step-is ∙ ap (λ (r : Read). afterTime (runRead rom (o .sound) looking r)) read
 
     stop-is : stepOf rom o m pins .stop ≡ executed around looking .stop
-    stop-is = rw row-is (picked (λ (d : Done). d .stop ≡ executed around looking .stop) (eqb (executed around looking .stop) 0) _ _ refl refl)
-
-    done-is : executed around looking .stop ≡ 0 → stepOf rom o m pins ≡ afterTime (executed around looking)
-    done-is z = row-is ∙ rw (eq-eqb (executed around looking .stop) 0 z)
+    stop-is = ap (λ (d : Done). d .stop) row-is
 
     place-is : nodeOf rom v ≡ nodeRow (m .core .pc) (isKnown v) i (lineAt (i .row))
     unfolding nodeOf
     place-is = rw (← stands .at, read)
 
-    -- the cycles of a row that does not stop are the place's
-    spends : executed around looking .stop ≡ 0 → executed around looking .cycles ≡ nodeRow (m .core .pc) (isKnown v) i (lineAt (i .row)) .cost → stepOf rom o m pins .cycles ≡ flowCost rom v
+    -- the cycles of the row are the place's
+    spends : executed around looking .cycles ≡ nodeRow (m .core .pc) (isKnown v) i (lineAt (i .row)) .cost → stepOf rom o m pins .cycles ≡ flowCost rom v
     unfolding flowCost
-    spends z c = ap (λ (d : Done). d .cycles) (done-is z) ∙ c ∙ ap (λ (n : Node). n .cost) (sym place-is)
+    spends c = ap (λ (d : Done). d .cycles) row-is ∙ c ∙ ap (λ (n : Node). n .cost) (sym place-is)
 
     lifted : RowFollows (lineAt (i .row) .operation) (executed around looking) (nodeRow (m .core .pc) (isKnown v) i (lineAt (i .row))) → StepFollows rom o m pins v
     unfolding flowGraph
     lifted (stops-named h) =
-        let none : stepOf rom o m pins .cycles ≡ 0 = ap (λ (d : Done). d .cycles) (stop-undoes rom o m pins (λ z. omega (arith, h, stop-is))) in
+        let none : stepOf rom o m pins .cycles ≡ 0 = ap (λ (d : Done). d .cycles) (stop-leaves rom o m pins (λ z. omega (arith, h, stop-is))) in
         ends (Ends.stops (rw stop-is (h .0)) (rw stop-is (h .1))) (omega arith)
     lifted (returns k e z c) =
-        ends (Ends.returns (record { running = stands .running; accepts-nothing = stands .ei; insn = i; read = read; is-rti = e; completes = stop-is ∙ z })) (omega (arith, spends z c))
-    lifted (goes w k f z c s) = goes-on w (rw place-is (k, f)) (stop-is ∙ z) (spends z c) (rw (done-is z) (stands-after (executed around looking .cycles) s))
+        ends (Ends.returns (record { running = stands .running; accepts-nothing = stands .ei; insn = i; read = read; is-rti = e; completes = stop-is ∙ z })) (omega (arith, spends c))
+    lifted (goes w k f z c s) = goes-on w (rw place-is (k, f)) (stop-is ∙ z) (spends c) (rw row-is (stands-after (executed around looking .cycles) s))
 
   module _ (bytes : (at : ℕ) → rom at < 256) (valid : Valid m) where
     read-follows : (r : Read) → readAt rom (m .core .pc) ≡ r → Allowed (nodeRead (m .core .pc) (isKnown v) r) → StepFollows rom o m pins v

@@ -1,10 +1,11 @@
--- "A refusal changes no buffer. A stop gives the record from before that step .. and zero cycles for it": what a step and a reset leave where their number is not 0.
+-- "A refusal changes no buffer." "A stop now leaves the record as the first call left it" (Q-4): what a step and a reset leave where their number is not 0.
 use Prim.Native.Nat.{ℕ}
 use mathlib.Core.List.{List}
 use mathlib.Core.Path.{_≡_, refl, sym, ap, _∙_}
 use native.Mathlib.Decide.{ℕ-discrete}
 use lib.ListN.{length}
 use Rattle.frame.specs.Frame.{frameOf}
+use Rattle.frame.specs.declared.Pins.{Pins}
 use Rattle.frame.specs.declared.Frame.{Frame}
 use Rattle.machine.specs.Valid.{Valid}
 use Rattle.machine_start.specs.Start.{ResetOf}
@@ -13,32 +14,32 @@ use Rattle.machine_start.specs.declared.AfterReset.{AfterReset}
 use Rattle.machine_valid.proofs.Validity.{valid?}
 use Rattle.sheet.specs.Reading.{romOf}
 use Rattle.machine_bytes.specs.Layout.{recordBytes}
-use Rattle.step.specs.Answers.{StepOf, stepRefused, stepped}
+use Rattle.step.specs.Step.{lookStep}
+use Rattle.step.specs.Answers.{StepOf, stepped}
 use Rattle.step.specs.declared.Options.{Options}
 use Rattle.step.specs.declared.Stepped.{Stepped}
-use Rattle.step.proofs.StepValid.{stop-undoes}
-use Rattle.calls.specs.Calls.{no-record, record-of, ResetCall, StepCall}
+use Rattle.step.proofs.StepValid.{stop-leaves}
+use Rattle.calls.specs.Calls.{no-record, record-of, Answers, ResetCall}
 
-as-numbered : {m : Machine} {r : Stepped} {n : ℕ} → r ≡ stepRefused n m → r ≡ stepRefused (r .number) m
-as-numbered {m = m} e = e ∙ ap (λ (n : ℕ). stepRefused n m) (sym (ap (λ (q : Stepped). q .number) e))
+-- the record after: of a refusal the one that came, of a stop the one that the look at the frame left
+pub data Leaves (o : Options) (m : Machine) (frame : List ℕ) (after : Machine) : Type 0 where
+  refused : after ≡ m → Leaves o m frame after
+  stopped : (pins : Pins) → frameOf frame ≡ Frame.Seen pins → after ≡ lookStep o m pins .machine → Leaves o m frame after
 
 module _ {image : List ℕ} {o : Options} {m : Machine} {frame : List ℕ} {r : Stepped} where
-  undone-by : StepOf image o m frame r → (r .number ≡ 0 → ⊥) → Dec (length image ≡ 8192) → Dec (Valid m) → (f : Frame) → frameOf frame ≡ f → r ≡ stepRefused (r .number) m
-  undone-by a nz (no l) v f e = as-numbered (a .refused-1 l)
-  undone-by a nz (yes l) (no v) f e = as-numbered (a .refused-2 l v)
-  undone-by a nz (yes l) (yes v) Frame.NoFrame e = as-numbered (a .refused-3 l v e)
-  undone-by a nz (yes l) (yes v) (Frame.Seen p) e =
+  left-by : StepOf image o m frame r → (r .number ≡ 0 → ⊥) → Dec (length image ≡ 8192) → Dec (Valid m) → (f : Frame) → frameOf frame ≡ f → (r .cycles ≡ 0) × Leaves o m frame (r .machine)
+  left-by a nz (no l) v f e = (ap (λ (q : Stepped). q .cycles) (a .refused-1 l), refused (ap (λ (q : Stepped). q .machine) (a .refused-1 l)))
+  left-by a nz (yes l) (no v) f e = (ap (λ (q : Stepped). q .cycles) (a .refused-2 l v), refused (ap (λ (q : Stepped). q .machine) (a .refused-2 l v)))
+  left-by a nz (yes l) (yes v) Frame.NoFrame e = (ap (λ (q : Stepped). q .cycles) (a .refused-3 l v e), refused (ap (λ (q : Stepped). q .machine) (a .refused-3 l v e)))
+  left-by a nz (yes l) (yes v) (Frame.Seen p) e =
       let s = a .steps l v p e in
-      as-numbered (s ∙ ap stepped (stop-undoes (romOf image) o m p (λ z. nz (ap (λ (q : Stepped). q .number) s ∙ z))))
+      let d = s ∙ ap stepped (stop-leaves (romOf image) o m p (λ z. nz (ap (λ (q : Stepped). q .number) s ∙ z))) in
+      (ap (λ (q : Stepped). q .cycles) d, stopped p e (ap (λ (q : Stepped). q .machine) d))
 
-  step-undone : StepOf image o m frame r → (r .number ≡ 0 → ⊥) → r ≡ stepRefused (r .number) m
-  step-undone a nz = undone-by a nz (ℕ-discrete (length image) 8192) (valid? m) (frameOf frame) refl
-
-pub step-kept : {image : List ℕ} {o : Options} {bytes frame : List ℕ} {n c : ℕ} {z : List ℕ} → StepCall image o bytes frame n c z → (n ≡ 0 → ⊥) → (c ≡ 0) × (z ≡ bytes)
-step-kept (no-record h a) nz = (a .none, a .kept)
-step-kept (record-of m h a) nz =
-    let e = step-undone (a .steps) (λ z. nz (a .answer ∙ z)) in
-    (a .spent ∙ ap (λ (q : Stepped). q .cycles) e, a .left ∙ (ap (λ (q : Stepped). recordBytes (q .machine)) e ∙ sym (h .same)))
+pub step-left : {image : List ℕ} {o : Options} {m : Machine} {frame : List ℕ} {n c : ℕ} {z : List ℕ} (a : Answers (StepOf image o m frame) n c z) → (n ≡ 0 → ⊥) → (c ≡ 0) × Leaves o m frame (a .r .machine)
+step-left {image} {m = m} {frame = frame} a nz =
+    let l = left-by (a .promised) (λ z. nz (a .answer ∙ z)) (ℕ-discrete (length image) 8192) (valid? m) (frameOf frame) refl in
+    (a .spent ∙ l .0, l .1)
 
 reset-undone : {m : Machine} {r : AfterReset} → ResetOf m r → (r .refusal ≡ 0 → ⊥) → Dec (Valid m) → r .machine ≡ m
 reset-undone a nz (yes v) = absurd (nz (ap (λ (q : AfterReset). q .refusal) (a .inside v)))

@@ -1,9 +1,9 @@
--- Each of the nine calls has one answer: two answers to the same that conform are equal, numbers and buffers.
+-- Each of the eleven calls has one answer: two answers to the same that conform are equal, numbers and buffers.
 use Prim.Native.Nat.{ℕ}
 use mathlib.Core.List.{List}
 use mathlib.Core.Path.{_≡_, sym, ap, subst, _∙_}
 use lib.ListN.{length}
-use Rattle.numbers.specs.ComesBack.{Paper, valueAt}
+use Rattle.numbers.specs.ComesBack.{Paper, valueAt, record-outside-the-ranges}
 use Rattle.sheet.specs.declared.Insn.{Insn}
 use Rattle.writer.specs.Writing.{paperOf as codePaper}
 use Rattle.writer.proofs.RoundTrip.{one-answer as one-written}
@@ -16,13 +16,16 @@ use Rattle.machine_bytes.specs.Layout.{recordBytes}
 use Rattle.machine_bytes.proofs.Tells.{one-record}
 use Rattle.step.specs.declared.Options.{Options}
 use Rattle.step.specs.declared.Stepped.{Stepped}
+use Rattle.step.specs.Answers.{StepOf}
 use Rattle.step.proofs.Answering.{one-answer as one-stepped}
+use Rattle.step_apart.specs.Answers.{LookOf, ActOf}
+use Rattle.step_apart.proofs.Answering.{one-look as one-looked, one-act as one-acted}
 use Rattle.run.specs.declared.Ran.{Ran}
 use Rattle.run.proofs.Answering.{one-answer as one-ran}
 use Rattle.display.proofs.Answers.{one-answer as one-shown}
 use Rattle.bound.specs.Answer.{paperOf as boundPaper}
 use Rattle.bound.proofs.Unique.{one-answer as one-bounded}
-use Rattle.calls.specs.Calls.{Judged, no-record, record-of, FreshCall, wrong-length, fresh, ResetCall, ValidAnswer, ValidCall, StepCall, RunCall, DisplayCall, ReadCall, WriteCall, BoundCall}
+use Rattle.calls.specs.Calls.{Judged, no-record, record-of, unheld, FreshCall, wrong-length, fresh, ResetCall, ValidAnswer, ValidCall, NotStepped, Answers, StepCall, LookCall, ActCall, RunCall, DisplayCall, ReadCall, WriteCall, BoundCall}
 
 -- two values that are each f of something, where the somethings are equal
 via : {A B : Type 0} (f : A → B) {x y : A} {a b : B} → x ≡ y → a ≡ f x → b ≡ f y → a ≡ b
@@ -62,12 +65,28 @@ valid-by a b (no v) = agree (a .outside v) (b .outside v)
 pub one-valid : {bytes : List ℕ} {n n′ : ℕ} → ValidCall bytes n → ValidCall bytes n′ → n ≡ n′
 one-valid = judged agree (λ m a b. valid-by a b (valid? m))
 
+module _ {bytes : List ℕ} {n n′ c c′ : ℕ} {z z′ : List ℕ} where
+  -- of a promise with one answer
+  one-promised : (refusal : ℕ) (P : Machine → Stepped → Type 0) → ((m : Machine) (r s : Stepped) → P m r → P m s → r ≡ s)
+      → Judged bytes (NotStepped refusal bytes n c z) (λ m. Answers (P m) n c z) → Judged bytes (NotStepped refusal bytes n′ c′ z′) (λ m. Answers (P m) n′ c′ z′)
+      → (n ≡ n′) × (c ≡ c′) × (z ≡ z′)
+  one-promised refusal P one =
+      judged (λ a b. (agree (a .refused) (b .refused), agree (a .none) (b .none), agree (a .kept) (b .kept)))
+      (λ m a b. let e : a .r ≡ b .r = one m (a .r) (b .r) (a .promised) (b .promised) in (via (λ (r : Stepped). r .number) e (a .answer) (b .answer), via (λ (r : Stepped). r .cycles) e (a .spent) (b .spent), via (λ (r : Stepped). recordBytes (r .machine)) e (a .left) (b .left)))
+
 module _ {image : List ℕ} {o : Options} {bytes frames : List ℕ} {n n′ c c′ : ℕ} {z z′ : List ℕ} where
   pub one-step : StepCall image o bytes frames n c z → StepCall image o bytes frames n′ c′ z′ → (n ≡ n′) × (c ≡ c′) × (z ≡ z′)
-  one-step =
-      judged (λ a b. (agree (a .refusal) (b .refusal), agree (a .none) (b .none), agree (a .kept) (b .kept)))
-      (λ m a b. let e : a .r ≡ b .r = one-stepped image o m frames (a .r) (b .r) (a .steps) (b .steps) in (via (λ (r : Stepped). r .number) e (a .answer) (b .answer), via (λ (r : Stepped). r .cycles) e (a .spent) (b .spent), via (λ (r : Stepped). recordBytes (r .machine)) e (a .left) (b .left)))
+  one-step = one-promised (unheld image) (λ m r. StepOf image o m frames r) (λ m. one-stepped image o m frames)
 
+module _ {o : Options} {bytes frame : List ℕ} {n n′ c c′ : ℕ} {z z′ : List ℕ} where
+  pub one-look : LookCall o bytes frame n c z → LookCall o bytes frame n′ c′ z′ → (n ≡ n′) × (c ≡ c′) × (z ≡ z′)
+  one-look = one-promised record-outside-the-ranges (λ m r. LookOf o m frame r) (λ m. one-looked o m frame)
+
+module _ {image : List ℕ} {o : Options} {bytes : List ℕ} {n n′ c c′ : ℕ} {z z′ : List ℕ} where
+  pub one-act : ActCall image o bytes n c z → ActCall image o bytes n′ c′ z′ → (n ≡ n′) × (c ≡ c′) × (z ≡ z′)
+  one-act = one-promised (unheld image) (λ m r. ActOf image o m r) (λ m. one-acted image o m)
+
+module _ {image : List ℕ} {o : Options} {bytes frames : List ℕ} {n n′ c c′ : ℕ} {z z′ : List ℕ} where
   pub one-run : {s s′ : ℕ} → RunCall image o bytes frames n s c z → RunCall image o bytes frames n′ s′ c′ z′ → (n ≡ n′) × (s ≡ s′) × (c ≡ c′) × (z ≡ z′)
   one-run =
       judged

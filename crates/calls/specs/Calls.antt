@@ -1,4 +1,4 @@
--- What the nine calls on numbers and byte buffers answer: include/em73862.h has their names. A primed name is what a call leaves where it was given the other.
+-- What the eleven calls on numbers and byte buffers answer: include/em73862.h has their names. A primed name is what a call leaves where it was given the other.
 use Prim.Native.Nat.{ℕ}
 use mathlib.Core.Bool.{not}
 use mathlib.Core.List.{List}
@@ -22,6 +22,7 @@ use Rattle.machine_bytes.specs.Layout.{recordBytes, Holds, HoldsNone}
 use Rattle.step.specs.Answers.{StepOf}
 use Rattle.step.specs.declared.Options.{Options}
 use Rattle.step.specs.declared.Stepped.{Stepped}
+use Rattle.step_apart.specs.Answers.{LookOf, ActOf}
 use Rattle.run.specs.Answers.{RunOf}
 use Rattle.run.specs.declared.Ran.{Ran}
 use Rattle.display.specs.Display.{DisplayOf}
@@ -69,22 +70,33 @@ pub record ValidAnswer (m : Machine) (number : ℕ) : Type 0 where
 abbrev pub ValidCall : List ℕ → ℕ → Type 0
 ValidCall bytes number = Judged bytes (number ≡ record-outside-the-ranges) (λ m. ValidAnswer m number)
 
--- em73862_step
-pub record NotStepped (image bytes : List ℕ) (number cycles : ℕ) (bytes′ : List ℕ) : Type 0 where
-  pub refusal : number ≡ unheld image
+-- a step, or one of its two calls, that is refused where the buffer holds no record; and one that answers as a promise says
+pub record NotStepped (refusal : ℕ) (bytes : List ℕ) (number cycles : ℕ) (bytes′ : List ℕ) : Type 0 where
+  pub refused : number ≡ refusal
   pub none : cycles ≡ 0
   pub kept : bytes′ ≡ bytes
 
-pub record StepAnswer (image : List ℕ) (o : Options) (frame : List ℕ) (m : Machine) (number cycles : ℕ) (bytes′ : List ℕ) : Type 0 where
+pub record Answers (Promise : Stepped → Type 0) (number cycles : ℕ) (bytes′ : List ℕ) : Type 0 where
   pub r : Stepped
-  pub steps : StepOf image o m frame r
+  pub promised : Promise r
   pub answer : number ≡ r .number
   pub spent : cycles ≡ r .cycles
   pub left : bytes′ ≡ recordBytes (r .machine)
 
+-- em73862_step
 abbrev pub StepCall : List ℕ → Options → List ℕ → List ℕ → ℕ → ℕ → List ℕ → Type 0
 StepCall image o bytes frame number cycles bytes′ =
-    Judged bytes (NotStepped image bytes number cycles bytes′) (λ m. StepAnswer image o frame m number cycles bytes′)
+    Judged bytes (NotStepped (unheld image) bytes number cycles bytes′) (λ m. Answers (StepOf image o m frame) number cycles bytes′)
+
+-- em73862_look, which has no image
+abbrev pub LookCall : Options → List ℕ → List ℕ → ℕ → ℕ → List ℕ → Type 0
+LookCall o bytes frame number cycles bytes′ =
+    Judged bytes (NotStepped record-outside-the-ranges bytes number cycles bytes′) (λ m. Answers (LookOf o m frame) number cycles bytes′)
+
+-- em73862_act, which has no frame
+abbrev pub ActCall : List ℕ → Options → List ℕ → ℕ → ℕ → List ℕ → Type 0
+ActCall image o bytes number cycles bytes′ =
+    Judged bytes (NotStepped (unheld image) bytes number cycles bytes′) (λ m. Answers (ActOf image o m) number cycles bytes′)
 
 -- em73862_run
 pub record NotRun (image bytes : List ℕ) (number steps cycles : ℕ) (bytes′ : List ℕ) : Type 0 where

@@ -1,5 +1,5 @@
 // The base calls on numbers and byte buffers, for C and for whatever calls C: include/em73862.h declares them. Each takes its bytes apart, calls the public function and puts numbers back.
-// Two answers of a call to the same inputs are equal, for each of the nine: proofs/OneAnswer.antt. A step and a reset whose number is not 0 leave the record's bytes as they were: proofs/Kept.antt.
+// Two answers of a call to the same inputs are equal, for each of the eleven: proofs/OneAnswer.antt. A refusal leaves the record's bytes as they were: proofs/Kept.antt.
 use bound::bound;
 use display::display;
 use machine_bytes::RECORD_BYTES;
@@ -19,12 +19,14 @@ use reader::read;
 use sheet::Insn;
 use step::Options;
 use step::step;
+use step_apart::act;
+use step_apart::look;
 use writer::Written;
 use writer::write;
 ghost use mathlib.Core.Path.{_≡_};
 ghost use Rattle.reader.specs.Answer.{paperOf as readingPaper};
 ghost use Rattle.writer.specs.Writing.{paperOf as codePaper, fromPaper as codeFrom};
-ghost use Rattle.calls.specs.Calls.{unheld, optionsOf, FreshCall, ResetCall, ValidCall, StepCall, DisplayCall, ReadCall, WriteCall, BoundCall};
+ghost use Rattle.calls.specs.Calls.{unheld, optionsOf, FreshCall, ResetCall, ValidCall, StepCall, LookCall, ActCall, DisplayCall, ReadCall, WriteCall, BoundCall};
 ghost use Rattle.calls.specs.Numbers.{OfRead, OfWrite};
 
 // What the reader, the writer and the bound answer, as numbers.
@@ -114,6 +116,48 @@ pub extern "C" fn em73862_step(
     let u = unpack(bytes);
     if u.held {
         let r = step(image, options_of(wake, sound), u.machine, frame);
+        *cycles = r.cycles as u32;
+        pack(r.machine, bytes);
+        return r.number;
+    }
+    *cycles = 0;
+    refusal(image)
+}
+
+#[no_mangle]
+pub extern "C" fn em73862_look(
+    wake: u8,
+    sound: u8,
+    bytes: &mut [u8],
+    frame: &[u8],
+    cycles: &mut u32,
+) -> u8
+    ensures { λ r. ⌜ LookCall (optionsOf wake sound) (now (bytes .entry)) (now (frame .entry)) r (now (cycles .exit)) (now (bytes .exit)) ⌝ }
+{
+    let u = unpack(bytes);
+    if u.held {
+        let r = look(options_of(wake, sound), u.machine, frame);
+        *cycles = r.cycles as u32;
+        pack(r.machine, bytes);
+        return r.number;
+    }
+    *cycles = 0;
+    2
+}
+
+#[no_mangle]
+pub extern "C" fn em73862_act(
+    image: &[u8],
+    wake: u8,
+    sound: u8,
+    bytes: &mut [u8],
+    cycles: &mut u32,
+) -> u8
+    ensures { λ r. ⌜ ActCall (now (image .entry)) (optionsOf wake sound) (now (bytes .entry)) r (now (cycles .exit)) (now (bytes .exit)) ⌝ }
+{
+    let u = unpack(bytes);
+    if u.held {
+        let r = act(image, options_of(wake, sound), u.machine);
         *cycles = r.cycles as u32;
         pack(r.machine, bytes);
         return r.number;

@@ -15,7 +15,7 @@ use Rattle.row.specs.Rows.{workOf, branchOf}
 use Rattle.row.specs.Steps.{putStep}
 use Rattle.step_look.specs.Look.{edgesCounted, looked}
 use Rattle.step_act.specs.Act.{sourceOf, runOne, acceptOrRun, coreAfter, actOf}
-use Rattle.step.specs.Step.{stepOf}
+use Rattle.step.specs.Step.{lookStep, actStep, stepOf}
 use Rattle.text_digits.specs.Digits.{characters, digit, inBase, placesOf}
 use Rattle.text_runner.specs.Lines.{header, stepLine}
 use Rattle.text_script.specs.Script.{linesOf}
@@ -27,5 +27,5 @@ rom = romOf (0xD0 ∷ 0xD3 ∷ 0x6E ∷ 0x55 ∷ 0x6E ∷ 0x5D ∷ 0x6E ∷ 0x5E
 
 six-lines : header ++ toldOver rom freshMachine (linesOf (characters "FF1\nFF1\nFF1\nFF1\nFF1\nFF1\n"))
     ≡ characters "PC A H L S CZS C X\n0001 0 0 0 0 011 1 00\n0002 3 0 0 0 001 1 00\n0004 8 0 0 0 001 2 00\n0006 5 0 0 0 000 2 00\n0008 3 0 0 0 000 2 00\n0009 3 0 0 0 001 1 00\n"
-unfolding rowNumber rowWith lines lineAt digitOf frameOf met tick passed eventCount flagAfter made dueSource workOf branchOf putStep edgesCounted looked sourceOf runOne acceptOrRun coreAfter actOf stepOf digit inBase placesOf stepLine answerOf
+unfolding rowNumber rowWith lines lineAt digitOf frameOf met tick passed eventCount flagAfter made dueSource workOf branchOf putStep edgesCounted looked sourceOf runOne acceptOrRun coreAfter actOf lookStep actStep stepOf digit inBase placesOf stepLine answerOf
 six-lines = refl

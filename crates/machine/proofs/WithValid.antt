@@ -1,11 +1,12 @@
 -- A valid part in place of another leaves the record valid. Only P16 and the mode are tied, so that the latches and the mode come together.
 use Prim.Native.Nat.{ℕ, _<_}
+use mathlib.Core.Bool.{Bool}
 use Rattle.numbers.specs.Sizes.{addresses}
 use Rattle.frame.specs.Frame.{PinsInRange}
 use Rattle.frame.specs.declared.Pins.{Pins}
 use Rattle.ports.specs.declared.Ports.{Ports}
 use Rattle.ports.specs.declared.Mode.{Mode}
-use Rattle.machine.specs.With.{coreWithRegs, coreWithPc, coreWithPtrs, coreWithInts, coreWithTimers, coreWithPorts, coreWithPins, coreWithMode}
+use Rattle.machine.specs.With.{coreWithRegs, coreWithPc, coreWithPtrs, coreWithInts, coreWithTimers, coreWithPorts, coreWithPins, coreWithMode, coreWithMark}
 use Rattle.machine.specs.Valid.{ValidRegisters, ValidPointers, ValidInterrupts, ValidTimers, ValidPorts, ModeFits, ValidCore}
 use Rattle.machine.specs.declared.Registers.{Registers}
 use Rattle.machine.specs.declared.Pointers.{Pointers}
@@ -34,3 +35,6 @@ module _ {m : Core} (v : ValidCore m) where
 
   pub with-ports-and-mode : {p : Ports} {o : Mode} → ValidPorts p → ModeFits o (p .p16) → ValidCore (coreWithMode (coreWithPorts m p) o)
   with-ports-and-mode h f = record { regs = v .regs; pc = v .pc; ptrs = v .ptrs; ints = v .ints; timers = v .timers; ports = h; pins = v .pins; mode = f }
+
+  pub with-mark : {b : Bool} → ValidCore (coreWithMark m b)
+  with-mark = record { regs = v .regs; pc = v .pc; ptrs = v .ptrs; ints = v .ints; timers = v .timers; ports = v .ports; pins = v .pins; mode = v .mode }

@@ -59,7 +59,7 @@ ModeFits Mode.Running p16 = Unit
 ModeFits Mode.Sleep p16 = (p16 / 4 % 2 ≡ 1) × (p16 % 4 ≡ 3 → ⊥)
 ModeFits Mode.Hold p16 = (p16 / 4 % 2 ≡ 1) × (p16 % 4 ≡ 3)
 
--- "PC 0 to 8191." "Last frame seen."
+-- "PC 0 to 8191." "Last frame seen." The mark is a truth value
 pub record ValidCore (m : Core) : Type 0 where
   pub regs : ValidRegisters (m .regs)
   pub pc : m .pc < addresses

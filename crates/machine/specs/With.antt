@@ -17,28 +17,31 @@ abbrev pub assembled : Core → List ℕ → Machine
 assembled m l = record { core = m; ram = l }
 
 abbrev pub coreWithRegs : Core → Registers → Core
-coreWithRegs m r = record { regs = r; pc = m .pc; ptrs = m .ptrs; ints = m .ints; timers = m .timers; ports = m .ports; pins = m .pins; mode = m .mode }
+coreWithRegs m r = record { regs = r; pc = m .pc; ptrs = m .ptrs; ints = m .ints; timers = m .timers; ports = m .ports; pins = m .pins; mode = m .mode; mark = m .mark }
 
 abbrev pub coreWithPc : Core → ℕ → Core
-coreWithPc m pc = record { regs = m .regs; pc = pc; ptrs = m .ptrs; ints = m .ints; timers = m .timers; ports = m .ports; pins = m .pins; mode = m .mode }
+coreWithPc m pc = record { regs = m .regs; pc = pc; ptrs = m .ptrs; ints = m .ints; timers = m .timers; ports = m .ports; pins = m .pins; mode = m .mode; mark = m .mark }
 
 abbrev pub coreWithPtrs : Core → Pointers → Core
-coreWithPtrs m p = record { regs = m .regs; pc = m .pc; ptrs = p; ints = m .ints; timers = m .timers; ports = m .ports; pins = m .pins; mode = m .mode }
+coreWithPtrs m p = record { regs = m .regs; pc = m .pc; ptrs = p; ints = m .ints; timers = m .timers; ports = m .ports; pins = m .pins; mode = m .mode; mark = m .mark }
 
 abbrev pub coreWithInts : Core → Interrupts → Core
-coreWithInts m i = record { regs = m .regs; pc = m .pc; ptrs = m .ptrs; ints = i; timers = m .timers; ports = m .ports; pins = m .pins; mode = m .mode }
+coreWithInts m i = record { regs = m .regs; pc = m .pc; ptrs = m .ptrs; ints = i; timers = m .timers; ports = m .ports; pins = m .pins; mode = m .mode; mark = m .mark }
 
 abbrev pub coreWithTimers : Core → Timers → Core
-coreWithTimers m t = record { regs = m .regs; pc = m .pc; ptrs = m .ptrs; ints = m .ints; timers = t; ports = m .ports; pins = m .pins; mode = m .mode }
+coreWithTimers m t = record { regs = m .regs; pc = m .pc; ptrs = m .ptrs; ints = m .ints; timers = t; ports = m .ports; pins = m .pins; mode = m .mode; mark = m .mark }
 
 abbrev pub coreWithPorts : Core → Ports → Core
-coreWithPorts m p = record { regs = m .regs; pc = m .pc; ptrs = m .ptrs; ints = m .ints; timers = m .timers; ports = p; pins = m .pins; mode = m .mode }
+coreWithPorts m p = record { regs = m .regs; pc = m .pc; ptrs = m .ptrs; ints = m .ints; timers = m .timers; ports = p; pins = m .pins; mode = m .mode; mark = m .mark }
 
 abbrev pub coreWithPins : Core → Pins → Core
-coreWithPins m p = record { regs = m .regs; pc = m .pc; ptrs = m .ptrs; ints = m .ints; timers = m .timers; ports = m .ports; pins = p; mode = m .mode }
+coreWithPins m p = record { regs = m .regs; pc = m .pc; ptrs = m .ptrs; ints = m .ints; timers = m .timers; ports = m .ports; pins = p; mode = m .mode; mark = m .mark }
 
 abbrev pub coreWithMode : Core → Mode → Core
-coreWithMode m o = record { regs = m .regs; pc = m .pc; ptrs = m .ptrs; ints = m .ints; timers = m .timers; ports = m .ports; pins = m .pins; mode = o }
+coreWithMode m o = record { regs = m .regs; pc = m .pc; ptrs = m .ptrs; ints = m .ints; timers = m .timers; ports = m .ports; pins = m .pins; mode = o; mark = m .mark }
+
+abbrev pub coreWithMark : Core → Bool → Core
+coreWithMark m b = record { regs = m .regs; pc = m .pc; ptrs = m .ptrs; ints = m .ints; timers = m .timers; ports = m .ports; pins = m .pins; mode = m .mode; mark = b }
 
 -- EI, the latches and the mask: every place that changes one of them makes all three by this
 abbrev pub interruptsOf : Bool → ℕ → ℕ → Interrupts

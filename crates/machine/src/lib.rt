@@ -37,7 +37,7 @@ pub struct Timers {
     pub tb: u16,
 }
 
-// All but RAM.
+// All but RAM. The mark is left by a look at the frame in sleep or hold, which is the whole step: acting does nothing then.
 pub struct Core {
     pub regs: Registers,
     pub pc: u16,
@@ -47,6 +47,7 @@ pub struct Core {
     pub ports: Ports,
     pub pins: Pins,
     pub mode: Mode,
+    pub mark: bool,
 }
 
 // "RAM: 372 nibbles, 000h to 0F3h and 100h to 17Fh", a nibble a place.

@@ -31,6 +31,6 @@ flag-of (suc (suc b)) h = absurd (omega arith)
 
 abbrev pub flagsFit : (h : List ℕ) → Decision (FlagsFit h)
 flagsFit h =
-    restated (λ f. record { cf = f .0 .0; zf = f .0 .1; sf = f .1 .0 .0; ei = f .1 .0 .1; mode = f .1 .1 })
-    (λ f. ((f .cf, f .zf), ((f .sf, f .ei), f .mode)))
-    ((less (getD h 24 0) 2 and less (getD h 25 0) 2) and (less (getD h 26 0) 2 and less (getD h 27 0) 2) and less (getD h 36 0) 3)
+    restated (λ f. record { cf = f .0 .0; zf = f .0 .1; sf = f .1 .0 .0; ei = f .1 .0 .1; mode = f .1 .1 .0; mark = f .1 .1 .1 })
+    (λ f. ((f .cf, f .zf), ((f .sf, f .ei), (f .mode, f .mark))))
+    ((less (getD h 24 0) 2 and less (getD h 25 0) 2) and (less (getD h 26 0) 2 and less (getD h 27 0) 2) and (less (getD h 36 0) 3 and less (getD h 37 0) 2))

@@ -31,20 +31,20 @@ listed-part h i (suc n) f =
 pub copied : (s d : List ℕ) → length s ≡ length d → take (length s) s ++ drop (length s) d ≡ s
 copied s d e = rw (take-length s, e, drop-length d) (append-nil s)
 
--- 37 bytes: five, the eleven latches, and 21
-pub head-parts : (h : List ℕ) → length h ≡ 37 → h ≡ listed (λ k. getD h k 0) 0 5 ++ (take 11 (drop 5 h) ++ listed (λ k. getD h k 0) 16 21)
+-- 38 bytes: five, the eleven latches, and 22
+pub head-parts : (h : List ℕ) → length h ≡ 38 → h ≡ listed (λ k. getD h k 0) 0 5 ++ (take 11 (drop 5 h) ++ listed (λ k. getD h k 0) 16 22)
 head-parts h l =
-    let last : take 21 (drop 16 h) ≡ drop 16 h = take-all 21 (drop 16 h) (omega (arith, length-drop 16 h)) in
+    let last : take 22 (drop 16 h) ≡ drop 16 h = take-all 22 (drop 16 h) (omega (arith, length-drop 16 h)) in
     let rest : drop 5 h ≡ take 11 (drop 5 h) ++ drop 16 h = sym (take-append-drop 11 (drop 5 h)) ∙ ap (λ (r : List ℕ). take 11 (drop 5 h) ++ r) (drop-drop 11 5 h) in
     sym (take-append-drop 5 h)
     ∙ (ap (λ (r : List ℕ). r ++ drop 5 h) (sym (listed-part h 0 5 (omega arith)))
-    ∙ ap (λ (r : List ℕ). listed (λ k. getD h k 0) 0 5 ++ r) (rest ∙ ap (λ (r : List ℕ). take 11 (drop 5 h) ++ r) (sym last ∙ sym (listed-part h 16 21 (omega arith)))))
+    ∙ ap (λ (r : List ℕ). listed (λ k. getD h k 0) 0 5 ++ r) (rest ∙ ap (λ (r : List ℕ). take 11 (drop 5 h) ++ r) (sym last ∙ sym (listed-part h 16 22 (omega arith)))))
 
 -- the scalars whose bytes those are
-pub head-laid : (h : List ℕ) (r : Registers) (t : Timers) (p : Ports) (pc dp : ℕ) (ei : Bool) (mode : Mode) → length h ≡ 37 → RegistersAt h r → TimersAt h t → latchBytes p ≡ take 11 (drop 5 h) → two pc ≡ getD h 16 0 ∷ getD h 17 0 ∷ [] → two dp ≡ getD h 18 0 ∷ getD h 19 0 ∷ [] → bitOf ei ≡ getD h 27 0 → modeNumber mode ≡ getD h 36 0 → h ≡ headOf (record { regs = r; pc = pc; ptrs = record { sp = getD h 3 0; dp = dp }; ints = interruptsOf ei (getD h 28 0) (getD h 4 0); timers = t; ports = p; pins = record { p0 = getD h 33 0; p8 = getD h 34 0; p4 = getD h 35 0 }; mode = mode })
+pub head-laid : (h : List ℕ) (r : Registers) (t : Timers) (p : Ports) (pc dp : ℕ) (ei : Bool) (mode : Mode) (mark : Bool) → length h ≡ 38 → RegistersAt h r → TimersAt h t → latchBytes p ≡ take 11 (drop 5 h) → two pc ≡ getD h 16 0 ∷ getD h 17 0 ∷ [] → two dp ≡ getD h 18 0 ∷ getD h 19 0 ∷ [] → bitOf ei ≡ getD h 27 0 → modeNumber mode ≡ getD h 36 0 → bitOf mark ≡ getD h 37 0 → h ≡ headOf (record { regs = r; pc = pc; ptrs = record { sp = getD h 3 0; dp = dp }; ints = interruptsOf ei (getD h 28 0) (getD h 4 0); timers = t; ports = p; pins = record { p0 = getD h 33 0; p8 = getD h 34 0; p4 = getD h 35 0 }; mode = mode; mark = mark })
 unfolding nibblesOf othersOf
-head-laid h r t p pc dp ei mode l er et ep epc edp eei em =
-    rw (er .acc, er .hr, er .lr, er .cf, er .zf, er .sf, et .ta, et .tb, et .base, ep, epc, edp, eei, em) (head-parts h l)
+head-laid h r t p pc dp ei mode mark l er et ep epc edp eei em ek =
+    rw (er .acc, er .hr, er .lr, er .cf, er .zf, er .sf, et .ta, et .tb, et .base, ep, epc, edp, eei, em, ek) (head-parts h l)
 
 -- a part copied into a buffer from a place on
 pub put-wrote : (out part y : List ℕ) (from : ℕ) → from + length part ≤ length out → y ≡ take (length part) part ++ drop (length part) (take (length out - from) (drop from out)) → Wrote out (putMid from (length out - from) out y) from (from + length part) part
@@ -59,25 +59,25 @@ nibbles-length : (m : Machine) → length (nibblesOf (m .core)) ≡ 16
 unfolding nibblesOf latchBytes
 nibbles-length m = refl
 
-others-length : (m : Machine) → length (othersOf (m .core)) ≡ 21
+others-length : (m : Machine) → length (othersOf (m .core)) ≡ 22
 unfolding othersOf two four
 others-length m = refl
 
 -- the places are counted: that of RAM, and how many it takes
-pub room-for-ram : {b x y r : ℕ} → b ≡ 409 → x ≡ b → y ≡ x → r ≡ 372 → 37 + r ≤ y
+pub room-for-ram : {b x y r : ℕ} → b ≡ 410 → x ≡ b → y ≡ x → r ≡ 372 → 38 + r ≤ y
 room-for-ram s e f g = omega arith
 
-pub ram-rest : (b : List ℕ) → length b ≡ 409 → take (length b - 37) (drop 37 b) ≡ drop 37 b
-ram-rest b s = take-all (length b - 37) (drop 37 b) (omega (arith, length-drop 37 b))
+pub ram-rest : (b : List ℕ) → length b ≡ 410 → take (length b - 38) (drop 38 b) ≡ drop 38 b
+ram-rest b s = take-all (length b - 38) (drop 38 b) (omega (arith, length-drop 38 b))
 
-pub ram-length : (b : List ℕ) → length b ≡ 409 → length (take (length b - 37) (drop 37 b)) ≡ 372
-ram-length b s = rw (ram-rest b s) (omega (arith, length-drop 37 b))
+pub ram-length : (b : List ℕ) → length b ≡ 410 → length (take (length b - 38) (drop 38 b)) ≡ 372
+ram-length b s = rw (ram-rest b s) (omega (arith, length-drop 38 b))
 
--- the three parts of a record, one after the other, in a buffer of 409
-pub packed : (m : Machine) (b x y z n o : List ℕ) → length b ≡ 409 → length (m .ram) ≡ 372 → n ≡ nibblesOf (m .core) → o ≡ othersOf (m .core) → Wrote b x 0 (0 + length n) n → Wrote x y 16 (16 + length o) o → Wrote y z 37 (37 + length (m .ram)) (m .ram) → Holds z m
+-- the three parts of a record, one after the other, in a buffer of 410
+pub packed : (m : Machine) (b x y z n o : List ℕ) → length b ≡ 410 → length (m .ram) ≡ 372 → n ≡ nibblesOf (m .core) → o ≡ othersOf (m .core) → Wrote b x 0 (0 + length n) n → Wrote x y 16 (16 + length o) o → Wrote y z 38 (38 + length (m .ram)) (m .ram) → Holds z m
 packed m b x y z n o s r en eo w v u =
     let first : Wrote b x 0 16 (nibblesOf (m .core)) = rw (en, nibbles-length m) at w in
-    let second : Wrote x y 16 37 (othersOf (m .core)) = rw (eo, others-length m) at v in
+    let second : Wrote x y 16 38 (othersOf (m .core)) = rw (eo, others-length m) at v in
     let all = wrote-then (wrote-then first second) u in
-    let size : length z ≡ 409 = all .size ∙ s in
-    record { size = size; same = sym (take-all (37 + length (m .ram)) z (omega arith)) ∙ wrote-front all }
+    let size : length z ≡ 410 = all .size ∙ s in
+    record { size = size; same = sym (take-all (38 + length (m .ram)) z (omega arith)) ∙ wrote-front all }

@@ -48,8 +48,9 @@ machineFrom l = record {
         };
     pins = record { p0 = getD l 33 0; p8 = getD l 34 0; p4 = getD l 35 0 };
     mode = modeFrom (getD l 36 0);
+    mark = flagAt l 37;
   };
-  ram = drop 37 l;
+  ram = drop 38 l;
 }
 
 two-back : (n : ℕ) → n % 256 + 256 * (n / 256) ≡ n
@@ -71,7 +72,7 @@ mode-back Mode.Hold = refl
 back : (m : Machine) → machineFrom (recordBytes m) ≡ m
 unfolding nibblesOf othersOf latchBytes two four
 back m =
-    rw (two-back (m .core .pc), two-back (m .core .ptrs .dp), two-back (m .core .timers .ta), two-back (m .core .timers .tb), four-back (m .core .timers .base), flag-back (m .core .regs .cf), flag-back (m .core .regs .zf), flag-back (m .core .regs .sf), flag-back (m .core .ints .ei), mode-back (m .core .mode))
+    rw (two-back (m .core .pc), two-back (m .core .ptrs .dp), two-back (m .core .timers .ta), two-back (m .core .timers .tb), four-back (m .core .timers .base), flag-back (m .core .regs .cf), flag-back (m .core .regs .zf), flag-back (m .core .regs .sf), flag-back (m .core .ints .ei), mode-back (m .core .mode), flag-back (m .core .mark))
 
 pub same-bytes : (m n : Machine) → recordBytes m ≡ recordBytes n → m ≡ n
 same-bytes m n e = sym (back m) ∙ (ap machineFrom e ∙ back n)
@@ -90,7 +91,7 @@ mode-lt Mode.Sleep = omega arith
 mode-lt Mode.Hold = omega arith
 
 -- what a record's bytes meet, whatever the record
-pub flags-of : (m : Machine) → FlagsFit (take 37 (recordBytes m))
+pub flags-of : (m : Machine) → FlagsFit (take 38 (recordBytes m))
 unfolding nibblesOf othersOf latchBytes two four
 flags-of m =
-    record { cf = bit-lt (m .core .regs .cf); zf = bit-lt (m .core .regs .zf); sf = bit-lt (m .core .regs .sf); ei = bit-lt (m .core .ints .ei); mode = mode-lt (m .core .mode) }
+    record { cf = bit-lt (m .core .regs .cf); zf = bit-lt (m .core .regs .zf); sf = bit-lt (m .core .regs .sf); ei = bit-lt (m .core .ints .ei); mode = mode-lt (m .core .mode); mark = bit-lt (m .core .mark) }

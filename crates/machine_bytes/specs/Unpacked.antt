@@ -10,13 +10,14 @@ use Rattle.machine.specs.declared.Timers.{Timers}
 use Rattle.machine_bytes.specs.Layout.{two, four, Holds, HoldsNone}
 use Rattle.machine_bytes.specs.declared.Unpacked.{Unpacked}
 
--- the bytes that are flags, and the mode's: any other byte may have any value
+-- the bytes that are flags, the mark among them, and the mode's: any other byte may have any value
 pub record FlagsFit (head : List ℕ) : Type 0 where
   pub cf : getD head 24 0 < 2
   pub zf : getD head 25 0 < 2
   pub sf : getD head 26 0 < 2
   pub ei : getD head 27 0 < 2
   pub mode : getD head 36 0 < 3
+  pub mark : getD head 37 0 < 2
 
 -- the registers and the timers whose bytes stand in the head
 pub record RegistersAt (head : List ℕ) (r : Registers) : Type 0 where

@@ -1,4 +1,4 @@
-// The record as 409 bytes, and back. The layout loses nothing: proofs/Tells.antt, `one-record`.
+// The record as 410 bytes, and back. The layout loses nothing: proofs/Tells.antt, `one-record`.
 use bits::bit_of;
 use bytes::copy;
 use frame::Pins;
@@ -22,11 +22,14 @@ ghost use lib.ListN.{length, take, drop};
 ghost use Rattle.laws.specs.Decides.{Decides};
 ghost use Rattle.laws.specs.Writing.{Wrote};
 ghost use Rattle.bits.specs.Bits.{bitOf};
-ghost use Rattle.machine_bytes.specs.Layout.{recordSize, two, four, modeNumber, latchBytes, nibblesOf, othersOf, headOf, Holds};
+ghost use Rattle.machine_bytes.specs.Layout.{headSize, recordSize, two, four, modeNumber, latchBytes, nibblesOf, othersOf, headOf, Holds};
 ghost use Rattle.machine_bytes.specs.Unpacked.{FlagsFit, RegistersAt, TimersAt, Unpacks};
 
 // How many bytes a record takes.
-pub const RECORD_BYTES: usize = 409;
+pub const RECORD_BYTES: usize = 410;
+
+// How many of them come before RAM.
+const HEAD_BYTES: usize = 38;
 
 // Whether a buffer holds a record, and that record; where it holds none, the fresh one.
 pub struct Unpacked {
@@ -80,8 +83,8 @@ fn nibbles_of(m: Core) -> [u8; 16]
     ]
 }
 
-// Bytes 16 to 36.
-fn others_of(m: Core) -> [u8; 21]
+// Bytes 16 to 37.
+fn others_of(m: Core) -> [u8; 22]
     ensures { λ r. ⌜ r ≡ othersOf m ⌝ }
 {
     let mode = m.mode;
@@ -109,6 +112,7 @@ fn others_of(m: Core) -> [u8; 21]
         m.pins.p8,
         m.pins.p4,
         mode_number(mode),
+        bit_of(m.mark),
     ]
 }
 
@@ -119,7 +123,7 @@ fn put(out: &mut [u8], from: usize, part: &[u8])
     copy(part, &mut out[from..]);
 }
 
-// The record's bytes in a buffer of 409.
+// The record's bytes in a buffer of 410.
 pub fn pack(m: Machine, out: &mut [u8])
     requires { ⌜ length (now out) ≡ recordSize ⌝ }
     ensures { λ _. ⌜ Holds (now (out .exit)) m ⌝ }
@@ -130,7 +134,7 @@ pub fn pack(m: Machine, out: &mut [u8])
     let others = others_of(core);
     put(out, 0, &nibbles);
     put(out, 16, &others);
-    put(out, 37, &ram);
+    put(out, HEAD_BYTES, &ram);
 }
 
 fn from_two(a: u8, b: u8) -> u16
@@ -163,16 +167,17 @@ fn mode_of(b: u8) -> Mode
     }
 }
 
-fn flags_fit(head: &[u8; 37]) -> bool
+fn flags_fit(head: &[u8; HEAD_BYTES]) -> bool
     ensures { λ r. ⌜ Decides r (FlagsFit (now (head .entry))) ⌝ }
 {
     let carry_zero = both(head[24] < 2, head[25] < 2);
     let status_enable = both(head[26] < 2, head[27] < 2);
-    both(carry_zero, both(status_enable, head[36] < 3))
+    let mode_mark = both(head[36] < 3, head[37] < 2);
+    both(carry_zero, both(status_enable, mode_mark))
 }
 
-fn ports_of(head: &[u8; 37]) -> Ports
-    requires { ⌜ length (now head) ≡ 37 ⌝ }
+fn ports_of(head: &[u8; HEAD_BYTES]) -> Ports
+    requires { ⌜ length (now head) ≡ headSize ⌝ }
     ensures { λ r. ⌜ latchBytes r ≡ take 11 (drop 5 (now (head .entry))) ⌝ }
 {
     Ports {
@@ -190,7 +195,7 @@ fn ports_of(head: &[u8; 37]) -> Ports
     }
 }
 
-fn registers_of(head: &[u8; 37]) -> Registers
+fn registers_of(head: &[u8; HEAD_BYTES]) -> Registers
     requires { ⌜ FlagsFit (now head) ⌝ }
     ensures { λ r. ⌜ RegistersAt (now (head .entry)) r ⌝ }
 {
@@ -204,7 +209,7 @@ fn registers_of(head: &[u8; 37]) -> Registers
     }
 }
 
-fn timers_of(head: &[u8; 37]) -> Timers
+fn timers_of(head: &[u8; HEAD_BYTES]) -> Timers
     ensures { λ r. ⌜ TimersAt (now (head .entry)) r ⌝ }
 {
     Timers {
@@ -214,8 +219,8 @@ fn timers_of(head: &[u8; 37]) -> Timers
     }
 }
 
-fn core_of(head: &[u8; 37]) -> Core
-    requires { ⌜ (length (now head) ≡ 37) × (FlagsFit (now head)) ⌝ }
+fn core_of(head: &[u8; HEAD_BYTES]) -> Core
+    requires { ⌜ (length (now head) ≡ headSize) × (FlagsFit (now head)) ⌝ }
     ensures { λ r. ⌜ now (head .entry) ≡ headOf r ⌝ }
 {
     let ptrs = Pointers {
@@ -237,6 +242,7 @@ fn core_of(head: &[u8; 37]) -> Core
         ports: ports_of(head),
         pins: pins,
         mode: mode_of(head[36]),
+        mark: flag(head[37]),
     }
 }
 
@@ -249,21 +255,21 @@ fn no_record() -> Unpacked
     }
 }
 
-fn head_at(bytes: &[u8]) -> [u8; 37]
+fn head_at(bytes: &[u8]) -> [u8; HEAD_BYTES]
     requires { ⌜ length (now bytes) ≡ recordSize ⌝ }
-    ensures { λ r. ⌜ r ≡ take 37 (now (bytes .entry)) ⌝ }
+    ensures { λ r. ⌜ r ≡ take headSize (now (bytes .entry)) ⌝ }
 {
-    let mut head = [0u8; 37];
-    copy(&bytes[..37], &mut head);
+    let mut head = [0u8; HEAD_BYTES];
+    copy(&bytes[..HEAD_BYTES], &mut head);
     head
 }
 
 fn ram_at(bytes: &[u8]) -> Ram
     requires { ⌜ length (now bytes) ≡ recordSize ⌝ }
-    ensures { λ r. ⌜ r ≡ drop 37 (now (bytes .entry)) ⌝ }
+    ensures { λ r. ⌜ r ≡ drop headSize (now (bytes .entry)) ⌝ }
 {
     let mut ram = [0u8; RAM_NIBBLES];
-    copy(&bytes[37..], &mut ram);
+    copy(&bytes[HEAD_BYTES..], &mut ram);
     ram
 }
 

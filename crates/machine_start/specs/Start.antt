@@ -34,6 +34,7 @@ freshCore regs ptrs = record {
   ports = freshPorts;
   pins = frameFF1;
   mode = Mode.Running;
+  mark = false;
 }
 
 abbrev pub freshMachine : Machine

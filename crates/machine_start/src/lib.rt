@@ -52,6 +52,7 @@ fn fresh_core(regs: Registers, ptrs: Pointers) -> Core
             p4: 1,
         },
         mode: Mode::Running,
+        mark: false,
     }
 }
 

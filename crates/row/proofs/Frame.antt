@@ -16,24 +16,14 @@ use Rattle.row.specs.Places.{Around, withPc}
 use Rattle.row.specs.Steps.{Did}
 use Rattle.row.specs.Rows.{Done, spent, stops, withMarks, workOf, branchOf, callOf, worked, ended, latchesOf, performed, pcPast}
 use Rattle.row.specs.Columns.{isPort, stepPuts, workPuts, isOrdinary, Ordinary}
-use Rattle.row.proofs.Keeps.{putting, work-keeps-but}
+use Rattle.row.proofs.Keeps.{putting, work-keeps-always, work-keeps-but}
 
 -- every work leaves EI; and the mode, unless it puts a nibble to a port
 work-ei : (m : Machine) (w : Around) (l : Line) (s : Step) (a : After) → workOf m w l s a .machine .core .ints .ei ≡ m .core .ints .ei
 work-ei m w l s a =
-    work-keeps-but (λ n. n .core .ints .ei) w (λ n q. refl) (λ n q. refl) (λ n r pc. refl) (λ p. false)
-    (λ n p v e. putting {P = λ k. k .core .ints .ei ≡ n .core .ints .ei} p (record { same = refl; regs = λ r. refl; ram = λ r. refl; ports = λ q e. refl; ptrs = λ q. refl; timers = λ t. refl; ints = λ i e. e }))
-    m l s a (puts-none s a)
-  where
-    step-none : (s : Step) → stepPuts (λ p. false) s ≡ false
-    step-none (Step.put d o x y) = refl
-    step-none (Step.exchange d x) = refl
-    step-none Step.DP+1 = refl
-
-    puts-none : (s : Step) (a : After) → workPuts (λ p. false) s a ≡ false
-    puts-none s After.alone = rw (step-none s)
-    puts-none s (After.flags-of t) = rw (step-none s, step-none t)
-    puts-none s (After.flags-before t) = rw (step-none s, step-none t)
+    work-keeps-always (λ n. n .core .ints .ei) w (λ n q. refl) (λ n q. refl) (λ n r pc. refl)
+    (λ n p v. putting {P = λ k. k .core .ints .ei ≡ n .core .ints .ei} p (record { same = refl; regs = λ r. refl; ram = λ r. refl; ports = λ q e. refl; ptrs = λ q. refl; timers = λ t. refl; ints = λ i e. e }))
+    m l s a
 
 work-mode : (m : Machine) (w : Around) (l : Line) (s : Step) (a : After) → workPuts isPort s a ≡ false → workOf m w l s a .machine .core .mode ≡ m .core .mode
 work-mode m w l s a =

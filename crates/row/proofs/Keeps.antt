@@ -88,6 +88,21 @@ module _ {A : Type 0} (f : Machine → A) (w : Around)
         picked (λ (x : Done). f (x .machine) ≡ f m) (eqb (worked m w s a .stop) 0) _ _
         (ends (worked m w s a .machine) _ _ ∙ worked-keeps m s a h k) refl
 
+  -- every place is allowed
+  module _ (puts : (m : Machine) (p : Place) (v : ℕ) → f (putOf m w p v .machine) ≡ f m) where
+    any-in : (m : Machine) (s : Step) → AllowedIn w (λ m p. Unit) m s
+    any-in m (Step.put d o x y) = tt
+    any-in m (Step.exchange d x) = (tt, tt)
+    any-in m Step.DP+1 = tt
+
+    any-after : (m : Machine) (s : Step) (a : After) → AllowedAfter w (λ m p. Unit) m s a
+    any-after m s After.alone = tt
+    any-after m s (After.flags-of t) = any-in _ t
+    any-after m s (After.flags-before t) = any-in _ t
+
+    pub work-keeps-always : (m : Machine) (l : Line) (s : Step) (a : After) → f (workOf m w l s a .machine) ≡ f m
+    work-keeps-always m l s a = work-keeps (λ m p. Unit) (λ m p v _. puts m p v) m l s a (any-in m s) (any-after m s a)
+
   -- the places allowed are those without a property
   module _ (g : Place → Bool) (puts : (m : Machine) (p : Place) (v : ℕ) → g p ≡ false → f (putOf m w p v .machine) ≡ f m) where
     none-in : (m : Machine) (s : Step) → stepPuts g s ≡ false → AllowedIn w (λ m p. g p ≡ false) m s

@@ -7,4 +7,5 @@ pub mod StepsValid
 pub mod RowsValid
 pub mod RowStops
 pub mod RowMode
+pub mod RowMark
 pub mod Turns

@@ -20,7 +20,7 @@ use Rattle.machine.specs.Valid.{Valid}
 use Rattle.machine.specs.Stack.{CanPop, popped, flagsReturned}
 use Rattle.machine.specs.declared.Machine.{Machine}
 use Rattle.machine.proofs.StackValid.{called-valid, popped-valid, flags-returned-valid}
-use Rattle.row.specs.Places.{Around}
+use Rattle.row.specs.Places.{Around, withPc}
 use Rattle.row.specs.Rows.{spent, stops, pcPast, withMarks, worked, workOf, branchOf, callOf, returned, latchesOf, performed, executed}
 use Rattle.row.proofs.PortsValid.{chosen-lt}
 use Rattle.row.proofs.PutValid.{regs-valid, pc-valid}
@@ -79,7 +79,7 @@ picked-valid true c s n m h k = h tt
 picked-valid false c s n m h k = k
 
 module _ (w : Around) (m : Machine) (valid : Valid m) (running : m .core .mode ≡ Running) (bytes : (at : ℕ) → (w .rom) at < 256) where
-  past-valid : (l : Line) (x : Machine) (y : Made) → Valid x → Valid (record { core = record { regs = withMarks x l y .core .regs; pc = pcPast m l; ptrs = x .core .ptrs; ints = x .core .ints; timers = x .core .timers; ports = x .core .ports; pins = x .core .pins; mode = x .core .mode }; ram = x .ram })
+  past-valid : (l : Line) (x : Machine) (y : Made) → Valid x → Valid (withPc (withMarks x l y) (pcPast m l))
   past-valid l x y h = pc-valid (flags-valid x l y h) (omega arith)
 
   latches-valid : (l : Line) (e : Enable) → w .insn .a < 64 → Valid (latchesOf m w l e .machine)

@@ -50,6 +50,7 @@ fn wrote(m: Core, n: u8, v: u8, bytes: u8, ports: Ports) -> Core
         ports: ports,
         pins: pins,
         mode: mode,
+        mark: m.mark,
     }
 }
 

@@ -20,7 +20,7 @@ use Rattle.row.specs.Turns.{Gives}
 use Rattle.step.specs.Step.{stepOf}
 use Rattle.row.specs.declared.Turn.{Turn}
 use Rattle.step.specs.declared.Options.{Options}
-use Rattle.step.proofs.StepValid.{step-valid, stop-undoes}
+use Rattle.step.proofs.StepValid.{step-valid}
 use Rattle.run.specs.Run.{runOver, runOf}
 use Rattle.run.specs.declared.Ran.{Ran}
 
@@ -76,11 +76,6 @@ module _ (rom : ℕ → ℕ) (o : Options) (frames : List ℕ) where
             same = next-same h ∙ rw (← stepped, eq-eqb (x .stop) 0 z) (ap (λ (n : ℕ). runOver rom o (framesOf (drop (at + 3) frames)) n (cycles + x .cycles) (assembled (x .core) k)) (omega arith));
           }
 
-      kept : (x .stop ≡ 0 → ⊥) → k ≡ ram
-      kept z =
-          let d = stop-undoes rom o (assembled core ram) (pinsOf (charsAt frames at)) (λ q. z (ap (λ (d : Done). d .stop) stepped ∙ q)) in
-          ap (λ (d : Done). d .machine .ram) (stepped ∙ d)
-
       -- the run ends at a stop
-      pub ends-early : (x .stop ≡ 0 → ⊥) → record { number = x .stop; steps = steps; cycles = cycles; machine = assembled core k } ≡ whole
-      ends-early z = sym (next-same h ∙ rw (← stepped, ne-eqb (x .stop) 0 z, kept z))
+      pub ends-early : (x .stop ≡ 0 → ⊥) → record { number = x .stop; steps = steps; cycles = cycles; machine = assembled (x .core) k } ≡ whole
+      ends-early z = sym (next-same h ∙ rw (← stepped, ne-eqb (x .stop) 0 z))

@@ -1,3 +1,4 @@
 pub mod Going
 pub mod Answering
 pub mod Rest
+pub mod AsBefore

@@ -41,7 +41,7 @@ module _ (rom : ℕ → ℕ) (o : Options) where
   run-later [] steps cycles m = later-stopped 0 steps cycles m
   run-later (pins ∷ others) steps cycles m =
       let d = stepOf rom o m pins in
-      later-picked (eqb (d .stop) 0) (d .stop) steps cycles m _ _
+      later-picked (eqb (d .stop) 0) (d .stop) steps cycles (d .machine) _ _
       (run-later others (suc steps) (cycles + d .cycles) (d .machine)
       ∙ later-twice steps cycles (d .cycles) (runOver rom o others 0 0 (d .machine))
       ∙ ap (later steps cycles) (sym (run-later others 1 (0 + d .cycles) (d .machine))))
@@ -55,7 +55,7 @@ module _ (rom : ℕ → ℕ) (o : Options) where
       rw (eq-eqb (d .stop) 0 z, zero-add (d .cycles)) (run-later others 1 (d .cycles) (d .machine))
 
   -- a run that completes has completed its first step
-  completes-on : (pins : Pins) (others : List Pins) (steps cycles : ℕ) (m : Machine) → runOver rom o (pins ∷ others) steps cycles m .number ≡ 0 → Dec (stepOf rom o m pins .stop ≡ 0) → stepOf rom o m pins .stop ≡ 0
+  pub completes-on : (pins : Pins) (others : List Pins) (steps cycles : ℕ) (m : Machine) → runOver rom o (pins ∷ others) steps cycles m .number ≡ 0 → Dec (stepOf rom o m pins .stop ≡ 0) → stepOf rom o m pins .stop ≡ 0
   completes-on pins others steps cycles m z (yes e) = e
   completes-on pins others steps cycles m z (no ne) = absurd (ne (rw (ne-eqb (stepOf rom o m pins .stop) 0 ne) at z))
 

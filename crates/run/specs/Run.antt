@@ -9,13 +9,13 @@ use Rattle.step.specs.Step.{stepOf}
 use Rattle.step.specs.declared.Options.{Options}
 use Rattle.run.specs.declared.Ran.{Ran}
 
--- the record m has made these steps and spent these cycles, and has these frames before it
+-- the record m has made these steps and spent these cycles, and has these frames before it. "A stop now leaves the record as the first call left it" (Q-4), so the run ends with what its last step gives
 abbrev pub runOver : (ℕ → ℕ) → Options → List Pins → ℕ → ℕ → Machine → Ran
 runOver rom o [] steps cycles m = record { number = 0; steps = steps; cycles = cycles; machine = m }
 runOver rom o (pins ∷ others) steps cycles m =
     pick (eqb (stepOf rom o m pins .stop) 0)
     (runOver rom o others (suc steps) (cycles + stepOf rom o m pins .cycles) (stepOf rom o m pins .machine))
-    (record { number = stepOf rom o m pins .stop; steps = steps; cycles = cycles; machine = m })
+    (record { number = stepOf rom o m pins .stop; steps = steps; cycles = cycles; machine = stepOf rom o m pins .machine })
 
 unfoldable pub runOf : (ℕ → ℕ) → Options → Machine → List Pins → Ran
 runOf rom o m frames = runOver rom o frames 0 0 m

@@ -54,6 +54,7 @@ fn run_frames(image: &[u8], options: Options, m: Machine, frames: &[u8]) -> Ran
     while at < frames.len() {
         let pins = pins_at(frames, at);
         let x = advance(image, options, core, &mut ram, pins);
+        core = x.core;
         if x.stop != 0 {
             return Ran {
                 number: x.stop,
@@ -65,7 +66,6 @@ fn run_frames(image: &[u8], options: Options, m: Machine, frames: &[u8]) -> Ran
                 },
             };
         }
-        core = x.core;
         cycles += x.cycles as u32;
         steps += 1;
         at += 3;

@@ -42,10 +42,10 @@ abbrev shownBy : Pins → Frame → Pins
 shownBy q (Frame.Seen p) = p
 shownBy q Frame.NoFrame = q
 
-not-both : {f : Frame} {p : Pins} → f ≡ Frame.Seen p → f ≡ Frame.NoFrame → ⊥
+pub not-both : {f : Frame} {p : Pins} → f ≡ Frame.Seen p → f ≡ Frame.NoFrame → ⊥
 not-both {p = p} e n = true→T (ap isSeen (sym (sym e ∙ n)))
 
-same-pins : {f : Frame} {p q : Pins} → f ≡ Frame.Seen p → f ≡ Frame.Seen q → p ≡ q
+pub same-pins : {f : Frame} {p q : Pins} → f ≡ Frame.Seen p → f ≡ Frame.Seen q → p ≡ q
 same-pins {p = p} e n = ap (shownBy p) (sym e ∙ n)
 
 range-of : (cs : List ℕ) (p : Pins) (t : Bool) → isFrame em73862Digits cs ≡ t → pick t (Frame.Seen (pinsOf cs)) Frame.NoFrame ≡ Frame.Seen p → PinsInRange p

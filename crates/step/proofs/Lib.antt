@@ -1,3 +1,4 @@
 pub mod Stepping
 pub mod StepValid
+pub mod AsBefore
 pub mod Answering

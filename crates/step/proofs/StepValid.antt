@@ -1,52 +1,55 @@
--- A step of a valid record is valid, and its stop gives back the record that was handed in.
-use mathlib.Core.Path.{_≡_, refl}
-use mathlib.Core.Bool.{Bool, true, false}
+-- A step of a valid record is valid and leaves no mark; its stop gives the record as the look left it.
+use mathlib.Core.Path.{_≡_, refl, ap, _∙_}
+use mathlib.Core.Bool.{Bool, true, false, not}
 use Prim.Native.Nat.{ℕ, _<_}
-use native.Mathlib.Decide.{ℕ-discrete}
-use lib.Dec.{eqb}
-use borrow.Author.Tests.{eq-eqb, ne-eqb}
-use Rattle.laws.specs.Choice.{pick}
-use Rattle.laws.proofs.Choices.{picked}
+use Rattle.laws.specs.Choice.{both}
+use Rattle.laws.proofs.Choices.{picked-by}
+use Rattle.laws.proofs.Computed.{T→true, both-left}
 use Rattle.frame.specs.Frame.{PinsInRange}
 use Rattle.frame.specs.declared.Pins.{Pins}
-use Rattle.ports.specs.declared.Mode.the-variants.{Running}
 use Rattle.machine.specs.Valid.{Valid}
 use Rattle.machine.specs.declared.Machine.{Machine}
+use Rattle.machine.proofs.WithValid.{with-mark}
 use Rattle.row.specs.Rows.{Done, spent, stops}
-use Rattle.step_look.specs.Look.{isRunning, looked}
-use Rattle.step_look.specs.declared.Looked.{Looked}
-use Rattle.step_look.proofs.LookValid.{looked-valid, looked-running}
+use Rattle.step_look.specs.Look.{isRunning}
+use Rattle.step_look.proofs.LookValid.{looked-valid, running-is}
 use Rattle.step_act.specs.Act.{actOf}
 use Rattle.step_act.proofs.ActValid.{act-valid}
-use Rattle.step.specs.Step.{undone, goneOn, stepOf}
+use Rattle.step_act.proofs.Stops.{act-keeps, act-marked}
+use Rattle.step.specs.Step.{lookStep, unmarked, actStep, stepOf}
 use Rattle.step.specs.declared.Options.{Options}
+use Rattle.step.proofs.Stepping.{sighted, look-runs, step-runs, step-waits}
 
-undone-stops : (m : Machine) (x : Done) → Dec (x .stop ≡ 0) → (undone m x .stop ≡ 0 → ⊥) → undone m x ≡ stops (undone m x .stop) m
-undone-stops m x (yes e) z = absurd (z (rw (eq-eqb (x .stop) 0 e) e))
-undone-stops m x (no ne) z = rw (ne-eqb (x .stop) 0 ne)
+pub look-valid : (o : Options) (m : Machine) (pins : Pins) → Valid m → PinsInRange pins → Valid (lookStep o m pins .machine)
+unfolding lookStep
+look-valid o m pins h p = record { core = looked-valid (o .wake) (m .core) pins (h .core) p; ram = h .ram }
 
-gone-undone : (m : Machine) (t : Bool) (x : Done) (cycles : ℕ) (seen : Machine) → (pick t (undone m x) (spent cycles seen) .stop ≡ 0 → ⊥) → pick t (undone m x) (spent cycles seen) ≡ stops (pick t (undone m x) (spent cycles seen) .stop) m
-gone-undone m true x cycles seen z = undone-stops m x (ℕ-discrete (x .stop) 0) z
-gone-undone m false x cycles seen z = absurd (z refl)
+pub act-step-valid : (rom : ℕ → ℕ) (o : Options) (m : Machine) → Valid m → ((at : ℕ) → rom at < 256) → Valid (actStep rom o m .machine)
+unfolding actStep
+act-step-valid rom o m h bytes =
+    let runs = isRunning (m .core .mode) in
+    let free = not (m .core .mark) in
+    picked-by (λ (d : Done). Valid (d .machine)) (both runs free) (actOf rom (o .sound) m) (spent 0 (unmarked m))
+    (λ t. act-valid rom (o .sound) m h (running-is (m .core .mode) (T→true runs (both-left runs free t))) bytes) (record { core = with-mark (h .core); ram = h .ram })
 
-module _ (rom : ℕ → ℕ) (o : Options) (m : Machine) where
-  gone-valid : (t : Bool) (v : Looked) → isRunning (m .core .mode) ≡ t → Valid m → Valid (record { core = v .core; ram = m .ram }) → (t ≡ true → v .core .mode ≡ Running) → ((at : ℕ) → rom at < 256) → Valid (goneOn rom o m v .machine)
-  gone-valid true v e h s r bytes =
-      let seen : Machine = record { core = v .core; ram = m .ram } in
-      rw e
-      (picked (λ (d : Done). Valid (d .machine)) (eqb (actOf rom (o .sound) seen .stop) 0) (actOf rom (o .sound) seen) (stops (actOf rom (o .sound) seen .stop) m)
-      (act-valid rom (o .sound) seen s (r refl) bytes) h)
-  gone-valid false v e h s r bytes = rw e s
-
-  pub step-valid : (pins : Pins) → Valid m → PinsInRange pins → ((at : ℕ) → rom at < 256) → Valid (stepOf rom o m pins .machine)
+module _ (rom : ℕ → ℕ) (o : Options) (m : Machine) (pins : Pins) where
+  pub step-valid : Valid m → PinsInRange pins → ((at : ℕ) → rom at < 256) → Valid (stepOf rom o m pins .machine)
   unfolding stepOf
-  step-valid pins h p bytes =
-      gone-valid (isRunning (m .core .mode)) (looked (o .wake) (m .core) pins) refl h (record { core = looked-valid (o .wake) (m .core) pins (h .core) p; ram = h .ram })
-      (λ q. looked-running (o .wake) (m .core) pins q) bytes
+  step-valid h p bytes = act-step-valid rom o (lookStep o m pins .machine) (look-valid o m pins h p) bytes
 
-  -- "A stop gives the record from before that step, last frame included, and zero cycles for it."
-  pub stop-undoes : (pins : Pins) → (stepOf rom o m pins .stop ≡ 0 → ⊥) → stepOf rom o m pins ≡ stops (stepOf rom o m pins .stop) m
-  unfolding stepOf
-  stop-undoes pins z =
-      let v : Looked = looked (o .wake) (m .core) pins in
-      gone-undone m (isRunning (m .core .mode)) (actOf rom (o .sound) (record { core = v .core; ram = m .ram })) (v .cycles) (record { core = v .core; ram = m .ram }) z
+  stop-by : (t : Bool) → isRunning (m .core .mode) ≡ t → (stepOf rom o m pins .stop ≡ 0 → ⊥) → stepOf rom o m pins ≡ stops (stepOf rom o m pins .stop) (lookStep o m pins .machine)
+  stop-by true t z =
+      let e = step-runs rom o m pins t in
+      rw (look-runs rom o m pins t, e) (act-keeps rom (o .sound) (sighted rom o m pins) (λ q. z (ap (λ (d : Done). d .stop) e ∙ q)))
+  stop-by false t z = absurd (z (ap (λ (d : Done). d .stop) (step-waits rom o m pins t)))
+
+  -- "A stop now leaves the record as the first call left it", and spends nothing
+  pub stop-leaves : (stepOf rom o m pins .stop ≡ 0 → ⊥) → stepOf rom o m pins ≡ stops (stepOf rom o m pins .stop) (lookStep o m pins .machine)
+  stop-leaves z = stop-by (isRunning (m .core .mode)) refl z
+
+  mark-by : (t : Bool) → isRunning (m .core .mode) ≡ t → stepOf rom o m pins .machine .core .mark ≡ false
+  mark-by true t = ap (λ (d : Done). d .machine .core .mark) (step-runs rom o m pins t) ∙ act-marked rom (o .sound) (sighted rom o m pins)
+  mark-by false t = ap (λ (d : Done). d .machine .core .mark) (step-waits rom o m pins t)
+
+  pub step-unmarked : stepOf rom o m pins .machine .core .mark ≡ false
+  step-unmarked = mark-by (isRunning (m .core .mode)) refl

@@ -1,59 +1,72 @@
--- A step by its three ways: it stops and is undone, it acts, or it only looked.
-use mathlib.Core.Path.{_≡_, ap, _∙_}
+-- A step by its two ways: a running record sees the frame and acts, another one only looks.
+use mathlib.Core.Path.{_≡_, refl}
 use mathlib.Core.Bool.{true, false}
 use mathlib.Core.List.{List}
 use Prim.Native.Nat.{ℕ}
-use borrow.Author.Tests.{eq-eqb, ne-eqb}
+use native.Mathlib.Nat.{add-zero, zero-add}
+use Rattle.laws.proofs.Choices.{both-false}
 use Rattle.frame.specs.Frame.{PinsInRange}
 use Rattle.frame.specs.declared.Pins.{Pins}
 use Rattle.machine.specs.Valid.{ValidCore}
 use Rattle.machine.specs.declared.Core.{Core}
-use Rattle.row.specs.Rows.{Done}
-use Rattle.machine.specs.With.{assembled}
+use Rattle.machine.specs.declared.Machine.{Machine}
+use Rattle.row.specs.Rows.{spent}
+use Rattle.machine.specs.With.{assembled, coreWithMark}
 use Rattle.row.specs.declared.Turn.{Turn}
 use Rattle.step_look.specs.Look.{seen, isRunning, waited, looked}
 use Rattle.step_look.specs.declared.Looked.{Looked}
-use Rattle.step_look.proofs.LookValid.{seen-valid, running-is}
+use Rattle.step_look.proofs.LookValid.{seen-valid, running-is, waited-marked}
 use Rattle.step_act.specs.Act.{actOf}
 use Rattle.step_act.specs.Runs.{Runs}
-use Rattle.step_act.proofs.Stops.{act-keeps-ram}
-use Rattle.step.specs.Step.{stepOf}
-use Rattle.row.specs.Turns.{stoppedTurn, Gives}
+use Rattle.step.specs.Step.{lookStep, unmarked, actStep, stepOf}
+use Rattle.row.specs.Turns.{Gives}
 use Rattle.step.specs.declared.Options.{Options}
 
--- what a running record sees, with which it goes on to act
-abbrev pub sight : Core → Looked
-sight core = record { core = core; cycles = 0 }
-
-pub sees : (enabled : ℕ) (m : Core) (pins : Pins) (core : Core) → core ≡ seen m pins → isRunning (m .mode) ≡ true → sight core ≡ looked enabled m pins
-unfolding looked
-sees enabled m pins core s r = rw (s, r)
-
--- what it sees is valid and running
+-- what a running record sees is valid and running
 pub seen-runs : (m : Core) (pins : Pins) (core : Core) → core ≡ seen m pins → isRunning (m .mode) ≡ true → ValidCore m → PinsInRange pins → Runs core
 seen-runs m pins core s r v p = record { valid = rw s (seen-valid m pins v p); running = rw s (running-is (m .mode) r) }
 
--- one that does not run only looks
-pub waits : (enabled : ℕ) (m : Core) (pins : Pins) (v : Looked) → v ≡ waited enabled m pins → isRunning (m .mode) ≡ false → v ≡ looked enabled m pins
-unfolding looked
-waits enabled m pins v s r = rw (s, r)
+-- the second call acts on a running record without a mark, and passes any other by
+module _ (rom : ℕ → ℕ) (o : Options) (m : Machine) where
+  pub act-runs : isRunning (m .core .mode) ≡ true → m .core .mark ≡ false → actStep rom o m ≡ actOf rom (o .sound) m
+  unfolding actStep
+  act-runs t f = rw (t, f)
 
-module _ (rom : ℕ → ℕ) (o : Options) (m : Core) (l : List ℕ) (pins : Pins) (v : Looked) (e : v ≡ looked (o .wake) m pins) where
-  pub only-looked : isRunning (m .mode) ≡ false → Gives (stepOf rom o (assembled m l) pins) l (record { stop = 0; cycles = v .cycles; core = v .core })
+  pub act-waits : isRunning (m .core .mode) ≡ false → actStep rom o m ≡ spent 0 (unmarked m)
+  unfolding actStep
+  act-waits t = rw t
+
+  pub act-passes : m .core .mark ≡ true → actStep rom o m ≡ spent 0 (unmarked m)
+  unfolding actStep
+  act-passes k = rw (k, both-false (isRunning (m .core .mode)))
+
+module _ (rom : ℕ → ℕ) (o : Options) (m : Machine) (pins : Pins) where
+  -- the record, having seen the frame; and having waited
+  abbrev pub sighted : Machine
+  sighted = assembled (seen (m .core) pins) (m .ram)
+
+  abbrev pub asleep : Machine
+  asleep = assembled (waited (o .wake) (m .core) pins .core) (m .ram)
+
+  pub look-runs : isRunning (m .core .mode) ≡ true → lookStep o m pins ≡ spent 0 sighted
+  unfolding lookStep looked
+  look-runs t = rw t
+
+  look-waits : isRunning (m .core .mode) ≡ false → lookStep o m pins ≡ spent (waited (o .wake) (m .core) pins .cycles) asleep
+  unfolding lookStep looked
+  look-waits t = rw t
+
+  pub step-runs : isRunning (m .core .mode) ≡ true → stepOf rom o m pins ≡ actOf rom (o .sound) sighted
   unfolding stepOf
-  only-looked t = record { same = rw (← e, t) }
+  step-runs t = rw (look-runs t, act-runs rom o sighted t refl, zero-add (actOf rom (o .sound) sighted .cycles))
 
-  module _ (k : List ℕ) (x : Turn) (t : isRunning (m .mode) ≡ true) (g : Gives (actOf rom (o .sound) (assembled (v .core) l)) k x) where
-    pub acted : x .stop ≡ 0 → Gives (stepOf rom o (assembled m l) pins) k x
-    unfolding stepOf
-    acted z = record { same = rw (← e, t, ← g .same, eq-eqb (x .stop) 0 z) }
+  pub step-waits : isRunning (m .core .mode) ≡ false → stepOf rom o m pins ≡ spent (waited (o .wake) (m .core) pins .cycles) (unmarked asleep)
+  unfolding stepOf
+  step-waits t = rw (look-waits t, act-passes rom o asleep (waited-marked (o .wake) (m .core) pins), add-zero (waited (o .wake) (m .core) pins .cycles))
 
-    kept : (x .stop ≡ 0 → ⊥) → k ≡ l
-    kept z =
-        let r = ap (λ (d : Done). d .machine .ram) (g .same) in
-        let s = ap (λ (d : Done). d .stop) (g .same) in
-        r ∙ act-keeps-ram rom (o .sound) (assembled (v .core) l) (λ q. z (s ∙ q))
+module _ (rom : ℕ → ℕ) (o : Options) (m : Core) (l : List ℕ) (pins : Pins) where
+  pub waits : (v : Looked) → v ≡ waited (o .wake) m pins → isRunning (m .mode) ≡ false → Gives (stepOf rom o (assembled m l) pins) l (record { stop = 0; cycles = v .cycles; core = coreWithMark (v .core) false })
+  waits v e t = record { same = rw (step-waits rom o (assembled m l) pins t, ← e) }
 
-    pub stops : (x .stop ≡ 0 → ⊥) → Gives (stepOf rom o (assembled m l) pins) k (stoppedTurn m (x .stop))
-    unfolding stepOf
-    stops z = record { same = rw (← e, t, ← g .same, ne-eqb (x .stop) 0 z, kept z) }
+  pub runs : (core : Core) → core ≡ seen m pins → isRunning (m .mode) ≡ true → (k : List ℕ) (x : Turn) → Gives (actOf rom (o .sound) (assembled core l)) k x → Gives (stepOf rom o (assembled m l) pins) k x
+  runs core e t k x g = record { same = rw (step-runs rom o (assembled m l) pins t, ← e) (g .same) }

@@ -11,7 +11,6 @@ use numbers::IMAGE_IS_NOT_8192_BYTES;
 use numbers::NO_FRAME;
 use numbers::RECORD_OUTSIDE_THE_RANGES;
 use row::Turn;
-use row::stopped;
 use step_act::act;
 use step_look::is_running;
 use step_look::seen;
@@ -39,7 +38,7 @@ pub struct Stepped {
     pub machine: Machine,
 }
 
-// A step on the RAM that is lent.
+// A step on the RAM that is lent: the record looks at the frame and then, where it ran before, acts.
 pub fn advance(image: &[u8], options: Options, m: Core, ram: &mut Ram, pins: Pins) -> Turn
     requires { ⌜ (ValidCore m) × (Nibbles (now ram)) × (length (now image) ≡ imageBytes) × (PinsInRange pins) ⌝ }
     ensures { λ x. ⌜ Gives (stepOf (romOf (now (image .entry))) options (record { core = m; ram = now (ram .entry) }) pins) (now (ram .exit)) x ⌝ }
@@ -47,14 +46,11 @@ pub fn advance(image: &[u8], options: Options, m: Core, ram: &mut Ram, pins: Pin
     let mode = m.mode;
     if is_running(mode) {
         let core = seen(m, pins);
-        let x = act(image, options.sound, core, ram);
-        if x.stop != 0 {
-            return stopped(m, x.stop);
-        }
-        return x;
+        return act(image, options.sound, core, ram);
     }
     let asleep = waited(options.wake, m, pins);
-    let core = asleep.core;
+    let mut core = asleep.core;
+    core.mark = false;
     Turn {
         stop: 0,
         cycles: asleep.cycles,
@@ -62,7 +58,7 @@ pub fn advance(image: &[u8], options: Options, m: Core, ram: &mut Ram, pins: Pin
     }
 }
 
-fn step_refused(number: u8, m: Machine) -> Stepped
+pub fn step_refused(number: u8, m: Machine) -> Stepped
     ensures { λ r. ⌜ r ≡ stepRefused number m ⌝ }
 {
     Stepped {

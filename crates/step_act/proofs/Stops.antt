@@ -1,5 +1,5 @@
--- A turn that stops leaves the record as it was; what acts leaves RAM.
-use mathlib.Core.Path.{_≡_, refl, ap}
+-- A turn that stops leaves the record as it was and spends nothing, and so does acting; a turn and acting leave the mark.
+use mathlib.Core.Path.{_≡_, refl, ap, _∙_}
 use mathlib.Core.Bool.{Bool}
 use Prim.Native.Nat.{ℕ}
 use lib.Dec.{ltb}
@@ -8,15 +8,42 @@ use Rattle.numbers.specs.ComesBack.{stack-level}
 use Rattle.sheet.specs.Reading.{readAt}
 use Rattle.sheet.specs.Table.{lineAt}
 use Rattle.sheet.specs.declared.Read.{Read}
+use Rattle.clock.specs.Clock.{passed}
+use Rattle.ports.specs.declared.Mode.{Mode}
 use Rattle.machine.specs.Stack.{canPush, accepted}
+use Rattle.machine.specs.declared.Core.{Core}
 use Rattle.machine.specs.declared.Machine.{Machine}
 use Rattle.row.specs.Rows.{Done, spent, stops}
 use Rattle.row.proofs.Frame.{stop-undone}
-use Rattle.step_act.specs.Act.{sourceOf, acceptOf, runRead, runOne, acceptOrRun, actOf}
+use Rattle.row.proofs.RowMark.{performed-mark}
+use Rattle.step_act.specs.Act.{sourceOf, acceptOf, runRead, runOne, acceptOrRun, coreIn, coreAfter, afterTime, actOf}
 
--- a stop keeps the record m
+-- a stop gives the record m back and spends nothing
 abbrev Keeps : Machine → Done → Type 0
-Keeps m x = (x .stop ≡ 0 → ⊥) → x .machine ≡ m
+Keeps m x = (x .stop ≡ 0 → ⊥) → x ≡ stops (x .stop) m
+
+abbrev Marked : Machine → Done → Type 0
+Marked m x = x .machine .core .mark ≡ m .core .mark
+
+in-mode-none : (mode : Mode) (m : Core) → coreIn mode 0 m ≡ m
+unfolding passed
+in-mode-none Mode.Running m = refl
+in-mode-none Mode.Sleep m = refl
+in-mode-none Mode.Hold m = refl
+
+-- no cycles, no time
+none-passes : (m : Core) → coreAfter 0 m ≡ m
+unfolding coreAfter
+none-passes m = in-mode-none (m .mode) m
+
+in-mode-marked : (mode : Mode) (n : ℕ) (m : Core) → coreIn mode n m .mark ≡ m .mark
+in-mode-marked Mode.Running n m = refl
+in-mode-marked Mode.Sleep n m = refl
+in-mode-marked Mode.Hold n m = refl
+
+after-marked : (n : ℕ) (m : Core) → coreAfter n m .mark ≡ m .mark
+unfolding coreAfter
+after-marked n m = in-mode-marked (m .mode) n m
 
 module _ (rom : ℕ → ℕ) (sound : Bool) (m : Machine) where
   accept-keeps : (source : ℕ) → Keeps m (acceptOf m source)
@@ -27,16 +54,37 @@ module _ (rom : ℕ → ℕ) (sound : Bool) (m : Machine) where
 
   read-keeps : (r : Read) → Keeps m (runRead rom sound m r)
   read-keeps (Read.Row i) =
-      λ z. ap (λ (x : Done). x .machine) (stop-undone m (record { rom = rom; sound = sound; insn = i }) (lineAt (i .row)) (lineAt (i .row) .operation) z)
+      λ z. stop-undone m (record { rom = rom; sound = sound; insn = i }) (lineAt (i .row)) (lineAt (i .row) .operation) z
   read-keeps Read.Unassigned = λ z. refl
   read-keeps Read.PastEnd = λ z. refl
 
-  pub turn-keeps : Keeps m (acceptOrRun rom sound m)
+  turn-keeps : Keeps m (acceptOrRun rom sound m)
   unfolding acceptOrRun runOne
   turn-keeps =
       picked (Keeps m) (ltb (sourceOf (m .core)) 6) (acceptOf m (sourceOf (m .core))) (runOne rom sound m)
       (accept-keeps (sourceOf (m .core))) (read-keeps (readAt rom (m .core .pc)))
 
-  pub act-keeps-ram : (actOf rom sound m .stop ≡ 0 → ⊥) → actOf rom sound m .machine .ram ≡ m .ram
+  pub act-keeps : Keeps m (actOf rom sound m)
   unfolding actOf
-  act-keeps-ram z = ap (λ (n : Machine). n .ram) (turn-keeps z)
+  act-keeps z =
+      ap afterTime (turn-keeps z)
+      ∙ ap (λ (c : Core). stops (acceptOrRun rom sound m .stop) (record { core = c; ram = m .ram })) (none-passes (m .core))
+
+  accept-marked : (source : ℕ) → Marked m (acceptOf m source)
+  unfolding acceptOf accepted
+  accept-marked source = picked (Marked m) (canPush (m .core)) (spent 2 (accepted m source)) (stops stack-level m) refl refl
+
+  read-marked : (r : Read) → Marked m (runRead rom sound m r)
+  read-marked (Read.Row i) =
+      performed-mark m (record { rom = rom; sound = sound; insn = i }) (lineAt (i .row)) (lineAt (i .row) .operation)
+  read-marked Read.Unassigned = refl
+
+  turn-marked : Marked m (acceptOrRun rom sound m)
+  unfolding acceptOrRun runOne
+  turn-marked =
+      picked (Marked m) (ltb (sourceOf (m .core)) 6) (acceptOf m (sourceOf (m .core))) (runOne rom sound m)
+      (accept-marked (sourceOf (m .core))) (read-marked (readAt rom (m .core .pc)))
+
+  pub act-marked : Marked m (actOf rom sound m)
+  unfolding actOf
+  act-marked = after-marked (acceptOrRun rom sound m .cycles) (acceptOrRun rom sound m .machine .core) ∙ turn-marked

@@ -1,6 +1,6 @@
--- A look at a frame makes a valid record of a valid one, and leaves a running one running.
+-- A look at a frame makes a valid record of a valid one, leaves a running one running, and marks another.
 use mathlib.Core.Path.{_≡_, refl, _∙_}
-use mathlib.Core.Bool.{true}
+use mathlib.Core.Bool.{Bool, true, false}
 use Prim.Native.Nat.{ℕ}
 use Rattle.laws.proofs.Computed.{true→T}
 use Rattle.frame.specs.Frame.{PinsInRange}
@@ -13,14 +13,14 @@ use Rattle.ports.specs.declared.Mode.{Mode}
 use Rattle.machine.specs.Valid.{ModeFits, ValidInterrupts, ValidTimers, ValidCore}
 use Rattle.machine.specs.declared.Core.{Core}
 use Rattle.laws.proofs.Choices.{picked}
-use Rattle.machine.proofs.WithValid.{with-ints, with-timers, with-pins, with-ports-and-mode}
+use Rattle.machine.proofs.WithValid.{with-ints, with-timers, with-pins, with-ports-and-mode, with-mark}
 use Rattle.step_look.specs.declared.Looked.{Looked}
 use Rattle.step_look.specs.Look.{withTime, showing, edgesTimed, edgesCounted, seen, isRunning, releasesByLevel, waited, looked}
 use Rattle.step_look.proofs.Ranges.{is-clear, edges-in-range}
 
 -- a valid record with another mode that fits and another frame, and with other times in range
-showing-valid : (m : Core) (mode : Mode) (new : Pins) → ValidCore m → ModeFits mode (m .ports .p16) → PinsInRange new → ValidCore (showing m mode new)
-showing-valid m mode new v f p = with-ports-and-mode (with-pins v p) (v .ports) f
+showing-valid : (m : Core) (mode : Mode) (mark : Bool) (new : Pins) → ValidCore m → ModeFits mode (m .ports .p16) → PinsInRange new → ValidCore (showing m mode mark new)
+showing-valid m mode mark new v f p = with-mark (with-ports-and-mode (with-pins v p) (v .ports) f)
 
 pub with-time-valid : (m : Core) (t : Time) → ValidCore m → InRange t → ValidCore (withTime m t)
 with-time-valid m t v i =
@@ -34,12 +34,12 @@ counted-in-range m new i t =
 pub seen-valid : (m : Core) (new : Pins) → ValidCore m → PinsInRange new → ValidCore (seen m new)
 seen-valid m new v p =
     let t = edgesCounted m new in
-    showing-valid (withTime m t) (m .mode) new (with-time-valid m t v (counted-in-range m new (v .ints) (v .timers))) (v .mode) p
+    showing-valid (withTime m t) (m .mode) false new (with-time-valid m t v (counted-in-range m new (v .ints) (v .timers))) (v .mode) p
 
 waited-valid : (enabled : ℕ) (m : Core) (new : Pins) → ValidCore m → PinsInRange new → ValidCore (waited enabled m new .core)
 unfolding waited
 waited-valid enabled m new v p =
-    picked (λ (l : Looked). ValidCore (l .core)) (wakes (releasesByLevel (m .ports .p16)) enabled (m .pins) new) _ _ (showing-valid m Mode.Running new v tt p) (showing-valid m (m .mode) new v (v .mode) p)
+    picked (λ (l : Looked). ValidCore (l .core)) (wakes (releasesByLevel (m .ports .p16)) enabled (m .pins) new) _ _ (showing-valid m Mode.Running true new v tt p) (showing-valid m (m .mode) true new v (v .mode) p)
 
 pub looked-valid : (enabled : ℕ) (m : Core) (new : Pins) → ValidCore m → PinsInRange new → ValidCore (looked enabled m new .core)
 unfolding looked
@@ -54,3 +54,9 @@ running-is Mode.Hold e = absurd (true→T e)
 pub looked-running : (enabled : ℕ) (m : Core) (new : Pins) → isRunning (m .mode) ≡ true → looked enabled m new .core .mode ≡ Mode.Running
 unfolding looked
 looked-running enabled m new e = rw e (running-is (m .mode) e)
+
+-- a record that waits is marked
+pub waited-marked : (enabled : ℕ) (m : Core) (new : Pins) → waited enabled m new .core .mark ≡ true
+unfolding waited
+waited-marked enabled m new =
+    picked (λ (l : Looked). l .core .mark ≡ true) (wakes (releasesByLevel (m .ports .p16)) enabled (m .pins) new) _ _ refl refl

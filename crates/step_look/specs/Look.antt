@@ -10,7 +10,7 @@ use Rattle.frame.specs.declared.Pins.{Pins}
 use Rattle.clock.specs.Clock.{latched, eventCount}
 use Rattle.clock.specs.declared.Time.{Time}
 use Rattle.ports.specs.declared.Mode.{Mode}
-use Rattle.machine.specs.With.{coreWithInts, coreWithTimers, coreWithPins, coreWithMode, interruptsOf}
+use Rattle.machine.specs.With.{coreWithInts, coreWithTimers, coreWithPins, coreWithMode, coreWithMark, interruptsOf}
 use Rattle.machine.specs.declared.Core.{Core}
 use Rattle.step_look.specs.declared.Looked.{Looked}
 
@@ -23,8 +23,8 @@ withTime m t =
     coreWithTimers (coreWithInts m (interruptsOf (m .ints .ei) (t .il) (m .ints .mask))) (record { base = t .base; ta = t .ta; tb = t .tb })
 
 -- "The last frame is always updated."
-abbrev pub showing : Core → Mode → Pins → Core
-showing m mode pins = coreWithMode (coreWithPins m pins) mode
+abbrev pub showing : Core → Mode → Bool → Pins → Core
+showing m mode mark pins = coreWithMark (coreWithMode (coreWithPins m pins) mode) mark
 
 -- "A falling edge on P8.2 sets IL5, on P8.0 sets IL0."
 abbrev pub edgesLatched : Pins → Pins → ℕ → ℕ
@@ -38,8 +38,9 @@ unfoldable pub edgesCounted : Core → Pins → Time
 edgesCounted m new =
     eventCount (m .ports .p28) (m .ports .p29) (rose (m .pins .p8) (new .p8) 8) (rose (m .pins .p8) (new .p8) 2) (edgesTimed m new)
 
+-- "a running first call clears it too" (Q-4): the mark
 abbrev pub seen : Core → Pins → Core
-seen m new = showing (withTime m (edgesCounted m new)) (m .mode) new
+seen m new = showing (withTime m (edgesCounted m new)) (m .mode) false new
 
 -- "for sleep 32,768, 2,048 or 8,192 (bits 1..0 = 0, 1, 2)", "0 cycles for hold"
 abbrev pub wakingCycles : Mode → ℕ → ℕ
@@ -51,19 +52,19 @@ wakingCycles Mode.Hold p16 = 0
 abbrev pub releasesByLevel : ℕ → Bool
 releasesByLevel p16 = hasBit p16 8
 
--- "In sleep or hold a step only looks for" what wakes. "None: 0 cycles. One: running again"
+-- "In sleep or hold a step only looks for" what wakes. "None: 0 cycles. One: running again". "In sleep or hold the first call does the whole step and gives its cycles, and leaves a mark" (Q-4)
 unfoldable pub waited : ℕ → Core → Pins → Looked
 waited enabled m new =
     pick (wakes (releasesByLevel (m .ports .p16)) enabled (m .pins) new)
-    (record { core = showing m Mode.Running new; cycles = wakingCycles (m .mode) (m .ports .p16) })
-    (record { core = showing m (m .mode) new; cycles = 0 })
+    (record { core = showing m Mode.Running true new; cycles = wakingCycles (m .mode) (m .ports .p16) })
+    (record { core = showing m (m .mode) true new; cycles = 0 })
 
 abbrev pub isRunning : Mode → Bool
 isRunning Mode.Running = true
 isRunning Mode.Sleep = false
 isRunning Mode.Hold = false
 
--- a running record sees the frame
+-- what the look at a frame makes of a record
 unfoldable pub looked : ℕ → Core → Pins → Looked
 looked enabled m new =
     pick (isRunning (m .mode)) (record { core = seen m new; cycles = 0 }) (waited enabled m new)

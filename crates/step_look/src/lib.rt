@@ -10,10 +10,11 @@ use machine::Core;
 use machine::interrupts_of;
 use ports::Mode;
 ghost use mathlib.Core.Path.{_≡_};
+ghost use mathlib.Core.Bool.{true};
 ghost use Prim.Native.Nat.{_<_};
 ghost use Rattle.ports.specs.declared.Mode.{Mode};
 ghost use Rattle.machine.specs.Valid.{ValidInterrupts, ValidTimers};
-ghost use Rattle.step_look.specs.Look.{edgesCounted, isRunning, edgesLatched, edgesTimed, showing, seen, wakingCycles, waited};
+ghost use Rattle.step_look.specs.Look.{edgesCounted, isRunning, edgesLatched, edgesTimed, showing, seen, wakingCycles, waited, looked};
 
 // The scalars then, and the cycles of a step that only looks.
 pub struct Looked {
@@ -62,7 +63,7 @@ fn counted(m: Core, new: Pins) -> Time
     )
 }
 
-// What a running record sees. Most frames leave P8 as it was: no edge then.
+// What a running record sees, and no mark. Most frames leave P8 as it was: no edge then.
 pub fn seen(m: Core, new: Pins) -> Core
     requires { ⌜ (ValidInterrupts (m .ints)) × (ValidTimers (m .timers)) ⌝ }
     ensures { λ r. ⌜ r ≡ seen m new ⌝ }
@@ -70,6 +71,7 @@ pub fn seen(m: Core, new: Pins) -> Core
     if new.p8 == m.pins.p8 {
         let mut still = m;
         still.pins = new;
+        still.mark = false;
         return still;
     }
     let t = counted(m, new);
@@ -80,6 +82,7 @@ pub fn seen(m: Core, new: Pins) -> Core
     after.timers.ta = t.ta;
     after.timers.tb = t.tb;
     after.ints = ints;
+    after.mark = false;
     after
 }
 
@@ -97,9 +100,9 @@ fn waking_cycles(mode: Mode, p16: u8) -> u16
     }
 }
 
-// "running again", and all else but the last frame as it was: no latch is set.
+// "running again" with the mark, and all else but the last frame as it was: no latch is set.
 fn awake(m: Core, new: Pins) -> Core
-    ensures { λ r. ⌜ r ≡ showing m Mode.Running new ⌝ }
+    ensures { λ r. ⌜ r ≡ showing m Mode.Running true new ⌝ }
 {
     let regs = m.regs;
     let ptrs = m.ptrs;
@@ -115,10 +118,12 @@ fn awake(m: Core, new: Pins) -> Core
         ports: ports,
         pins: new,
         mode: Mode::Running,
+        mark: true,
     }
 }
 
 // "In sleep or hold a step only looks for" the pin that wakes: by its level with P16 bit 3 set, else by its falling edge.
+// That is the whole step, and the mark says so.
 pub fn waited(enabled: u8, m: Core, new: Pins) -> Looked
     ensures { λ r. ⌜ r ≡ waited enabled m new ⌝ }
 {
@@ -132,6 +137,7 @@ pub fn waited(enabled: u8, m: Core, new: Pins) -> Looked
     }
     let mut after = m;
     after.pins = new;
+    after.mark = true;
     Looked {
         core: after,
         cycles: 0,
@@ -146,4 +152,19 @@ pub fn is_running(mode: Mode) -> bool
         Mode::Sleep => false,
         Mode::Hold => false,
     }
+}
+
+// What the look at a frame makes of any record.
+pub fn look(enabled: u8, m: Core, new: Pins) -> Looked
+    requires { ⌜ (ValidInterrupts (m .ints)) × (ValidTimers (m .timers)) ⌝ }
+    ensures { λ r. ⌜ r ≡ looked enabled m new ⌝ }
+{
+    let mode = m.mode;
+    if is_running(mode) {
+        return Looked {
+            core: seen(m, new),
+            cycles: 0,
+        };
+    }
+    waited(enabled, m, new)
 }

@@ -65,6 +65,47 @@ fn refused_step(asker: &mut Asker, chance: &mut Chance, image: &Image, record: &
     Ok(())
 }
 
+/// Looks and acts, apart: on records of every kind, marked ones among them, a look and then an act must be the step.
+pub fn apart(asker: &mut Asker, chance: &mut Chance, codes: &Codes, wanted: u64) -> Result<(), Difference> {
+    while asker.coverage.asked(Kind::Act) < wanted {
+        let image = whole(chance, codes);
+        for _ in 0..64 {
+            look_then_act(asker, chance, &image)?;
+            refused_apart(asker, chance, &image)?;
+        }
+    }
+    asker.compare_queued()
+}
+
+fn look_then_act(asker: &mut Asker, chance: &mut Chance, image: &Image) -> Result<(), Difference> {
+    let (wake, sound) = options(chance);
+    let record = record_of(&fresh_or_valid(chance));
+    // A second call with no first: a sleeper or a marked record is passed by.
+    asker.ask(Call::Act { image: image.clone(), wake, sound, record: record.clone() })?;
+    let frame = pins_after(chance, &record).next(chance).to_vec();
+    let look = asker.ask(Call::Look { wake, sound, record: record.clone(), frame: frame.clone() })?.clone();
+    let act = asker.ask(Call::Act { image: image.clone(), wake, sound, record: look.buffer })?.clone();
+    let step = asker.ask(Call::Step { image: image.clone(), wake, sound, record, frame })?;
+    assert_eq!((step.number, &step.buffer), (act.number, &act.buffer), "a step is an act after a look");
+    assert_eq!(step.values[0], look.values[0] + act.values[0], "a step spends what its two calls spend");
+    Ok(())
+}
+
+/// One wrong input now and then: a look has no image to refuse, an act no frame.
+fn refused_apart(asker: &mut Asker, chance: &mut Chance, image: &Image) -> Result<(), Difference> {
+    let (wake, sound) = options(chance);
+    let wrong = chance.below(8);
+    let record = if wrong & 1 != 0 { spoilt(chance) } else { record_of(&fresh_or_valid(chance)) };
+    if wrong & 4 != 0 {
+        let frame = if wrong & 2 != 0 { bad_of_any_length(chance) } else { b"Ff1".to_vec() };
+        asker.ask(Call::Look { wake, sound, record, frame })?;
+    } else {
+        let image = if wrong & 2 != 0 { of_wrong_size(chance) } else { image.clone() };
+        asker.ask(Call::Act { image, wake, sound, record })?;
+    }
+    Ok(())
+}
+
 fn options(chance: &mut Chance) -> (u8, u8) {
     let wake = match chance.below(3) {
         0 => chance.pick(&[0, 0xFF, 0x0F, 0xF0]),

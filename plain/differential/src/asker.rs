@@ -108,6 +108,12 @@ fn in_short(call: &Call) -> String {
         Call::Step { wake, sound, record, frame, .. } => {
             write!(text, "wake {wake:02X}h, sound {sound}, frame {}, {}", frame.escape_ascii(), record_in_short(record))
         }
+        Call::Look { wake, sound, record, frame } => {
+            write!(text, "wake {wake:02X}h, sound {sound}, frame {}, {}", frame.escape_ascii(), record_in_short(record))
+        }
+        Call::Act { wake, sound, record, .. } => {
+            write!(text, "wake {wake:02X}h, sound {sound}, {}", record_in_short(record))
+        }
         Call::Run { wake, sound, record, frames, .. } => {
             let first = &frames[..frames.len().min(30)];
             let length = frames.len();
@@ -156,7 +162,7 @@ mod tests {
             (|answer| answer.number = 30, "number: plain 0, proved 30"),
             (|answer| answer.values[1] = 9, "cycles: plain 8, proved 9"),
             (|answer| answer.buffer[0] = 0, "record, byte 0, ACC: plain 1, proved 0"),
-            (|answer| answer.buffer[408] = 0, "record, byte 408, RAM 17Fh: plain 1, proved 0"),
+            (|answer| answer.buffer[409] = 0, "record, byte 409, RAM 17Fh: plain 1, proved 0"),
             (|answer| answer.others_kept = false, "the proved call changed bytes outside its buffer"),
             (|answer| answer.values[3] = 1, "the form of the answers"),
         ];

@@ -1,4 +1,4 @@
-//! The nine calls of include/em73862.h as values: what goes in, and what comes back.
+//! The eleven calls of include/em73862.h as values: what goes in, and what comes back.
 
 use std::sync::Arc;
 
@@ -11,6 +11,8 @@ pub enum Call {
     Reset { record: Vec<u8> },
     IsValid { record: Vec<u8> },
     Step { image: Image, wake: u8, sound: u8, record: Vec<u8>, frame: Vec<u8> },
+    Look { wake: u8, sound: u8, record: Vec<u8>, frame: Vec<u8> },
+    Act { image: Image, wake: u8, sound: u8, record: Vec<u8> },
     Run { image: Image, wake: u8, sound: u8, record: Vec<u8>, frames: Vec<u8> },
     Display { record: Vec<u8>, dots: Vec<u8> },
     Read { image: Image, address: u32 },
@@ -18,13 +20,15 @@ pub enum Call {
     Bound { image: Image, address: u32, path: Vec<u8> },
 }
 
-/// What the nine calls are counted by.
+/// What the eleven calls are counted by.
 #[derive(Clone, Copy, Debug, PartialEq, Eq)]
 pub enum Kind {
     Fresh,
     Reset,
     IsValid,
     Step,
+    Look,
+    Act,
     Run,
     Display,
     Read,
@@ -33,8 +37,10 @@ pub enum Kind {
 }
 
 impl Kind {
-    pub const ALL: [Kind; 9] = [
+    pub const ALL: [Kind; 11] = [
         Kind::Step,
+        Kind::Look,
+        Kind::Act,
         Kind::Run,
         Kind::Display,
         Kind::Read,
@@ -51,6 +57,8 @@ impl Kind {
             Kind::Reset => "reset",
             Kind::IsValid => "is_valid",
             Kind::Step => "step",
+            Kind::Look => "look",
+            Kind::Act => "act",
             Kind::Run => "run",
             Kind::Display => "display",
             Kind::Read => "read",
@@ -66,6 +74,8 @@ impl Kind {
             Kind::Reset => "resets",
             Kind::IsValid => "is_valid",
             Kind::Step => "steps",
+            Kind::Look => "looks",
+            Kind::Act => "acts",
             Kind::Run => "runs",
             Kind::Display => "displays",
             Kind::Read => "reads",
@@ -78,7 +88,7 @@ impl Kind {
     pub fn values(self) -> &'static [&'static str] {
         match self {
             Kind::Fresh | Kind::Reset | Kind::IsValid | Kind::Display => &[],
-            Kind::Step => &["cycles"],
+            Kind::Step | Kind::Look | Kind::Act => &["cycles"],
             Kind::Run => &["steps", "cycles"],
             Kind::Read => &["row", "a", "b"],
             Kind::Write => &["length", "b0", "b1", "b2"],
@@ -107,6 +117,8 @@ impl Call {
             Call::Reset { .. } => Kind::Reset,
             Call::IsValid { .. } => Kind::IsValid,
             Call::Step { .. } => Kind::Step,
+            Call::Look { .. } => Kind::Look,
+            Call::Act { .. } => Kind::Act,
             Call::Run { .. } => Kind::Run,
             Call::Display { .. } => Kind::Display,
             Call::Read { .. } => Kind::Read,
@@ -118,6 +130,7 @@ impl Call {
     pub fn image(&self) -> Option<&Image> {
         match self {
             Call::Step { image, .. }
+            | Call::Act { image, .. }
             | Call::Run { image, .. }
             | Call::Read { image, .. }
             | Call::Bound { image, .. } => Some(image),
@@ -129,7 +142,8 @@ impl Call {
     pub fn changing(&self) -> &[u8] {
         match self {
             Call::Fresh { record } | Call::Reset { record } | Call::IsValid { record } => record,
-            Call::Step { record, .. } | Call::Run { record, .. } => record,
+            Call::Step { record, .. } | Call::Look { record, .. } => record,
+            Call::Act { record, .. } | Call::Run { record, .. } => record,
             Call::Display { dots, .. } => dots,
             Call::Bound { path, .. } => path,
             Call::Read { .. } | Call::Write { .. } => &[],
@@ -139,7 +153,7 @@ impl Call {
     /// The other buffer besides the image, which no call may change.
     pub fn steady(&self) -> &[u8] {
         match self {
-            Call::Step { frame, .. } => frame,
+            Call::Step { frame, .. } | Call::Look { frame, .. } => frame,
             Call::Run { frames, .. } => frames,
             Call::Display { record, .. } => record,
             _ => &[],

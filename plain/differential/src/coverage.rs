@@ -7,8 +7,10 @@ use plain::{read, Machine, Mode, Row, MOST_FRAMES, SHEET};
 const NUMBERS: usize = 36;
 
 /// Each answer's number, and how often it comes at least in a whole comparison (with the factor 1).
-const AT_LEAST: [(Kind, &[(u8, u64)]); 9] = [
+const AT_LEAST: [(Kind, &[(u8, u64)]); 11] = [
     (Kind::Step, &STEP_AT_LEAST),
+    (Kind::Look, &[(0, 30_000), (2, 3_000), (3, 3_000)]),
+    (Kind::Act, &ACT_AT_LEAST),
     (Kind::Run, &RUN_AT_LEAST),
     (Kind::Display, &[(0, 30_000), (2, 10_000), (5, 10_000)]),
     (Kind::Read, &[(0, 60_000), (1, 500), (20, 5_000), (30, 1_500), (35, 1_500)]),
@@ -30,6 +32,8 @@ const STEP_AT_LEAST: [(u8, u64); 10] = [
     (34, 500),
     (35, 3_000),
 ];
+const ACT_AT_LEAST: [(u8, u64); 9] =
+    [(0, 40_000), (1, 1_000), (2, 1_000), (30, 300), (31, 500), (32, 500), (33, 500), (34, 50), (35, 300)];
 const RUN_AT_LEAST: [(u8, u64); 11] = [
     (0, 20_000),
     (1, 300),
@@ -114,7 +118,7 @@ const EACH_EVENT: u64 = 300;
 const LONGEST_RUNS: u64 = 10;
 
 pub struct Coverage {
-    answers: [[u64; NUMBERS]; 9],
+    answers: [[u64; NUMBERS]; 11],
     rows: [u64; 108],
     events: [u64; EVENTS.len()],
     longest_runs: u64,
@@ -125,7 +129,7 @@ pub struct Coverage {
 impl Default for Coverage {
     fn default() -> Coverage {
         Coverage {
-            answers: [[0; NUMBERS]; 9],
+            answers: [[0; NUMBERS]; 11],
             rows: [0; 108],
             events: [0; EVENTS.len()],
             longest_runs: 0,

@@ -1,9 +1,9 @@
-//! The record as the 409 bytes of include/em73862.h.
+//! The record as the 410 bytes of include/em73862.h.
 
 use plain::{Frame, Machine, Mode, Ports, RAM_SIZE};
 use std::ops::Range;
 
-pub const RECORD_BYTES: usize = 409;
+pub const RECORD_BYTES: usize = 410;
 
 pub const PC: usize = 16;
 pub const DP: usize = 18;
@@ -14,12 +14,13 @@ pub const LATCHES: usize = 28;
 pub const TIME_BASE: usize = 29;
 pub const LAST_FRAME: usize = 33;
 pub const MODE: usize = 36;
-pub const RAM: usize = 37;
+pub const MARK: usize = 37;
+pub const RAM: usize = 38;
 
 const NAMES: [&str; RAM] = [
     "ACC", "HR", "LR", "SP", "mask", "P4", "P8", "P9", "P16", "P23", "P24", "P25", "P27", "P28", "P29", "P30", "PC",
     "PC", "DP", "DP", "TA", "TA", "TB", "TB", "CF", "ZF", "SF", "EI", "IL", "time base", "time base", "time base",
-    "time base", "P0 of the last frame", "P8 of the last frame", "P4.0 of the last frame", "mode",
+    "time base", "P0 of the last frame", "P8 of the last frame", "P4.0 of the last frame", "mode", "mark",
 ];
 
 pub fn record_of(m: &Machine) -> Vec<u8> {
@@ -39,6 +40,7 @@ pub fn record_of(m: &Machine) -> Vec<u8> {
         Mode::Sleep => 1,
         Mode::Hold => 2,
     });
+    record.push(m.mark.into());
     record.extend(m.ram);
     record
 }
@@ -48,7 +50,7 @@ pub fn record_of(m: &Machine) -> Vec<u8> {
 pub fn machine_of(record: &[u8]) -> Option<Machine> {
     let record: &[u8; RECORD_BYTES] = record.try_into().ok()?;
     let word = |at: usize| u16::from_le_bytes([record[at], record[at + 1]]);
-    let flag = |at: usize| match record[FLAGS + at] {
+    let flag = |at: usize| match record[at] {
         0 => Some(false),
         1 => Some(true),
         _ => None,
@@ -72,16 +74,17 @@ pub fn machine_of(record: &[u8]) -> Option<Machine> {
         dp: word(DP),
         ta: word(TA),
         tb: word(TB),
-        cf: flag(0)?,
-        zf: flag(1)?,
-        sf: flag(2)?,
-        ei: flag(3)?,
+        cf: flag(FLAGS)?,
+        zf: flag(FLAGS + 1)?,
+        sf: flag(FLAGS + 2)?,
+        ei: flag(FLAGS + 3)?,
         il: record[LATCHES],
         time_base: u32::from_le_bytes(time_base),
         ram,
         ports: Ports { p4, p8, p9, p16, p23, p24, p25, p27, p28, p29, p30 },
         last_frame: Frame { p0: record[LAST_FRAME], p8: record[LAST_FRAME + 1], p4_0: record[LAST_FRAME + 2] },
         mode,
+        mark: flag(MARK)?,
     })
 }
 
@@ -130,6 +133,7 @@ mod tests {
                 *flag &= 1;
             }
             record[MODE] %= 3;
+            record[MARK] &= 1;
             assert_eq!(machine_of(&record).map(|machine| record_of(&machine)), Some(record));
         }
     }
@@ -137,12 +141,12 @@ mod tests {
     #[test]
     fn no_machine_holds_these() {
         let record = record_of(&fresh());
-        for (place, value) in [(24, 2), (25, 2), (26, 255), (27, 2), (36, 3), (36, 255)] {
+        for (place, value) in [(24, 2), (25, 2), (26, 255), (27, 2), (36, 3), (36, 255), (37, 2)] {
             let mut spoilt = record.clone();
             spoilt[place] = value;
             assert_eq!(machine_of(&spoilt), None);
         }
-        assert_eq!(machine_of(&record[..408]), None);
+        assert_eq!(machine_of(&record[..409]), None);
         assert_eq!(machine_of(&[]), None);
         assert_eq!(machine_of(&[&record[..], &[0]].concat()), None);
     }
@@ -158,17 +162,17 @@ mod tests {
         let record = record_of(&machine);
         assert_eq!((record[18], record[19]), (0xBC, 0x0A));
         assert_eq!(record[29..33], [0x50, 0x34, 0x12, 0]);
-        assert_eq!((record[15], record[25], record[26], record[408]), (9, 1, 1, 7));
-        assert_eq!(record[33..37], [15, 15, 1, 0]);
-        assert_eq!((field_at(15), field_at(408)), ("P30".to_string(), "RAM 17Fh".to_string()));
-        assert_eq!((field_at(37 + 0xF3), field_at(37 + 0xF4)), ("RAM 0F3h".to_string(), "RAM 100h".to_string()));
+        assert_eq!((record[15], record[25], record[26], record[409]), (9, 1, 1, 7));
+        assert_eq!(record[33..38], [15, 15, 1, 0, 0]);
+        assert_eq!((field_at(15), field_at(409)), ("P30".to_string(), "RAM 17Fh".to_string()));
+        assert_eq!((field_at(38 + 0xF3), field_at(38 + 0xF4)), ("RAM 0F3h".to_string(), "RAM 100h".to_string()));
         assert_eq!(
             (places_of("P30"), places_of("DP"), places_of("time base")),
             (Some(15..16), Some(18..20), Some(29..33))
         );
         assert_eq!(
             (places_of("RAM 000h"), places_of("RAM 0F4h"), places_of("RAM 17Fh")),
-            (Some(37..38), None, Some(408..409))
+            (Some(38..39), None, Some(409..410))
         );
     }
 }

@@ -11,6 +11,8 @@ pub fn answer(call: &Call) -> Answer {
         Call::Reset { record } => reset(record),
         Call::IsValid { record } => machine_of_valid(record).map(|_| record_answer(record.clone(), numbers::NONE, &[])),
         Call::Step { image, wake, sound, record, frame } => step(image, options(*wake, *sound), record, frame),
+        Call::Look { wake, sound, record, frame } => look(options(*wake, *sound), record, frame),
+        Call::Act { image, wake, sound, record } => act(image, options(*wake, *sound), record),
         Call::Run { image, wake, sound, record, frames } => run(image, options(*wake, *sound), record, frames),
         Call::Display { record, dots } => display(record, dots),
         Call::Read { image, address } => read(image, *address),
@@ -66,8 +68,19 @@ fn reset(record: &[u8]) -> Result<Answer, u8> {
 }
 
 fn step(image: &[u8], options: Options, record: &[u8], frame: &[u8]) -> Result<Answer, u8> {
-    let stepped = plain::step(image, options, &machine_or_none_valid(record), frame)?;
-    Ok(record_answer(record_of(&stepped.machine), stepped.stop, &[stepped.cycles]))
+    Ok(step_answer(plain::step(image, options, &machine_or_none_valid(record), frame)?))
+}
+
+fn look(options: Options, record: &[u8], frame: &[u8]) -> Result<Answer, u8> {
+    Ok(step_answer(plain::look(options, &machine_or_none_valid(record), frame)?))
+}
+
+fn act(image: &[u8], options: Options, record: &[u8]) -> Result<Answer, u8> {
+    Ok(step_answer(plain::act(image, options, &machine_or_none_valid(record))?))
+}
+
+fn step_answer(stepped: plain::Stepped) -> Answer {
+    record_answer(record_of(&stepped.machine), stepped.stop, &[stepped.cycles])
 }
 
 fn run(image: &[u8], options: Options, record: &[u8], frames: &[u8]) -> Result<Answer, u8> {

@@ -32,6 +32,7 @@ pub fn valid(chance: &mut Chance) -> Machine {
         ports: ports(chance),
         last_frame: Frame { p0: nibble(chance), p8: nibble(chance), p4_0: chance.below(2) as u8 },
         mode: Mode::Running,
+        mark: chance.one_in(8),
     };
     if chance.one_in(4) {
         fall_asleep(chance, &mut machine);
@@ -138,7 +139,7 @@ pub fn spoilt(chance: &mut Chance) -> Vec<u8> {
         3 => record[layout::LATCHES] |= chance.pick(&[0x10, 0x40, 0x80]),
         4 => record[chance.pick(&[layout::RAM, RECORD_BYTES - 1])] = over(chance, 16),
         5 => record[layout::RAM + chance.below(RAM_SIZE)] = over(chance, 16),
-        6 => record[layout::FLAGS + chance.below(4)] = over(chance, 2),
+        6 => record[chance.pick(&[24, 25, 26, 27, layout::MARK])] = over(chance, 2),
         7 => spoil_word(chance, &mut record),
         // P25 and P27.
         8 => record[chance.pick(&[11, 12])] = chance.pick(&[8, 9, 10, 11, 16, 255]),
@@ -148,8 +149,8 @@ pub fn spoilt(chance: &mut Chance) -> Vec<u8> {
 }
 
 fn of_another_length(chance: &mut Chance, mut record: Vec<u8>) -> Vec<u8> {
-    let length = if chance.one_in(8) { chance.below(900) } else { chance.pick(&[0, 1, 37, 408, 410]) };
-    record.resize(if length == RECORD_BYTES { 408 } else { length }, 0);
+    let length = if chance.one_in(8) { chance.below(900) } else { chance.pick(&[0, 1, 37, 38, 409, 411]) };
+    record.resize(if length == RECORD_BYTES { 409 } else { length }, 0);
     record
 }
 

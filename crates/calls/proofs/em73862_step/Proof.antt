@@ -34,7 +34,7 @@ same-length-2 : tie.Need-same-length-2
 same-length-2 c = search needs
 
 returns-2 : tie.Need-returns-2
-returns-2 c = no-record (c .before .before .unpack .ensures .none (c .before .if1 .left)) (record { refusal = c .refusal .ensures; none = refl; kept = refl })
+returns-2 c = no-record (c .before .before .unpack .ensures .none (c .before .if1 .left)) (record { refused = c .refusal .ensures; none = refl; kept = refl })
 
 pub em73862-step-spec : {M : Type 1} → statement M
 em73862-step-spec =

@@ -64,18 +64,25 @@ element-copy-out-mode-of-2 c = search needs
 mode-of-requires : tie.Need-mode-of-requires
 mode-of-requires c κs = c .before .before .before .before .before .before .before .before .before .before .before .before .before .before .before .before .before .before .before .pre .1 .mode
 
+element-copy-out-flag-3 : tie.Need-element-copy-out-flag-3
+element-copy-out-flag-3 c = search needs
+
+flag-requires-2 : tie.Need-flag-requires-2
+flag-requires-2 c κs = c .before .before .before .before .before .before .before .before .before .before .before .before .before .before .before .before .before .before .before .before .before .pre .1 .mark
+
 returns : tie.Need-returns
 returns c =
-    let pre = c .before .before .before .before .before .before .before .before .before .before .before .before .before .before .before .before .before .before .before .before .pre in
-    let from-two = c .before .before .before .before .before .before .before .before .before .before .before .before .before .before .before .before .from-two in
-    let flag = c .before .before .before .before .before .before .before .before .before .before .before .before .before .before .flag in
-    let interrupts-of = c .before .before .before .before .before .before .before .before .before .before .before .interrupts-of in
-    let registers-of = c .before .before .before .before .before .before .before .registers-of in
-    let from-two2 = c .before .before .before .before .from-two2 in
-    let timers-of = c .before .before .before .timers-of in
-    let ports-of = c .before .before .ports-of in
+    let pre = c .before .before .before .before .before .before .before .before .before .before .before .before .before .before .before .before .before .before .before .before .before .before .pre in
+    let from-two = c .before .before .before .before .before .before .before .before .before .before .before .before .before .before .before .before .before .before .from-two in
+    let flag = c .before .before .before .before .before .before .before .before .before .before .before .before .before .before .before .before .flag in
+    let interrupts-of = c .before .before .before .before .before .before .before .before .before .before .before .before .before .interrupts-of in
+    let registers-of = c .before .before .before .before .before .before .before .before .before .registers-of in
+    let from-two2 = c .before .before .before .before .before .before .from-two2 in
+    let timers-of = c .before .before .before .before .before .timers-of in
+    let ports-of = c .before .before .before .before .ports-of in
+    let mode-of = c .before .before .mode-of in
     rw (interrupts-of .ensures)
-    (head-laid _ _ _ _ _ _ _ _ (pre .0) (registers-of .ensures) (timers-of .ensures) (ports-of .ensures) (from-two2 .ensures) (from-two .ensures) (flag .ensures) (c .mode-of .ensures))
+    (head-laid _ _ _ _ _ _ _ _ _ (pre .0) (registers-of .ensures) (timers-of .ensures) (ports-of .ensures) (from-two2 .ensures) (from-two .ensures) (flag .ensures) (mode-of .ensures) (c .flag2 .ensures))
 
 pub core-of-spec : {M : Type 1} → statement M
 core-of-spec =
@@ -101,4 +108,6 @@ core-of-spec =
     ports-of-requires
     element-copy-out-mode-of-2
     mode-of-requires
+    element-copy-out-flag-3
+    flag-requires-2
     returns)

@@ -25,14 +25,20 @@ both-requires-2 c κs = search needs
 element-copy-out-both-5 : tie.Need-element-copy-out-both-5
 element-copy-out-both-5 c = search needs
 
+element-copy-out-both-6 : tie.Need-element-copy-out-both-6
+element-copy-out-both-6 c = search needs
+
 both-requires-3 : tie.Need-both-requires-3
 both-requires-3 c κs = search needs
 
 both-requires-4 : tie.Need-both-requires-4
 both-requires-4 c κs = search needs
 
+both-requires-5 : tie.Need-both-requires-5
+both-requires-5 c κs = search needs
+
 returns : tie.Need-returns
-returns c = rw (c .both4 .ensures, c .before .both3 .ensures, c .before .before .before .both2 .ensures, c .before .before .before .before .before .before .both .ensures) (flagsFit _ .decides)
+returns c = rw (c .both5 .ensures, c .before .both4 .ensures, c .before .before .both3 .ensures, c .before .before .before .before .before .both2 .ensures, c .before .before .before .before .before .before .before .before .both .ensures) (flagsFit _ .decides)
 
 pub flags-fit-spec : {M : Type 1} → statement M
 flags-fit-spec =
@@ -45,6 +51,8 @@ flags-fit-spec =
     element-copy-out-both-4
     both-requires-2
     element-copy-out-both-5
+    element-copy-out-both-6
     both-requires-3
     both-requires-4
+    both-requires-5
     returns)

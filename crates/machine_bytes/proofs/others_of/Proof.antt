@@ -61,6 +61,9 @@ high-requires-6 c κs = search needs
 mode-number-requires : tie.Need-mode-number-requires
 mode-number-requires c κs = search needs
 
+bit-of-requires-5 : tie.Need-bit-of-requires-5
+bit-of-requires-5 c κs = search needs
+
 returns : tie.Need-returns
 unfolding two four othersOf
 returns c = cc
@@ -88,4 +91,5 @@ others-of-spec =
     low-requires-6
     high-requires-6
     mode-number-requires
+    bit-of-requires-5
     returns)

@@ -29,7 +29,7 @@ advance-requires : tie.Need-advance-requires Inv-loop μ-loop
 advance-requires c κs = let g = c .before .before .before .loop .inv in (g .valid .core, g .valid .ram, c .before .before .before .before .before .before .before .before .pre .1, rw (c .before .pins-at .ensures) (shows _ _ _ _ _ _ _ _ _ g (c .before .before .loop-test .taken)))
 
 returns : tie.Need-returns Inv-loop μ-loop
-returns c = ends-early _ _ _ _ _ _ _ _ _ (c .before .before .before .before .before .before .loop .inv) _ _ _ (c .before .before .before .before .pins-at .ensures) (c .before .before .before .before .before .loop-test .taken) (c .before .before .advance .ensures) (c .if1 .taken)
+returns c = ends-early _ _ _ _ _ _ _ _ _ (c .before .before .before .before .before .before .before .loop .inv) _ _ _ (c .before .before .before .before .before .pins-at .ensures) (c .before .before .before .before .before .before .loop-test .taken) (c .before .before .before .advance .ensures) (c .if1 .taken)
 
 cast-cycles : tie.Need-cast-cycles Inv-loop μ-loop
 cast-cycles c = search needs
@@ -47,7 +47,7 @@ loop-less : tie.Need-loop-less Inv-loop μ-loop
 loop-less c = omega (arith, c .before .before .before .before .before .before .before .loop-test .taken)
 
 loop-again : tie.Need-loop-again Inv-loop μ-loop
-loop-again c = goes-on _ _ _ _ _ _ _ _ _ (c .before .before .before .before .before .before .before .before .loop .inv) _ _ _ (c .before .before .before .before .before .before .pins-at .ensures) (c .before .before .before .before .before .before .before .loop-test .taken) (c .before .before .before .before .advance .ensures) (c .before .before .if1 .left) (omega arith) (λ at. c .before .before .before .before .before .before .before .before .before .before .before .before .shared-slice-known .given at .fits)
+loop-again c = goes-on _ _ _ _ _ _ _ _ _ (c .before .before .before .before .before .before .before .before .loop .inv) _ _ _ (c .before .before .before .before .before .before .pins-at .ensures) (c .before .before .before .before .before .before .before .loop-test .taken) (c .before .before .before .before .advance .ensures) (c .before .if1 .left) (omega arith) (λ at. c .before .before .before .before .before .before .before .before .before .before .before .before .shared-slice-known .given at .fits)
 
 returns-2 : tie.Need-returns-2 Inv-loop μ-loop
 returns-2 c = ended _ _ _ _ _ _ _ _ _ (c .before .loop .inv) (c .loop-test .left)

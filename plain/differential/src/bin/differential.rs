@@ -58,6 +58,7 @@ fn ask_all(asker: &mut Asker, seed: u64, factor: u64) -> Result<(), Difference> 
     ask_codes::writes(asker, &mut chance, others)?;
     ask_records::display(asker, &mut chance, others)?;
     ask_steps::steps(asker, &mut chance, &codes, STEPS * factor)?;
+    ask_steps::apart(asker, &mut chance, &codes, others)?;
     ask_steps::runs(asker, &mut chance, &codes, others)?;
     ask_bounds::bounds(asker, &mut chance, &codes, others)
 }

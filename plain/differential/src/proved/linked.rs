@@ -20,6 +20,24 @@ pub mod header {
             frame_length: usize,
             cycles: *mut u32,
         ) -> u8;
+        pub fn em73862_look(
+            wake: u8,
+            sound: u8,
+            record: *mut u8,
+            record_length: usize,
+            frame: *const u8,
+            frame_length: usize,
+            cycles: *mut u32,
+        ) -> u8;
+        pub fn em73862_act(
+            image: *const u8,
+            image_length: usize,
+            wake: u8,
+            sound: u8,
+            record: *mut u8,
+            record_length: usize,
+            cycles: *mut u32,
+        ) -> u8;
         pub fn em73862_run(
             image: *const u8,
             image_length: usize,
@@ -127,6 +145,22 @@ fn ask(call: &Call, buffer: &mut [u8]) -> (u8, [u32; MOST_VALUES]) {
                     frame.len(),
                     &mut cycles,
                 )
+            };
+            (number, [cycles, 0, 0, 0])
+        }
+        Call::Look { wake, sound, frame, .. } => {
+            let mut cycles = UNSET_32;
+            // SAFETY: each pointer is that of a whole slice with its length beside it, or of a number; only `buffer` and the numbers change.
+            let number = unsafe {
+                header::em73862_look(*wake, *sound, changing, length, frame.as_ptr(), frame.len(), &mut cycles)
+            };
+            (number, [cycles, 0, 0, 0])
+        }
+        Call::Act { image, wake, sound, .. } => {
+            let mut cycles = UNSET_32;
+            // SAFETY: each pointer is that of a whole slice with its length beside it, or of a number; only `buffer` and the numbers change.
+            let number = unsafe {
+                header::em73862_act(image.as_ptr(), image.len(), *wake, *sound, changing, length, &mut cycles)
             };
             (number, [cycles, 0, 0, 0])
         }

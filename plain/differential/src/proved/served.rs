@@ -123,12 +123,17 @@ fn code_of(kind: Kind) -> u32 {
         Kind::Read => 7,
         Kind::Write => 8,
         Kind::Bound => 9,
+        Kind::Look => 10,
+        Kind::Act => 11,
     }
 }
 
 fn numbers_of(call: &Call) -> [u32; 3] {
     match call {
-        Call::Step { wake, sound, .. } | Call::Run { wake, sound, .. } => [*wake as u32, *sound as u32, 0],
+        Call::Step { wake, sound, .. }
+        | Call::Look { wake, sound, .. }
+        | Call::Act { wake, sound, .. }
+        | Call::Run { wake, sound, .. } => [*wake as u32, *sound as u32, 0],
         Call::Read { address, .. } | Call::Bound { address, .. } => [*address, 0, 0],
         Call::Write { row, a, b } => [*row as u32, *a as u32, *b as u32],
         Call::Fresh { .. } | Call::Reset { .. } | Call::IsValid { .. } | Call::Display { .. } => [0; 3],

@@ -1,0 +1,102 @@
+// A step as two calls, looking and doing apart: for any input the record, the stop and the cycles that request Q-4 says, or a refusal by number that changes nothing.
+use frame::Frame;
+use frame::frame_of;
+use machine::Core;
+use machine::Machine;
+use machine::Ram;
+use machine_valid::is_valid;
+use numbers::IMAGE_BYTES;
+use numbers::IMAGE_IS_NOT_8192_BYTES;
+use numbers::NO_FRAME;
+use numbers::RECORD_OUTSIDE_THE_RANGES;
+use row::Turn;
+use step::Options;
+use step::Stepped;
+use step::step_refused;
+use step_look::is_running;
+ghost use mathlib.Core.Path.{_≡_};
+ghost use mathlib.Core.Bool.{false};
+ghost use lib.ListN.{length};
+ghost use Rattle.numbers.specs.Sizes.{imageBytes};
+ghost use Rattle.sheet.specs.Reading.{romOf};
+ghost use Rattle.machine.specs.Valid.{ValidCore, Nibbles};
+ghost use Rattle.machine.specs.With.{coreWithMark};
+ghost use Rattle.row.specs.Turns.{Gives};
+ghost use Rattle.step.specs.Step.{actStep};
+ghost use Rattle.step_apart.specs.Answers.{LookOf, ActOf};
+
+// "the second does nothing, spends 0 and clears the mark"
+fn done_already(m: Core) -> Turn
+    ensures { λ x. ⌜ x ≡ record { stop = 0; cycles = 0; core = coreWithMark m false } ⌝ }
+{
+    let mut core = m;
+    core.mark = false;
+    Turn {
+        stop: 0,
+        cycles: 0,
+        core: core,
+    }
+}
+
+// The second call on the RAM that is lent.
+fn act_on(image: &[u8], options: Options, m: Core, ram: &mut Ram) -> Turn
+    requires { ⌜ (ValidCore m) × (Nibbles (now ram)) × (length (now image) ≡ imageBytes) ⌝ }
+    ensures { λ x. ⌜ Gives (actStep (romOf (now (image .entry))) options (record { core = m; ram = now (ram .entry) })) (now (ram .exit)) x ⌝ }
+{
+    let mode = m.mode;
+    if is_running(mode) {
+        if m.mark {
+            return done_already(m);
+        }
+        return step_act::act(image, options.sound, m, ram);
+    }
+    done_already(m)
+}
+
+// The first call: edges, event counts and waking.
+pub fn look(options: Options, m: Machine, frame: &[u8]) -> Stepped
+    ensures { λ r. ⌜ LookOf options m (now (frame .entry)) r ⌝ }
+{
+    if !is_valid(m) {
+        return step_refused(RECORD_OUTSIDE_THE_RANGES, m);
+    }
+    let Frame::Seen(pins) = frame_of(frame) else {
+        return step_refused(NO_FRAME, m);
+    };
+    let core = m.core;
+    let ram = m.ram;
+    let l = step_look::look(options.wake, core, pins);
+    let after = l.core;
+    Stepped {
+        number: 0,
+        cycles: l.cycles,
+        machine: Machine {
+            core: after,
+            ram: ram,
+        },
+    }
+}
+
+// The second call: it accepts an interrupt or executes one row, and time passes.
+pub fn act(image: &[u8], options: Options, m: Machine) -> Stepped
+    ensures { λ r. ⌜ ActOf (now (image .entry)) options m r ⌝ }
+{
+    if image.len() != IMAGE_BYTES {
+        return step_refused(IMAGE_IS_NOT_8192_BYTES, m);
+    }
+    if !is_valid(m) {
+        return step_refused(RECORD_OUTSIDE_THE_RANGES, m);
+    }
+    let core = m.core;
+    let mut ram = m.ram;
+    let x = act_on(image, options, core, &mut ram);
+    let after = x.core;
+    Stepped {
+        number: x.stop,
+        cycles: x.cycles,
+        machine: Machine {
+            core: after,
+            ram: ram,
+        },
+    }
+}
