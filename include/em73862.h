@@ -5,7 +5,7 @@
  * A slice is a pointer and a length; a slice of no bytes may have any pointer. No two arguments of a call overlap.
  * crates/calls/specs/Calls.antt says what each call answers, and crates/machine_bytes/specs/Layout.antt the bytes of a record.
  *
- * A record is 409 bytes, each number in one byte unless said otherwise:
+ * A record is 410 bytes, each number in one byte unless said otherwise:
  *   0 ACC, 1 HR, 2 LR, 3 SP, 4 mask,
  *   5 to 15 the latches of P4, P8, P9, P16, P23, P24, P25, P27, P28, P29, P30,
  *   16 PC, 18 DP, 20 TA, 22 TB (two bytes each, low first),
@@ -14,8 +14,9 @@
  *   29 the time base (four bytes, low first),
  *   33 P0, 34 P8, 35 P4.0 of the last frame,
  *   36 the mode: 0 running, 1 sleep, 2 hold,
- *   37 to 408 RAM, a nibble a byte: 000h to 0F3h, then 100h to 17Fh.
- * A buffer of another length, a flag over 1 and a mode over 2 are refused with 2, as every value outside its range is.
+ *   37 the mark that a look leaves in sleep or hold (0 or 1),
+ *   38 to 409 RAM, a nibble a byte: 000h to 0F3h, then 100h to 17Fh.
+ * A buffer of another length, a flag or the mark over 1 and a mode over 2 are refused with 2, as every value outside its range is.
  *
  * wake has the enable bits of P0.0 to P0.3 and P8.0 to P8.3 from bit 0 up; sound is enabled where it is not 0.
  */
@@ -25,7 +26,7 @@
 #include <stdint.h>
 
 #define EM73862_IMAGE_BYTES 8192
-#define EM73862_RECORD_BYTES 409
+#define EM73862_RECORD_BYTES 410
 #define EM73862_FRAME_CHARACTERS 3
 #define EM73862_MOST_FRAMES 65536
 #define EM73862_DISPLAY_BYTES 40
@@ -62,10 +63,18 @@ uint8_t em73862_fresh(uint8_t *record, size_t record_length);
 uint8_t em73862_reset(uint8_t *record, size_t record_length);
 /* 0 where the buffer holds a record within its ranges, else 2. */
 uint8_t em73862_is_valid(const uint8_t *record, size_t record_length);
-/* One step. 1, 2, 3; stops 30 to 35, which leave the record. */
+/* One step, a look and then an act. 1, 2, 3; stops 30 to 35, with the record as the look left it. */
 uint8_t em73862_step(const uint8_t *image, size_t image_length, uint8_t wake, uint8_t sound,
                      uint8_t *record, size_t record_length,
                      const uint8_t *frame, size_t frame_length, uint32_t *cycles);
+/* The first half of a step: edges, event counts and waking. In sleep or hold it is the whole step: cycles are those of waking, and
+ * the mark makes the act that follows do nothing. 2, 3. */
+uint8_t em73862_look(uint8_t wake, uint8_t sound, uint8_t *record, size_t record_length,
+                     const uint8_t *frame, size_t frame_length, uint32_t *cycles);
+/* The second half: an interrupt is accepted or one instruction executed, and time passes, with the record's last frame. 1, 2; stops 30 to 35,
+ * which leave the record. */
+uint8_t em73862_act(const uint8_t *image, size_t image_length, uint8_t wake, uint8_t sound,
+                    uint8_t *record, size_t record_length, uint32_t *cycles);
 /* One step a frame, up to a stop. 1, 2, 4, 3; stops 30 to 35. It is in librun_calls.a, all others are in libcalls.a. */
 uint8_t em73862_run(const uint8_t *image, size_t image_length, uint8_t wake, uint8_t sound,
                     uint8_t *record, size_t record_length,
