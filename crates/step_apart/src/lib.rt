@@ -61,7 +61,7 @@ pub fn look(options: Options, m: Machine, frame: &[u8]) -> Stepped
         return step_refused(RECORD_OUTSIDE_THE_RANGES, m);
     }
     let Frame::Seen(pins) = frame_of(frame) else {
-        return step_refused(RECORD_OUTSIDE_THE_RANGES, m);
+        return step_refused(NO_FRAME, m);
     };
     let core = m.core;
     let ram = m.ram;
