@@ -78,6 +78,7 @@ module _ (rom : ℕ → ℕ) (sound : Bool) (m : Machine) where
   read-marked (Read.Row i) =
       performed-mark m (record { rom = rom; sound = sound; insn = i }) (lineAt (i .row)) (lineAt (i .row) .operation)
   read-marked Read.Unassigned = refl
+  read-marked Read.PastEnd = refl
 
   turn-marked : Marked m (acceptOrRun rom sound m)
   unfolding acceptOrRun runOne
