@@ -140,7 +140,7 @@ fn reads_as(i: Insn, b0: u8, b1: u8, b2: u8) -> bool
     ensures { λ r. ⌜ r ≡ readsAs i (readBytes (b0 ∷ b1 ∷ b2 ∷ [])) ⌝ }
 {
     let Read::Row(j) = reader::decode(b0, b1, b2) else {
-        return false;
+        return false; // unassigned
     };
     same(i, j)
 }
