@@ -66,10 +66,10 @@ impl Step<'_> {
         self.answered(name, answer(0, &[cycles], after))
     }
 
-    /// The case in which the step stops: the record stays.
+    /// The case in which the step stops and its frame has no edge: the record stays, with the new frame.
     pub fn stops(self, name: &str, number: u8) -> Case {
-        let before = self.before.clone();
-        self.answered(name, answer(number, &[0], before))
+        let after = record::with_last_frame(&self.before, self.frame);
+        self.answered(name, answer(number, &[0], after))
     }
 
     fn answered(self, name: &str, expected: Answer) -> Case {

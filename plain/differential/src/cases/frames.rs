@@ -44,10 +44,10 @@ const LIMITS: [(usize, bool, u32, u8); 8] = [
 /// A NOP, and then an unassigned code.
 const NOP_AND_STOP: [u8; 2] = [NOP, 0x54];
 
-/// Frames at that image, and the last frame where the second step stops; none where the run is refused.
+/// Frames at that image, and the last frame where the second step stops, which is that step's own; none where the run is refused.
 /// "A run checks all frames first, makes one step a frame, and ends early at a stop."
 const STOPS: [(&[u8], Option<&[u8; 3]>); 4] =
-    [(b"FF1EF1", Some(b"FF1")), (b"EF1DF1FF1", Some(b"EF1")), (b"EF1DF1FF2", None), (b"EF1DF1FF", None)];
+    [(b"FF1EF1", Some(b"EF1")), (b"EF1DF1FF1", Some(b"DF1")), (b"EF1DF1FF2", None), (b"EF1DF1FF", None)];
 
 pub fn cases() -> Vec<Case> {
     [images(), step_frames(), limits(), stops()].into_iter().flatten().collect()
