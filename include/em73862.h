@@ -1,7 +1,7 @@
 /* The base calls of Bakethrush on numbers and byte buffers.
  *
  * Every call answers document 01's number: 0, a refusal or a stop; beside each stand those that it can give, in their order. A refusal changes no buffer, and sets the numbers
- * that come back to 0, but for the value that comes with 21, 22 and 23.
+ * that come back to 0.
  * A slice is a pointer and a length; a slice of no bytes may have any pointer. No two arguments of a call overlap.
  * crates/calls/specs/Calls.antt says what each call answers, and crates/machine_bytes/specs/Layout.antt the bytes of a record.
  *
@@ -22,36 +22,24 @@
  */
 #ifndef EM73862_H
 #define EM73862_H
-#include <stddef.h>
-#include <stdint.h>
+#include "em73862_pane.h"
 
-#define EM73862_IMAGE_BYTES 8192
 #define EM73862_RECORD_BYTES 410
 #define EM73862_FRAME_CHARACTERS 3
 #define EM73862_MOST_FRAMES 65536
 #define EM73862_DISPLAY_BYTES 40
-/* A path buffer of this length is never too short. */
-#define EM73862_LONGEST_PATH_BYTES 32768
 
-/* What comes back: refusals. */
-#define EM73862_OTHER_IMAGE_SIZE 1
+/* What comes back: refusals, besides those of the pane's header. */
 #define EM73862_OUTSIDE_RANGES 2
 #define EM73862_NO_FRAME 3
 #define EM73862_TOO_MANY_FRAMES 4
 #define EM73862_SHORT_DISPLAY 5
 #define EM73862_NOT_WRITABLE 11
-#define EM73862_ADDRESS_RANGE 20
-#define EM73862_EXCLUDED_REACHABLE 21
-#define EM73862_REPETITION_REACHABLE 22
-#define EM73862_SHORT_PATH 23
-/* Stops; the reader gives 30 and 35 too. */
-#define EM73862_UNASSIGNED 30
+/* Stops, besides EM73862_UNASSIGNED and EM73862_PAST_END of the pane's header. */
 #define EM73862_ABSENT_RAM 31
 #define EM73862_STACK_LEVEL 32
 #define EM73862_ABSENT_PORT 33
 #define EM73862_RESERVED_10XX 34
-/* The bytes left before the end of the image begin a row and are too few. */
-#define EM73862_PAST_END 35
 
 #ifdef __cplusplus
 extern "C" {
@@ -75,23 +63,15 @@ uint8_t em73862_look(uint8_t wake, uint8_t sound, uint8_t *record, size_t record
  * which leave the record. */
 uint8_t em73862_act(const uint8_t *image, size_t image_length, uint8_t wake, uint8_t sound,
                     uint8_t *record, size_t record_length, uint32_t *cycles);
-/* One step a frame, up to a stop. 1, 2, 4, 3; stops 30 to 35. It is in librun_calls.a, all others are in libcalls.a. */
+/* One step a frame, up to a stop. 1, 2, 4, 3; stops 30 to 35. It is in librun_calls.a, the pane's calls are in libpane.a, all others are in libcalls.a. */
 uint8_t em73862_run(const uint8_t *image, size_t image_length, uint8_t wake, uint8_t sound,
                     uint8_t *record, size_t record_length,
                     const uint8_t *frames, size_t frames_length, uint32_t *steps, uint32_t *cycles);
 /* The first 40 bytes of dots; later bytes stay. 2, 5. */
 uint8_t em73862_display(const uint8_t *record, size_t record_length, uint8_t *dots, size_t dots_length);
-/* row 1 to 107; a and b are the operands, 0 where the row has none: a is x, k, the address, the bit, r or n; b is y or p.
- * 1, 20, 30, 35. */
-uint8_t em73862_read(const uint8_t *image, size_t image_length, uint32_t address,
-                     uint8_t *row, uint16_t *a, uint8_t *b);
-/* length bytes of b0, b1, b2; the others are 0. 11. */
+/* The code of a row with its operands by their slots, as em73862_read gives them: length bytes of b0, b1, b2; the others are 0. 11. */
 uint8_t em73862_write(uint8_t row, uint16_t a, uint8_t b,
                       uint8_t *length, uint8_t *b0, uint8_t *b1, uint8_t *b2);
-/* path: the addresses of the longest path, two bytes each, low first; later bytes stay.
- * value: N where the answer is 0; the lowest address for 21 and 22; the bytes needed for 23; else 0. 1, 20, 21, 22, 23. */
-uint8_t em73862_bound(const uint8_t *image, size_t image_length, uint32_t address,
-                      uint8_t *path, size_t path_length, uint32_t *value);
 
 #ifdef __cplusplus
 }

@@ -19,7 +19,7 @@ struct request {
 };
 
 struct answer {
-    uint32_t number, others_kept, values[4];
+    uint32_t number, others_kept, values[6];
 };
 
 enum { MOST_BYTES = 1 << 20, MARGIN = 16, MARGIN_BYTE = 0xA5 };
@@ -83,7 +83,7 @@ static struct answer ask(const struct request *r) {
     struct answer answer = {0};
     size_t n = r->changing_length, m = r->steady_length;
     uint32_t first = 0xAAAAAAAA, second = 0xAAAAAAAA;
-    uint16_t word = 0xAAAA;
+    uint16_t word[3] = {0xAAAA, 0xAAAA, 0xAAAA};
     uint8_t byte[4] = {0xAA, 0xAA, 0xAA, 0xAA};
     switch (r->call) {
     case 1: answer.number = em73862_fresh(changing, n); break;
@@ -100,9 +100,9 @@ static struct answer ask(const struct request *r) {
         break;
     case 6: answer.number = em73862_display(steady, m, changing, n); break;
     case 7:
-        answer.number = em73862_read(image, image_length, r->first, &byte[0], &word, &byte[1]);
+        answer.number = em73862_read(image, image_length, r->first, &byte[0], &word[0], &byte[1]);
         answer.values[0] = byte[0];
-        answer.values[1] = word;
+        answer.values[1] = word[0];
         answer.values[2] = byte[1];
         break;
     case 8:
@@ -120,6 +120,23 @@ static struct answer ask(const struct request *r) {
         break;
     case 11:
         answer.number = em73862_act(image, image_length, r->first, r->second, changing, n, &first);
+        answer.values[0] = first;
+        break;
+    case 12:
+        answer.number = em73862_length(image, image_length, r->first, &byte[0], &byte[1]);
+        answer.values[0] = byte[0];
+        answer.values[1] = byte[1];
+        break;
+    case 13:
+        answer.number = em73862_row(image, image_length, r->first, &byte[0], &word[0], &word[1], &word[2], &byte[1], &byte[2]);
+        answer.values[0] = byte[0];
+        for (int at = 0; at < 3; at++)
+            answer.values[1 + at] = word[at];
+        answer.values[4] = byte[1];
+        answer.values[5] = byte[2];
+        break;
+    case 14:
+        answer.number = em73862_notation(image, image_length, r->first, changing, n, &first);
         answer.values[0] = first;
         break;
     default: _exit(1);

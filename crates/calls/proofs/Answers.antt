@@ -2,8 +2,6 @@
 use Prim.Native.Nat.{ℕ}
 use mathlib.Core.List.{List}
 use mathlib.Core.Path.{_≡_, refl, sym, ap, subst, _∙_}
-use Rattle.numbers.specs.ComesBack.{Paper, valueAt}
-use Rattle.reader.specs.Answer.{readPaper}
 use Rattle.writer.specs.Writing.{paperOf, fromPaper}
 use Rattle.writer.specs.declared.Code.{Code}
 use Rattle.writer.specs.declared.Written.{Written}
@@ -16,9 +14,8 @@ use Rattle.step.specs.declared.Stepped.{Stepped}
 use Rattle.step_apart.specs.Answers.{LookOf, ActOf}
 use Rattle.run.specs.Answers.{RunOf}
 use Rattle.run.specs.declared.Ran.{Ran}
-use Rattle.calls.specs.Calls.{Answers, RunAnswer, ReadCall}
-use Rattle.calls.specs.Numbers.{OfRead, OfWrite}
-use Rattle.calls.specs.declared.ReadNumbers.{ReadNumbers}
+use Rattle.calls.specs.Calls.{Answers, RunAnswer}
+use Rattle.calls.specs.Numbers.{OfWrite}
 
 -- a step, or one of its calls, by options that are those of the numbers
 handed : (P : Options → Stepped → Type 0) {o o′ : Options} {r : Stepped} {left : List ℕ} → o ≡ o′ → P o r → Holds left (r .machine) → Answers (P o′) (r .number) (r .cycles) left
@@ -38,14 +35,6 @@ module _ {image : List ℕ} {m : Machine} {frame : List ℕ} {o o′ : Options} 
   pub ran : {r : Ran} {left : List ℕ} → RunOf image o m frame r → Holds left (r .machine) → RunAnswer image o′ frame m (r .number) (r .steps) (r .cycles) left
   ran {r} s h =
       record { r = r; runs = subst (λ (q : Options). RunOf image q m frame r) same s; answer = refl; made = refl; spent = refl; left = h .same }
-
-pub told : {image : List ℕ} {address : ℕ} {p : Paper} {n : ReadNumbers} → p ≡ readPaper image address → OfRead p n → ReadCall image address (n .number) (n .row) (n .a) (n .b)
-told e o = record {
-  answer = o .number ∙ ap (λ (q : Paper). q .number) e;
-  which = o .row ∙ ap (λ (q : Paper). valueAt q 0) e;
-  first = o .a ∙ ap (λ (q : Paper). valueAt q 1) e;
-  second = o .b ∙ ap (λ (q : Paper). valueAt q 2) e;
-}
 
 -- the writer's bytes past the code are 0, so each is the paper's value or 0
 abbrev codeIn : Code → Written → Code

@@ -1,4 +1,4 @@
--- Each of the eleven calls has one answer: two answers to the same that conform are equal, numbers and buffers.
+-- Each of the base calls has one answer: two answers to the same that conform are equal, numbers and buffers.
 use Prim.Native.Nat.{ℕ}
 use mathlib.Core.List.{List}
 use mathlib.Core.Path.{_≡_, sym, ap, subst, _∙_}
@@ -23,9 +23,7 @@ use Rattle.step_apart.proofs.Answering.{one-look as one-looked, one-act as one-
 use Rattle.run.specs.declared.Ran.{Ran}
 use Rattle.run.proofs.Answering.{one-answer as one-ran}
 use Rattle.display.proofs.Answers.{one-answer as one-shown}
-use Rattle.bound.specs.Answer.{paperOf as boundPaper}
-use Rattle.bound.proofs.Unique.{one-answer as one-bounded}
-use Rattle.calls.specs.Calls.{Judged, no-record, record-of, unheld, FreshCall, wrong-length, fresh, ResetCall, ValidAnswer, ValidCall, NotStepped, Answers, StepCall, LookCall, ActCall, RunCall, DisplayCall, ReadCall, WriteCall, BoundCall}
+use Rattle.calls.specs.Calls.{Judged, no-record, record-of, unheld, FreshCall, wrong-length, fresh, ResetCall, ValidAnswer, ValidCall, NotStepped, Answers, StepCall, LookCall, ActCall, RunCall, DisplayCall, WriteCall}
 
 -- two values that are each f of something, where the somethings are equal
 via : {A B : Type 0} (f : A → B) {x y : A} {a b : B} → x ≡ y → a ≡ f x → b ≡ f y → a ≡ b
@@ -93,16 +91,7 @@ module _ {image : List ℕ} {o : Options} {bytes frames : List ℕ} {n n′ c c�
       (λ a b. (agree (a .refusal) (b .refusal), agree (a .no-steps) (b .no-steps), agree (a .no-cycles) (b .no-cycles), agree (a .kept) (b .kept)))
       (λ m a b. let e : a .r ≡ b .r = one-ran image o m frames (a .r) (b .r) (a .runs) (b .runs) in (via (λ (r : Ran). r .number) e (a .answer) (b .answer), via (λ (r : Ran). r .steps) e (a .made) (b .made), via (λ (r : Ran). r .cycles) e (a .spent) (b .spent), via (λ (r : Ran). recordBytes (r .machine)) e (a .left) (b .left)))
 
-pub one-read : {image : List ℕ} {address n n′ row row′ a a′ b b′ : ℕ} → ReadCall image address n row a b → ReadCall image address n′ row′ a′ b′ → (n ≡ n′) × (row ≡ row′) × (a ≡ a′) × (b ≡ b′)
-one-read x y = (agree (x .answer) (y .answer), agree (x .which) (y .which), agree (x .first) (y .first), agree (x .second) (y .second))
-
 pub one-write : {i : Insn} {n n′ size size′ b0 b0′ b1 b1′ b2 b2′ : ℕ} → WriteCall i n size b0 b1 b2 → WriteCall i n′ size′ b0′ b1′ b2′ → (n ≡ n′) × (size ≡ size′) × (b0 ≡ b0′) × (b1 ≡ b1′) × (b2 ≡ b2′)
 one-write {i} x y =
     let e : codePaper (x .r) ≡ codePaper (y .r) = ap codePaper (one-written i (x .r) (y .r) (x .writes) (y .writes)) in
     (via (λ (p : Paper). p .number) e (x .answer) (y .answer), via (λ (p : Paper). length (p .values)) e (x .bytes) (y .bytes), via (λ (p : Paper). valueAt p 0) e (x .first) (y .first), via (λ (p : Paper). valueAt p 1) e (x .second) (y .second), via (λ (p : Paper). valueAt p 2) e (x .third) (y .third))
-
-pub one-bound : {image : List ℕ} {address : ℕ} (path : List ℕ) {n n′ v v′ : ℕ} {z z′ : List ℕ} → BoundCall image address path n v z → BoundCall image address path n′ v′ z′ → (n ≡ n′) × (v ≡ v′) × (z ≡ z′)
-one-bound path x y =
-    let same = one-bounded path (x .r) (y .r) (x .bounds) (y .bounds) in
-    let e : boundPaper (x .r) ≡ boundPaper (y .r) = ap boundPaper (same .0) in
-    (via (λ (p : Paper). p .number) e (x .answer) (y .answer), via (λ (p : Paper). valueAt p 0) e (x .given) (y .given), same .1)

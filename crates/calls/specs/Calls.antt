@@ -1,4 +1,4 @@
--- What the eleven calls on numbers and byte buffers answer: include/em73862.h has their names. A primed name is what a call leaves where it was given the other.
+-- What the base calls on numbers and byte buffers answer: include/em73862.h has their names. A primed name is what a call leaves where it was given the other.
 use Prim.Native.Nat.{ℕ}
 use mathlib.Core.Bool.{not}
 use mathlib.Core.List.{List}
@@ -10,7 +10,6 @@ use Rattle.numbers.specs.Sizes.{imageBytes}
 use Rattle.laws.specs.Choice.{pick}
 use Rattle.numbers.specs.ComesBack.{valueAt, image-is-not-8192-bytes, record-outside-the-ranges}
 use Rattle.sheet.specs.declared.Insn.{Insn}
-use Rattle.reader.specs.Answer.{readPaper}
 use Rattle.writer.specs.Writing.{Writes}
 use Rattle.writer.specs.Writing.{paperOf as codePaper}
 use Rattle.writer.specs.declared.Written.{Written}
@@ -26,9 +25,6 @@ use Rattle.step_apart.specs.Answers.{LookOf, ActOf}
 use Rattle.run.specs.Answers.{RunOf}
 use Rattle.run.specs.declared.Ran.{Ran}
 use Rattle.display.specs.Display.{DisplayOf}
-use Rattle.bound.specs.Answer.{BoundAnswer}
-use Rattle.bound.specs.Answer.{paperOf as boundPaper}
-use Rattle.bound.specs.declared.Bounded.{Bounded}
 
 -- a buffer that holds a record is answered as that record, and one that holds none by a refusal
 pub data Judged (bytes : List ℕ) (Refusal : Type 0) (Answer : Machine → Type 0) : Type 0 where
@@ -125,13 +121,6 @@ pub record NotShown (number : ℕ) (dots dots′ : List ℕ) : Type 0 where
 abbrev pub DisplayCall : List ℕ → List ℕ → ℕ → List ℕ → Type 0
 DisplayCall bytes dots number dots′ = Judged bytes (NotShown number dots dots′) (λ m. DisplayOf m dots dots′ number)
 
--- em73862_read
-pub record ReadCall (image : List ℕ) (address number row a b : ℕ) : Type 0 where
-  pub answer : number ≡ readPaper image address .number
-  pub which : row ≡ valueAt (readPaper image address) 0
-  pub first : a ≡ valueAt (readPaper image address) 1
-  pub second : b ≡ valueAt (readPaper image address) 2
-
 -- em73862_write
 pub record WriteCall (i : Insn) (number size b0 b1 b2 : ℕ) : Type 0 where
   pub r : Written
@@ -141,10 +130,3 @@ pub record WriteCall (i : Insn) (number size b0 b1 b2 : ℕ) : Type 0 where
   pub first : b0 ≡ valueAt (codePaper r) 0
   pub second : b1 ≡ valueAt (codePaper r) 1
   pub third : b2 ≡ valueAt (codePaper r) 2
-
--- em73862_bound
-pub record BoundCall (image : List ℕ) (address : ℕ) (path : List ℕ) (number value : ℕ) (path′ : List ℕ) : Type 0 where
-  pub r : Bounded
-  pub bounds : BoundAnswer image address path path′ (boundPaper r)
-  pub answer : number ≡ boundPaper r .number
-  pub given : value ≡ valueAt (boundPaper r) 0

@@ -1,15 +1,8 @@
--- The numbers of an answer that is an enum, as the calls hand them on.
+-- The numbers of the writer's answer, as the call hands them on.
 use mathlib.Core.Path.{_≡_}
 use lib.ListN.{length}
 use Rattle.numbers.specs.ComesBack.{Paper, valueAt}
-use Rattle.calls.specs.declared.ReadNumbers.{ReadNumbers}
 use Rattle.calls.specs.declared.WriteNumbers.{WriteNumbers}
-
-pub record OfRead (p : Paper) (n : ReadNumbers) : Type 0 where
-  pub number : n .number ≡ p .number
-  pub row : n .row ≡ valueAt p 0
-  pub a : n .a ≡ valueAt p 1
-  pub b : n .b ≡ valueAt p 2
 
 pub record OfWrite (p : Paper) (n : WriteNumbers) : Type 0 where
   pub number : n .number ≡ p .number

@@ -1,6 +1,5 @@
 // The base calls on numbers and byte buffers, for C and for whatever calls C: include/em73862.h declares them. Each takes its bytes apart, calls the public function and puts numbers back.
-// Two answers of a call to the same inputs are equal, for each of the eleven: proofs/OneAnswer.antt. A refusal leaves the record's bytes as they were: proofs/Kept.antt.
-use bound::bound;
+// Two answers of a call to the same inputs are equal, for each of the nine: proofs/OneAnswer.antt. A refusal leaves the record's bytes as they were: proofs/Kept.antt.
 use display::display;
 use machine_bytes::RECORD_BYTES;
 use machine_bytes::pack;
@@ -8,14 +7,8 @@ use machine_bytes::unpack;
 use machine_start::fresh;
 use machine_start::reset;
 use machine_valid::is_valid;
-use numbers::ADDRESS_OVER_8191;
 use numbers::IMAGE_BYTES;
-use numbers::IMAGE_IS_NOT_8192_BYTES;
 use numbers::NOT_TO_BE_WRITTEN;
-use numbers::PAST_END;
-use numbers::UNASSIGNED_CODE;
-use reader::Answer;
-use reader::read;
 use sheet::Insn;
 use step::Options;
 use step::step;
@@ -24,19 +17,11 @@ use step_apart::look;
 use writer::Written;
 use writer::write;
 ghost use mathlib.Core.Path.{_≡_};
-ghost use Rattle.reader.specs.Answer.{paperOf as readingPaper};
 ghost use Rattle.writer.specs.Writing.{paperOf as codePaper, fromPaper as codeFrom};
-ghost use Rattle.calls.specs.Calls.{unheld, optionsOf, FreshCall, ResetCall, ValidCall, StepCall, LookCall, ActCall, DisplayCall, ReadCall, WriteCall, BoundCall};
-ghost use Rattle.calls.specs.Numbers.{OfRead, OfWrite};
+ghost use Rattle.calls.specs.Calls.{unheld, optionsOf, FreshCall, ResetCall, ValidCall, StepCall, LookCall, ActCall, DisplayCall, WriteCall};
+ghost use Rattle.calls.specs.Numbers.{OfWrite};
 
-// What the reader, the writer and the bound answer, as numbers.
-pub struct ReadNumbers {
-    pub number: u8,
-    pub row: u8,
-    pub a: u16,
-    pub b: u8,
-}
-
+// What the writer answers, as numbers.
 pub struct WriteNumbers {
     pub number: u8,
     pub count: u8,
@@ -177,51 +162,6 @@ pub extern "C" fn em73862_display(bytes: &[u8], dots: &mut [u8]) -> u8
     2
 }
 
-fn no_row(number: u8) -> ReadNumbers
-    ensures { λ r. ⌜ r ≡ record { number = number; row = 0; a = 0; b = 0 } ⌝ }
-{
-    ReadNumbers {
-        number: number,
-        row: 0,
-        a: 0,
-        b: 0,
-    }
-}
-
-fn read_numbers(answer: Answer) -> ReadNumbers
-    ensures { λ r. ⌜ OfRead (readingPaper answer) r ⌝ }
-{
-    match answer {
-        Answer::Row(d) => ReadNumbers {
-            number: 0,
-            row: d.insn.row,
-            a: d.insn.a,
-            b: d.insn.b,
-        },
-        Answer::Unassigned => no_row(UNASSIGNED_CODE),
-        Answer::PastEnd => no_row(PAST_END),
-        Answer::ImageSize => no_row(IMAGE_IS_NOT_8192_BYTES),
-        Answer::AddressRange => no_row(ADDRESS_OVER_8191),
-    }
-}
-
-#[no_mangle]
-pub extern "C" fn em73862_read(
-    image: &[u8],
-    address: u32,
-    row: &mut u8,
-    a: &mut u16,
-    b: &mut u8,
-) -> u8
-    ensures { λ r. ⌜ ReadCall (now (image .entry)) address r (now (row .exit)) (now (a .exit)) (now (b .exit)) ⌝ }
-{
-    let n = read_numbers(read(image, address));
-    *row = n.row;
-    *a = n.a;
-    *b = n.b;
-    n.number
-}
-
 fn write_numbers(code: Written) -> WriteNumbers
     requires { ⌜ codeFrom (codePaper code) ≡ code ⌝ }
     ensures { λ r. ⌜ OfWrite (codePaper code) r ⌝ }
@@ -266,14 +206,5 @@ pub extern "C" fn em73862_write(
     *b0 = n.b0;
     *b1 = n.b1;
     *b2 = n.b2;
-    n.number
-}
-
-#[no_mangle]
-pub extern "C" fn em73862_bound(image: &[u8], address: u32, path: &mut [u8], value: &mut u32) -> u8
-    ensures { λ r. ⌜ BoundCall (now (image .entry)) address (now (path .entry)) r (now (value .exit)) (now (path .exit)) ⌝ }
-{
-    let n = bound::numbers_of(bound(image, address, path));
-    *value = n.value as u32;
     n.number
 }

@@ -152,7 +152,7 @@ fn entry(n: u32) -> u32
     8 * n + 6
 }
 
-fn goes_to(at: u16, insn: Insn) -> u32
+pub fn goes_to(at: u16, insn: Insn) -> u32
     ensures { λ r. ⌜ r ≡ goesTo at insn ⌝ }
 {
     let a = insn.a as u32;

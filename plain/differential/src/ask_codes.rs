@@ -7,17 +7,21 @@ use crate::images::{any_insn, of_wrong_size, whole, Codes};
 use crate::plainly::slots_of;
 use plain::{IMAGE_SIZE, SHEET};
 
+fn any_address(chance: &mut Chance) -> u32 {
+    match chance.below(4) {
+        0 => chance.pick(&[0, 8189, 8190, 8191]),
+        1 => chance.pick(&[8192, 8193, 16384, 65536, 65537, 0x8000_0000, u32::MAX]),
+        _ => chance.below(IMAGE_SIZE) as u32,
+    }
+}
+
 pub fn reads(asker: &mut Asker, chance: &mut Chance, codes: &Codes, wanted: u64) -> Result<(), Difference> {
     every_pair(asker)?;
     every_end(asker, chance)?;
     while asker.coverage.asked(Kind::Read) < wanted {
         let image = if chance.one_in(20) { of_wrong_size(chance) } else { whole(chance, codes) };
         for _ in 0..64 {
-            let address = match chance.below(4) {
-                0 => chance.pick(&[0, 8189, 8190, 8191]),
-                1 => chance.pick(&[8192, 8193, 16384, 65536, 65537, 0x8000_0000, u32::MAX]),
-                _ => chance.below(IMAGE_SIZE) as u32,
-            };
+            let address = any_address(chance);
             asker.ask(Call::Read { image: image.clone(), address })?;
         }
     }
@@ -50,6 +54,35 @@ fn every_end(asker: &mut Asker, chance: &mut Chance) -> Result<(), Difference> {
         asker.ask(Call::Read { image: image.into(), address: 8191 })?;
     }
     Ok(())
+}
+
+/// Length, row and notation of the same address, the last into buffers about as long as the text.
+fn shown(asker: &mut Asker, chance: &mut Chance, image: &Image, address: u32) -> Result<(), Difference> {
+    asker.ask(Call::Length { image: image.clone(), address })?;
+    asker.ask(Call::Row { image: image.clone(), address })?;
+    let room = chance.pick(&[0, 3, 5, 8, 9, 10, 11, 12, 16, 24]);
+    asker.ask(Call::Notation { image: image.clone(), address, text: vec![chance.byte(); room] })?;
+    Ok(())
+}
+
+pub fn panes(asker: &mut Asker, chance: &mut Chance, codes: &Codes, wanted: u64) -> Result<(), Difference> {
+    for first in 0..=255 {
+        for high in 0..16 {
+            let mut image = [chance.byte(); IMAGE_SIZE];
+            image[IMAGE_SIZE - 2..].copy_from_slice(&[first, 16 * high + chance.nibble()]);
+            let image: Image = image.into();
+            shown(asker, chance, &image, 8190)?;
+            shown(asker, chance, &image, 8191)?;
+        }
+    }
+    while asker.coverage.asked(Kind::Notation) < wanted {
+        let image = if chance.one_in(20) { of_wrong_size(chance) } else { whole(chance, codes) };
+        for _ in 0..64 {
+            let address = any_address(chance);
+            shown(asker, chance, &image, address)?;
+        }
+    }
+    asker.compare_queued()
 }
 
 pub fn writes(asker: &mut Asker, chance: &mut Chance, wanted: u64) -> Result<(), Difference> {

@@ -95,7 +95,11 @@ fn in_short(call: &Call) -> String {
     let mut text = String::new();
     if let Some(image) = call.image() {
         let start = match call {
-            Call::Read { address, .. } | Call::Bound { address, .. } => *address as usize,
+            Call::Read { address, .. }
+            | Call::Bound { address, .. }
+            | Call::Length { address, .. }
+            | Call::Row { address, .. }
+            | Call::Notation { address, .. } => *address as usize,
             _ => pc_of(call.changing()),
         };
         let codes: Vec<u8> = (0..8).filter_map(|offset| image.get((start + offset) % 8192)).copied().collect();
@@ -125,7 +129,12 @@ fn in_short(call: &Call) -> String {
             )
         }
         Call::Display { record, dots } => write!(text, "{} bytes for dots, {}", dots.len(), record_in_short(record)),
-        Call::Read { address, .. } => write!(text, "address {address:X}h"),
+        Call::Read { address, .. } | Call::Length { address, .. } | Call::Row { address, .. } => {
+            write!(text, "address {address:X}h")
+        }
+        Call::Notation { address, text: buffer, .. } => {
+            write!(text, "address {address:X}h, {} bytes for the text", buffer.len())
+        }
         Call::Write { row, a, b } => write!(text, "row {row}, a {a}, b {b}"),
         Call::Bound { address, path, .. } => write!(text, "address {address:X}h, {} bytes for the path", path.len()),
     };
@@ -154,7 +163,7 @@ mod tests {
 
     #[test]
     fn every_part_of_an_answer_is_compared() {
-        let answer = Answer { number: 0, values: [7, 8, 0, 0], buffer: vec![1; RECORD_BYTES], others_kept: true };
+        let answer = Answer { number: 0, values: [7, 8, 0, 0, 0, 0], buffer: vec![1; RECORD_BYTES], others_kept: true };
         let difference = |other: &Answer| first_difference(Kind::Run, ("plain", &answer), ("proved", other));
         assert_eq!(difference(&answer), None);
         type Change = fn(&mut Answer);

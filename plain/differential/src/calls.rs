@@ -1,4 +1,4 @@
-//! The eleven calls of include/em73862.h as values: what goes in, and what comes back.
+//! The fourteen calls of include/em73862.h and include/em73862_pane.h as values: what goes in, and what comes back.
 
 use std::sync::Arc;
 
@@ -18,9 +18,12 @@ pub enum Call {
     Read { image: Image, address: u32 },
     Write { row: u8, a: u16, b: u8 },
     Bound { image: Image, address: u32, path: Vec<u8> },
+    Length { image: Image, address: u32 },
+    Row { image: Image, address: u32 },
+    Notation { image: Image, address: u32, text: Vec<u8> },
 }
 
-/// What the eleven calls are counted by.
+/// What the calls are counted by.
 #[derive(Clone, Copy, Debug, PartialEq, Eq)]
 pub enum Kind {
     Fresh,
@@ -34,10 +37,13 @@ pub enum Kind {
     Read,
     Write,
     Bound,
+    Length,
+    Row,
+    Notation,
 }
 
 impl Kind {
-    pub const ALL: [Kind; 11] = [
+    pub const ALL: [Kind; 14] = [
         Kind::Step,
         Kind::Look,
         Kind::Act,
@@ -46,6 +52,9 @@ impl Kind {
         Kind::Read,
         Kind::Write,
         Kind::Bound,
+        Kind::Length,
+        Kind::Row,
+        Kind::Notation,
         Kind::Fresh,
         Kind::Reset,
         Kind::IsValid,
@@ -64,6 +73,9 @@ impl Kind {
             Kind::Read => "read",
             Kind::Write => "write",
             Kind::Bound => "bound",
+            Kind::Length => "length",
+            Kind::Row => "row",
+            Kind::Notation => "notation",
         }
     }
 
@@ -81,10 +93,13 @@ impl Kind {
             Kind::Read => "reads",
             Kind::Write => "writes",
             Kind::Bound => "bounds",
+            Kind::Length => "lengths",
+            Kind::Row => "rows",
+            Kind::Notation => "notations",
         }
     }
 
-    /// The numbers that a call gives back besides its answer's number, in the header's order.
+    /// The numbers that a call gives back besides its answer's number, in its header's order.
     pub fn values(self) -> &'static [&'static str] {
         match self {
             Kind::Fresh | Kind::Reset | Kind::IsValid | Kind::Display => &[],
@@ -93,18 +108,21 @@ impl Kind {
             Kind::Read => &["row", "a", "b"],
             Kind::Write => &["length", "b0", "b1", "b2"],
             Kind::Bound => &["value"],
+            Kind::Length => &["bytes", "cycles"],
+            Kind::Row => &["row", "first", "second", "goes", "bytes", "cycles"],
+            Kind::Notation => &["length"],
         }
     }
 }
 
-pub const MOST_VALUES: usize = 4;
+pub const MOST_VALUES: usize = 6;
 
 /// What comes back. Values that a call does not have are 0.
 #[derive(Clone, Debug, PartialEq, Eq)]
 pub struct Answer {
     pub number: u8,
     pub values: [u32; MOST_VALUES],
-    /// The buffer that the call may change, as it was left: the record, the dots or the path.
+    /// The buffer that the call may change, as it was left: the record, the dots, the path or the text.
     pub buffer: Vec<u8>,
     /// Whether all other bytes stayed: the image, the steady buffer, and what is just before and behind `buffer`.
     pub others_kept: bool,
@@ -124,6 +142,9 @@ impl Call {
             Call::Read { .. } => Kind::Read,
             Call::Write { .. } => Kind::Write,
             Call::Bound { .. } => Kind::Bound,
+            Call::Length { .. } => Kind::Length,
+            Call::Row { .. } => Kind::Row,
+            Call::Notation { .. } => Kind::Notation,
         }
     }
 
@@ -133,7 +154,10 @@ impl Call {
             | Call::Act { image, .. }
             | Call::Run { image, .. }
             | Call::Read { image, .. }
-            | Call::Bound { image, .. } => Some(image),
+            | Call::Bound { image, .. }
+            | Call::Length { image, .. }
+            | Call::Row { image, .. }
+            | Call::Notation { image, .. } => Some(image),
             _ => None,
         }
     }
@@ -146,7 +170,8 @@ impl Call {
             Call::Act { record, .. } | Call::Run { record, .. } => record,
             Call::Display { dots, .. } => dots,
             Call::Bound { path, .. } => path,
-            Call::Read { .. } | Call::Write { .. } => &[],
+            Call::Notation { text, .. } => text,
+            Call::Read { .. } | Call::Write { .. } | Call::Length { .. } | Call::Row { .. } => &[],
         }
     }
 

@@ -7,7 +7,7 @@ use plain::{read, Machine, Mode, Row, MOST_FRAMES, SHEET};
 const NUMBERS: usize = 36;
 
 /// Each answer's number, and how often it comes at least in a whole comparison (with the factor 1).
-const AT_LEAST: [(Kind, &[(u8, u64)]); 11] = [
+const AT_LEAST: [(Kind, &[(u8, u64)]); 14] = [
     (Kind::Step, &STEP_AT_LEAST),
     (Kind::Look, &[(0, 30_000), (2, 3_000), (3, 3_000)]),
     (Kind::Act, &ACT_AT_LEAST),
@@ -16,6 +16,9 @@ const AT_LEAST: [(Kind, &[(u8, u64)]); 11] = [
     (Kind::Read, &[(0, 60_000), (1, 500), (20, 5_000), (30, 1_500), (35, 1_500)]),
     (Kind::Write, &[(0, 10_000), (11, 50_000)]),
     (Kind::Bound, &[(0, 20_000), (1, 500), (20, 500), (21, 10_000), (22, 10_000), (23, 10_000)]),
+    (Kind::Length, &[(0, 50_000), (1, 500), (20, 5_000), (30, 1_500), (35, 1_500)]),
+    (Kind::Row, &[(0, 50_000), (1, 500), (20, 5_000), (30, 1_500), (35, 1_500)]),
+    (Kind::Notation, &[(0, 50_000), (1, 500), (20, 5_000), (30, 1_500), (35, 1_500)]),
     (Kind::Fresh, &[(0, 30_000), (2, 10_000)]),
     (Kind::Reset, &[(0, 30_000), (2, 30_000)]),
     (Kind::IsValid, &[(0, 30_000), (2, 30_000)]),
@@ -118,7 +121,7 @@ const EACH_EVENT: u64 = 300;
 const LONGEST_RUNS: u64 = 10;
 
 pub struct Coverage {
-    answers: [[u64; NUMBERS]; 11],
+    answers: [[u64; NUMBERS]; 14],
     rows: [u64; 108],
     events: [u64; EVENTS.len()],
     longest_runs: u64,
@@ -129,7 +132,7 @@ pub struct Coverage {
 impl Default for Coverage {
     fn default() -> Coverage {
         Coverage {
-            answers: [[0; NUMBERS]; 11],
+            answers: [[0; NUMBERS]; 14],
             rows: [0; 108],
             events: [0; EVENTS.len()],
             longest_runs: 0,

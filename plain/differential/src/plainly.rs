@@ -2,7 +2,10 @@
 
 use crate::calls::{Answer, Call, MOST_VALUES};
 use crate::layout::{machine_of, record_of, RECORD_BYTES};
-use plain::{numbers, Bound, Insn, Machine, Options, Row};
+use plain::{goes_to, notation, numbers, Bound, Insn, Machine, Options, Row};
+
+/// Where a row goes that is neither a branch nor a call.
+const NOWHERE: u16 = 8192;
 
 pub fn answer(call: &Call) -> Answer {
     let refusal = |number| refused(number, call);
@@ -17,6 +20,9 @@ pub fn answer(call: &Call) -> Answer {
         Call::Display { record, dots } => display(record, dots),
         Call::Read { image, address } => read(image, *address),
         Call::Write { row, a, b } => write(*row, *a, *b),
+        Call::Length { image, address } => length(image, *address),
+        Call::Row { image, address } => row(image, *address),
+        Call::Notation { image, address, text } => in_notation(image, *address, text),
         Call::Bound { image, address, path } => return bound(image, *address, path),
     };
     answered.unwrap_or_else(refusal)
@@ -28,9 +34,9 @@ fn refused(number: u8, call: &Call) -> Answer {
 }
 
 fn record_answer(buffer: Vec<u8>, number: u8, values: &[u32]) -> Answer {
-    let mut four_values = [0; MOST_VALUES];
-    four_values[..values.len()].copy_from_slice(values);
-    Answer { number, values: four_values, buffer, others_kept: true }
+    let mut all_values = [0; MOST_VALUES];
+    all_values[..values.len()].copy_from_slice(values);
+    Answer { number, values: all_values, buffer, others_kept: true }
 }
 
 fn options(wake: u8, sound: u8) -> Options {
@@ -100,6 +106,35 @@ fn read(image: &[u8], address: u32) -> Result<Answer, u8> {
     let insn = plain::read(image, address as usize)?;
     let (a, b) = slots_of(insn);
     Ok(record_answer(Vec::new(), numbers::NONE, &[insn.row as u32, a as u32, b as u32]))
+}
+
+/// The bytes and cycles of a row that was read.
+fn size_of(insn: Insn) -> [u32; 2] {
+    let row = Row::from_number(insn.row).expect("what is read is a row");
+    [row.bytes() as u32, row.cycles()]
+}
+
+fn length(image: &[u8], address: u32) -> Result<Answer, u8> {
+    let insn = plain::read(image, address as usize)?;
+    Ok(record_answer(Vec::new(), numbers::NONE, &size_of(insn)))
+}
+
+fn row(image: &[u8], address: u32) -> Result<Answer, u8> {
+    let insn = plain::read(image, address as usize)?;
+    let goes = goes_to(insn, address as u16).unwrap_or(NOWHERE);
+    let [bytes, cycles] = size_of(insn);
+    let values = [insn.row as u32, insn.a as u32, insn.b as u32, goes as u32, bytes, cycles];
+    Ok(record_answer(Vec::new(), numbers::NONE, &values))
+}
+
+fn in_notation(image: &[u8], address: u32, text: &[u8]) -> Result<Answer, u8> {
+    let insn = plain::read(image, address as usize)?;
+    let words = notation(insn, address as u16);
+    let mut text = text.to_vec();
+    if let Some(start) = text.get_mut(..words.len()) {
+        start.copy_from_slice(words.as_bytes());
+    }
+    Ok(record_answer(text, numbers::NONE, &[words.len() as u32]))
 }
 
 fn write(row: u8, a: u16, b: u8) -> Result<Answer, u8> {

@@ -55,6 +55,7 @@ fn ask_all(asker: &mut Asker, seed: u64, factor: u64) -> Result<(), Difference> 
     ask_records::reset(asker, &mut chance, others)?;
     ask_records::is_valid(asker, &mut chance, others)?;
     ask_codes::reads(asker, &mut chance, &codes, others)?;
+    ask_codes::panes(asker, &mut chance, &codes, others)?;
     ask_codes::writes(asker, &mut chance, others)?;
     ask_records::display(asker, &mut chance, others)?;
     ask_steps::steps(asker, &mut chance, &codes, STEPS * factor)?;

@@ -1,9 +1,9 @@
-//! The archive linked into this program.
+//! The archives linked into this program.
 
 use crate::calls::{Answer, Call, Image, MOST_VALUES};
 use std::sync::Arc;
 
-/// include/em73862.h, a slice being a pointer and a length.
+/// include/em73862.h and include/em73862_pane.h, a slice being a pointer and a length.
 pub mod header {
     extern "C" {
         pub fn em73862_fresh(record: *mut u8, record_length: usize) -> u8;
@@ -68,6 +68,32 @@ pub mod header {
             path_length: usize,
             value: *mut u32,
         ) -> u8;
+        pub fn em73862_length(
+            image: *const u8,
+            image_length: usize,
+            address: u32,
+            bytes: *mut u8,
+            cycles: *mut u8,
+        ) -> u8;
+        pub fn em73862_row(
+            image: *const u8,
+            image_length: usize,
+            address: u32,
+            row: *mut u8,
+            first: *mut u16,
+            second: *mut u16,
+            goes: *mut u16,
+            bytes: *mut u8,
+            cycles: *mut u8,
+        ) -> u8;
+        pub fn em73862_notation(
+            image: *const u8,
+            image_length: usize,
+            address: u32,
+            text: *mut u8,
+            text_length: usize,
+            length: *mut u32,
+        ) -> u8;
     }
 }
 
@@ -114,21 +140,28 @@ impl Proved {
     }
 }
 
+/// Values that a call does not have are 0.
+fn values_of<const N: usize>(given: [u32; N]) -> [u32; MOST_VALUES] {
+    let mut values = [0; MOST_VALUES];
+    values[..N].copy_from_slice(&given);
+    values
+}
+
 /// Makes the call with `buffer` for the one that it may change.
 fn ask(call: &Call, buffer: &mut [u8]) -> (u8, [u32; MOST_VALUES]) {
     let (changing, length) = (buffer.as_mut_ptr(), buffer.len());
     match call {
         Call::Fresh { .. } => {
             // SAFETY: `changing` and `length` are those of `buffer`, which is lent to this call alone.
-            (unsafe { header::em73862_fresh(changing, length) }, [0; 4])
+            (unsafe { header::em73862_fresh(changing, length) }, [0; MOST_VALUES])
         }
         Call::Reset { .. } => {
             // SAFETY: `changing` and `length` are those of `buffer`, which is lent to this call alone.
-            (unsafe { header::em73862_reset(changing, length) }, [0; 4])
+            (unsafe { header::em73862_reset(changing, length) }, [0; MOST_VALUES])
         }
         Call::IsValid { .. } => {
             // SAFETY: `changing` and `length` are those of `buffer`, which is lent to this call alone.
-            (unsafe { header::em73862_is_valid(changing, length) }, [0; 4])
+            (unsafe { header::em73862_is_valid(changing, length) }, [0; MOST_VALUES])
         }
         Call::Step { image, wake, sound, frame, .. } => {
             let mut cycles = UNSET_32;
@@ -146,7 +179,7 @@ fn ask(call: &Call, buffer: &mut [u8]) -> (u8, [u32; MOST_VALUES]) {
                     &mut cycles,
                 )
             };
-            (number, [cycles, 0, 0, 0])
+            (number, values_of([cycles]))
         }
         Call::Look { wake, sound, frame, .. } => {
             let mut cycles = UNSET_32;
@@ -154,7 +187,7 @@ fn ask(call: &Call, buffer: &mut [u8]) -> (u8, [u32; MOST_VALUES]) {
             let number = unsafe {
                 header::em73862_look(*wake, *sound, changing, length, frame.as_ptr(), frame.len(), &mut cycles)
             };
-            (number, [cycles, 0, 0, 0])
+            (number, values_of([cycles]))
         }
         Call::Act { image, wake, sound, .. } => {
             let mut cycles = UNSET_32;
@@ -162,7 +195,7 @@ fn ask(call: &Call, buffer: &mut [u8]) -> (u8, [u32; MOST_VALUES]) {
             let number = unsafe {
                 header::em73862_act(image.as_ptr(), image.len(), *wake, *sound, changing, length, &mut cycles)
             };
-            (number, [cycles, 0, 0, 0])
+            (number, values_of([cycles]))
         }
         Call::Run { image, wake, sound, frames, .. } => {
             let (mut steps, mut cycles) = (UNSET_32, UNSET_32);
@@ -181,31 +214,65 @@ fn ask(call: &Call, buffer: &mut [u8]) -> (u8, [u32; MOST_VALUES]) {
                     &mut cycles,
                 )
             };
-            (number, [steps, cycles, 0, 0])
+            (number, values_of([steps, cycles]))
         }
         Call::Display { record, .. } => {
             // SAFETY: each pointer is that of a whole slice with its length beside it, or of a number; only `buffer` and the numbers change.
-            (unsafe { header::em73862_display(record.as_ptr(), record.len(), changing, length) }, [0; 4])
+            (unsafe { header::em73862_display(record.as_ptr(), record.len(), changing, length) }, [0; MOST_VALUES])
         }
         Call::Read { image, address } => {
             let (mut row, mut a, mut b) = (UNSET, UNSET_16, UNSET);
             // SAFETY: each pointer is that of a whole slice with its length beside it, or of a number; only `buffer` and the numbers change.
             let number =
                 unsafe { header::em73862_read(image.as_ptr(), image.len(), *address, &mut row, &mut a, &mut b) };
-            (number, [row as u32, a as u32, b as u32, 0])
+            (number, values_of([row as u32, a as u32, b as u32]))
         }
         Call::Write { row, a, b } => {
             let [mut written, mut b0, mut b1, mut b2] = [UNSET; 4];
             // SAFETY: each pointer is that of a number of this function.
             let number = unsafe { header::em73862_write(*row, *a, *b, &mut written, &mut b0, &mut b1, &mut b2) };
-            (number, [written, b0, b1, b2].map(u32::from))
+            (number, values_of([written, b0, b1, b2].map(u32::from)))
         }
         Call::Bound { image, address, .. } => {
             let mut value = UNSET_32;
             // SAFETY: each pointer is that of a whole slice with its length beside it, or of a number; only `buffer` and the numbers change.
             let number =
                 unsafe { header::em73862_bound(image.as_ptr(), image.len(), *address, changing, length, &mut value) };
-            (number, [value, 0, 0, 0])
+            (number, values_of([value]))
+        }
+        Call::Length { image, address } => {
+            let [mut bytes, mut cycles] = [UNSET; 2];
+            // SAFETY: each pointer is that of a whole slice with its length beside it, or of a number; only the numbers change.
+            let number =
+                unsafe { header::em73862_length(image.as_ptr(), image.len(), *address, &mut bytes, &mut cycles) };
+            (number, values_of([bytes, cycles].map(u32::from)))
+        }
+        Call::Row { image, address } => {
+            let [mut row, mut bytes, mut cycles] = [UNSET; 3];
+            let [mut first, mut second, mut goes] = [UNSET_16; 3];
+            // SAFETY: each pointer is that of a whole slice with its length beside it, or of a number; only the numbers change.
+            let number = unsafe {
+                header::em73862_row(
+                    image.as_ptr(),
+                    image.len(),
+                    *address,
+                    &mut row,
+                    &mut first,
+                    &mut second,
+                    &mut goes,
+                    &mut bytes,
+                    &mut cycles,
+                )
+            };
+            let values = [row as u32, first as u32, second as u32, goes as u32, bytes as u32, cycles as u32];
+            (number, values)
+        }
+        Call::Notation { image, address, .. } => {
+            let mut size = UNSET_32;
+            // SAFETY: each pointer is that of a whole slice with its length beside it, or of a number; only `buffer` and the numbers change.
+            let number =
+                unsafe { header::em73862_notation(image.as_ptr(), image.len(), *address, changing, length, &mut size) };
+            (number, values_of([size]))
         }
     }
 }

@@ -100,7 +100,7 @@ fn send_request(
 
 /// server.c's `struct answer`, then the buffer that the call may change.
 fn receive(answers: &mut impl Read, call: &Call) -> io::Result<Answer> {
-    let mut head = [0; 24];
+    let mut head = [0; 8 + 4 * MOST_VALUES];
     answers.read_exact(&mut head)?;
     let word = |at: usize| u32::from_le_bytes([head[4 * at], head[4 * at + 1], head[4 * at + 2], head[4 * at + 3]]);
     let mut values = [0; MOST_VALUES];
@@ -125,6 +125,9 @@ fn code_of(kind: Kind) -> u32 {
         Kind::Bound => 9,
         Kind::Look => 10,
         Kind::Act => 11,
+        Kind::Length => 12,
+        Kind::Row => 13,
+        Kind::Notation => 14,
     }
 }
 
@@ -134,7 +137,11 @@ fn numbers_of(call: &Call) -> [u32; 3] {
         | Call::Look { wake, sound, .. }
         | Call::Act { wake, sound, .. }
         | Call::Run { wake, sound, .. } => [*wake as u32, *sound as u32, 0],
-        Call::Read { address, .. } | Call::Bound { address, .. } => [*address, 0, 0],
+        Call::Read { address, .. }
+        | Call::Bound { address, .. }
+        | Call::Length { address, .. }
+        | Call::Row { address, .. }
+        | Call::Notation { address, .. } => [*address, 0, 0],
         Call::Write { row, a, b } => [*row as u32, *a as u32, *b as u32],
         Call::Fresh { .. } | Call::Reset { .. } | Call::IsValid { .. } | Call::Display { .. } => [0; 3],
     }

@@ -1,9 +1,9 @@
--- `calls::em73862_bound` meets its contract.
+-- `pane::em73862_bound` meets its contract.
 use native.Mathlib.Omega.{arith}
 use Rattle.bound.proofs.Sizes.{answer-small}
 use borrow.Author.Needs.{needs}
-use Rattle.calls.proofs.em73862_bound.Statement.{statement}
-use Rattle.calls.proofs.em73862_bound.Tie as tie
+use Rattle.pane.proofs.em73862_bound.Statement.{statement}
+use Rattle.pane.proofs.em73862_bound.Tie as tie
 
 bound-requires : tie.Need-bound-requires
 bound-requires c κs = search needs

@@ -1,0 +1,5 @@
+pub mod Answers
+pub mod Ordered
+pub mod Goes
+pub mod Texts
+pub mod OneAnswer
