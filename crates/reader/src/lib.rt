@@ -71,10 +71,10 @@ pub fn read_at(image: &[u8], at: u16) -> Read
     ensures { λ r. ⌜ r ≡ readAt (romOf (now (image .entry))) at ⌝ }
 {
     let i = at as usize;
-    if i < 8190 {
+    if i < IMAGE_BYTES - 2 {
         return decode(image[i], image[i + 1], image[i + 2]);
     }
-    if i == 8190 {
+    if i == IMAGE_BYTES - 2 {
         return last_two(image[i], image[i + 1]);
     }
     last_one(image[i])

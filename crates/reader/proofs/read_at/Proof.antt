@@ -8,6 +8,9 @@ use borrow.Author.Needs.{needs}
 use Rattle.reader.proofs.read_at.Statement.{statement}
 use Rattle.reader.proofs.read_at.Tie as tie
 
+sub-if1 : tie.Need-sub-if1
+sub-if1 c = search needs
+
 shared-slice-read-decode : tie.Need-shared-slice-read-decode
 shared-slice-read-decode c = search needs
 
@@ -28,6 +31,9 @@ decode-requires c κs = search needs
 
 returns : tie.Need-returns
 returns c = c .decode .ensures ∙ three-left (romOf (now (c .before .before .before .before .before .before .args .image))) (c .before .before .before .before .before .before .args .at) (c .before .before .before .before .before .shared-slice-known .given (c .before .before .before .before .before .before .args .at) .fits) (c .before .before .before .before .if1 .taken)
+
+sub-if2 : tie.Need-sub-if2
+sub-if2 c = search needs
 
 shared-slice-read-last-two : tie.Need-shared-slice-read-last-two
 shared-slice-read-last-two c = search needs
@@ -57,6 +63,7 @@ pub read-at-spec : {M : Type 1} → statement M
 read-at-spec =
     tie.close
     (tie.spec
+    sub-if1
     shared-slice-read-decode
     add-decode
     shared-slice-read-decode-2
@@ -64,6 +71,7 @@ read-at-spec =
     shared-slice-read-decode-3
     decode-requires
     returns
+    sub-if2
     shared-slice-read-last-two
     add-last-two
     shared-slice-read-last-two-2
