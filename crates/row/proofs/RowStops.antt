@@ -45,8 +45,6 @@ no-port = inr (omega arith)
 reserved : NoneOrNamed 34
 reserved = inr (omega arith)
 
--- what holds of both holds of the one that a test picks
-
 -- of two stops the first
 first-stop : (s t : ℕ) → NoneOrNamed s → NoneOrNamed t → NoneOrNamed (firstOf s t)
 first-stop s t (inl e) k = rw (eq-eqb s 0 e) k

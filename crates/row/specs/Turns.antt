@@ -10,7 +10,7 @@ use Rattle.row.specs.declared.Turn.{Turn}
 abbrev pub doneAs : Turn → List ℕ → Done
 doneAs x l = record { stop = x .stop; cycles = x .cycles; machine = assembled (x .core) l }
 
--- "A stop gives the record from before that step .. and zero cycles for it."
+-- "A stop now leaves the record as the first call left it" (Q-4), here as the row found it, with "zero cycles for it"
 abbrev pub stoppedTurn : Core → ℕ → Turn
 stoppedTurn m number = record { stop = number; cycles = 0; core = m }
 
