@@ -88,6 +88,19 @@ fn timing_7(first: u8) -> Cost
     }
 }
 
+// The other high digits. Apart from those, so that the reader is small enough for the compiler to put it into each call.
+fn timing_other(first: u8) -> Cost
+    requires { ⌜ (first / 16 ≡ 4 → ⊥) × (first / 16 ≡ 5 → ⊥) × (first / 16 ≡ 6 → ⊥) × (first / 16 ≡ 7 → ⊥) ⌝ }
+    ensures { λ r. ⌜ TimedFrom first (r .bytes) (r .cycles) ⌝ }
+    ensures { λ r. ⌜ NoneFrom first (r .bytes) ⌝ }
+{
+    match first / 16 {
+        12 => costs(2, 2),
+        14 => costs(1, 2),
+        _ => costs(1, 1),
+    }
+}
+
 // The length and the cycles of whatever row begins with the byte, by the bit patterns of the rows; 0 where none does.
 pub fn timing(first: u8) -> Cost
     ensures { λ r. ⌜ TimedFrom first (r .bytes) (r .cycles) ⌝ }
@@ -98,8 +111,6 @@ pub fn timing(first: u8) -> Cost
         5 => timing_5(first),
         6 => timing_6(first),
         7 => timing_7(first),
-        12 => costs(2, 2),
-        14 => costs(1, 2),
-        _ => costs(1, 1),
+        _ => timing_other(first),
     }
 }
