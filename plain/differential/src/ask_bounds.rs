@@ -3,7 +3,7 @@
 use crate::asker::{Asker, Difference};
 use crate::calls::{Call, Image, Kind};
 use crate::chance::Chance;
-use crate::images::{of_wrong_size, whole, Codes};
+use crate::images::{ending, of_wrong_size, whole, Codes};
 use plain::{bound, worst_of, Bound, Row, IMAGE_SIZE, MOST_PATH_BYTES, SHEET, WORST};
 
 const RTI: u8 = 0x4D;
@@ -42,6 +42,11 @@ fn bounds_of_any_image(asker: &mut Asker, chance: &mut Chance, codes: &Codes) ->
         let address = chance_address(chance);
         ask_with_a_buffer(asker, chance, &image, address)?;
     }
+    // From the last code itself, and from places before it.
+    let (image, start) = ending(chance, codes, &image);
+    for back in [0, 1, chance.below(24)] {
+        ask_with_a_buffer(asker, chance, &image, start as u32 - back as u32)?;
+    }
     Ok(())
 }
 
@@ -65,7 +70,7 @@ fn refused_bounds(asker: &mut Asker, chance: &mut Chance) -> Result<(), Differen
 /// A handler of some rows with branches, from a place of the image on, and some starts within it.
 fn bounds_of_a_handler(asker: &mut Asker, chance: &mut Chance, codes: &Codes) -> Result<(), Difference> {
     // Across the end of the image often enough.
-    let start = if chance.one_in(8) { IMAGE_SIZE - 1 - chance.below(24) } else { chance.below(IMAGE_SIZE) };
+    let start = if chance.one_in(4) { IMAGE_SIZE - 1 - chance.below(24) } else { chance.below(IMAGE_SIZE) };
     let image = handler(chance, codes, start);
     for turn in 0..8 {
         let offset = if turn == 0 { 0 } else { chance.below(8) };

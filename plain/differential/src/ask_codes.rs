@@ -3,7 +3,7 @@
 use crate::asker::{Asker, Difference};
 use crate::calls::{Call, Image, Kind};
 use crate::chance::Chance;
-use crate::images::{any_insn, of_wrong_size, whole, Codes};
+use crate::images::{any_insn, ending, of_wrong_size, whole, Codes};
 use crate::plainly::slots_of;
 use plain::{IMAGE_SIZE, SHEET};
 
@@ -21,8 +21,13 @@ pub fn reads(asker: &mut Asker, chance: &mut Chance, codes: &Codes, wanted: u64)
     while asker.coverage.asked(Kind::Read) < wanted {
         let image = if chance.one_in(20) { of_wrong_size(chance) } else { whole(chance, codes) };
         for _ in 0..64 {
-            let address = any_address(chance);
-            asker.ask(Call::Read { image: image.clone(), address })?;
+            let (image, address) = if image.len() == IMAGE_SIZE && chance.one_in(6) {
+                let (image, start) = ending(chance, codes, &image);
+                (image, start as u32)
+            } else {
+                (image.clone(), any_address(chance))
+            };
+            asker.ask(Call::Read { image, address })?;
         }
     }
     asker.compare_queued()

@@ -4,7 +4,7 @@ use crate::asker::{Asker, Difference};
 use crate::calls::{Call, Image, Kind};
 use crate::chance::Chance;
 use crate::frames::{bad, bad_of_any_length, Pins};
-use crate::images::{calm, of_wrong_size, whole, Codes};
+use crate::images::{calm, ending, of_wrong_size, whole, Codes};
 use crate::layout::{self, machine_of, record_of};
 use crate::records::{self, fresh_or_valid, spoilt, valid};
 use plain::{Frame, FRAME_LENGTH, MOST_FRAMES};
@@ -14,19 +14,20 @@ pub fn steps(asker: &mut Asker, chance: &mut Chance, codes: &Codes, wanted: u64)
     while asker.coverage.asked(Kind::Step) < wanted {
         let image = whole(chance, codes);
         for _ in 0..64 {
-            walk(asker, chance, &image, 1)?;
+            walk(asker, chance, codes, &image, 1)?;
         }
         for _ in 0..chance.pick(&[1, 2, 4]) {
             let length = chance.pick(&[5, 20, 60, 300]);
-            walk(asker, chance, &image, length)?;
+            walk(asker, chance, codes, &image, length)?;
         }
     }
     asker.compare_queued()
 }
 
-fn walk(asker: &mut Asker, chance: &mut Chance, image: &Image, length: usize) -> Result<(), Difference> {
+fn walk(asker: &mut Asker, chance: &mut Chance, codes: &Codes, image: &Image, length: usize) -> Result<(), Difference> {
     let (wake, sound) = options(chance);
     let mut record = record_of(&if length == 1 { valid(chance) } else { fresh_or_valid(chance) });
+    let image = &perhaps_ending(chance, codes, image, &mut record);
     let mut pins = pins_after(chance, &record);
     for _ in 0..length {
         if chance.one_in(25) {
@@ -51,6 +52,16 @@ fn walk(asker: &mut Asker, chance: &mut Chance, image: &Image, length: usize) ->
     Ok(())
 }
 
+/// One in twelve begins at a code at the end of the image, which most often passes it.
+fn perhaps_ending(chance: &mut Chance, codes: &Codes, image: &Image, record: &mut [u8]) -> Image {
+    if !chance.one_in(12) {
+        return image.clone();
+    }
+    let (image, start) = ending(chance, codes, image);
+    record[layout::PC..layout::PC + 2].copy_from_slice(&start.to_le_bytes());
+    image
+}
+
 /// A step with one wrong input, now and then with more: the table's order decides.
 fn refused_step(asker: &mut Asker, chance: &mut Chance, image: &Image, record: &[u8]) -> Result<(), Difference> {
     let wrong = chance.pick(&[1, 2, 2, 2, 4, 4, 4, 3, 5, 6, 7]);
@@ -70,16 +81,17 @@ pub fn apart(asker: &mut Asker, chance: &mut Chance, codes: &Codes, wanted: u64)
     while asker.coverage.asked(Kind::Act) < wanted {
         let image = whole(chance, codes);
         for _ in 0..64 {
-            look_then_act(asker, chance, &image)?;
+            look_then_act(asker, chance, codes, &image)?;
             refused_apart(asker, chance, &image)?;
         }
     }
     asker.compare_queued()
 }
 
-fn look_then_act(asker: &mut Asker, chance: &mut Chance, image: &Image) -> Result<(), Difference> {
+fn look_then_act(asker: &mut Asker, chance: &mut Chance, codes: &Codes, image: &Image) -> Result<(), Difference> {
     let (wake, sound) = options(chance);
-    let record = record_of(&fresh_or_valid(chance));
+    let mut record = record_of(&fresh_or_valid(chance));
+    let image = &perhaps_ending(chance, codes, image, &mut record);
     // A second call with no first: a sleeper or a marked record is passed by.
     asker.ask(Call::Act { image: image.clone(), wake, sound, record: record.clone() })?;
     let frame = pins_after(chance, &record).next(chance).to_vec();
@@ -128,7 +140,7 @@ pub fn runs(asker: &mut Asker, chance: &mut Chance, codes: &Codes, wanted: u64) 
     while asker.coverage.asked(Kind::Run) < wanted {
         let image = whole(chance, codes);
         for _ in 0..16 {
-            short_run(asker, chance, &image)?;
+            short_run(asker, chance, codes, &image)?;
         }
         if chance.one_in(LONG_ONE_IN / 16) {
             long_run(asker, chance, codes)?;
@@ -140,9 +152,13 @@ pub fn runs(asker: &mut Asker, chance: &mut Chance, codes: &Codes, wanted: u64) 
     asker.compare_queued()
 }
 
-fn short_run(asker: &mut Asker, chance: &mut Chance, image: &Image) -> Result<(), Difference> {
+fn short_run(asker: &mut Asker, chance: &mut Chance, codes: &Codes, image: &Image) -> Result<(), Difference> {
     let count = chance.pick(&[0, 1, 2, 5, 20, 60, 60, 150]);
-    let record = if chance.one_in(20) { spoilt(chance) } else { record_of(&fresh_or_valid(chance)) };
+    let mut record = record_of(&fresh_or_valid(chance));
+    let image = perhaps_ending(chance, codes, image, &mut record);
+    if chance.one_in(20) {
+        record = spoilt(chance);
+    }
     let mut frames = frames_after(chance, &record, count);
     if chance.one_in(20) && count > 0 {
         // Anywhere: also behind a stop, which a run does not reach.
@@ -152,7 +168,7 @@ fn short_run(asker: &mut Asker, chance: &mut Chance, image: &Image) -> Result<()
     if chance.one_in(20) {
         frames.extend_from_slice(&b"FF"[..chance.pick(&[1, 2])]);
     }
-    let image = if chance.one_in(100) { of_wrong_size(chance) } else { image.clone() };
+    let image = if chance.one_in(100) { of_wrong_size(chance) } else { image };
     let (wake, sound) = options(chance);
     asker.ask(Call::Run { image, wake, sound, record, frames })?;
     Ok(())

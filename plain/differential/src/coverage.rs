@@ -2,7 +2,7 @@
 
 use crate::calls::{Answer, Call, Kind};
 use crate::layout::machine_of;
-use plain::{read, Machine, Mode, Row, MOST_FRAMES, SHEET};
+use plain::{numbers, read, Machine, Mode, Row, MOST_FRAMES, SHEET};
 
 const NUMBERS: usize = 36;
 
@@ -13,7 +13,7 @@ const AT_LEAST: [(Kind, &[(u8, u64)]); 14] = [
     (Kind::Act, &ACT_AT_LEAST),
     (Kind::Run, &RUN_AT_LEAST),
     (Kind::Display, &[(0, 30_000), (2, 10_000), (5, 10_000)]),
-    (Kind::Read, &[(0, 60_000), (1, 500), (20, 5_000), (30, 1_500), (35, 500)]),
+    (Kind::Read, &[(0, 60_000), (1, 500), (20, 5_000), (30, 1_500), (35, 3_000)]),
     (Kind::Write, &[(0, 10_000), (11, 50_000)]),
     (Kind::Bound, &[(0, 20_000), (1, 500), (20, 500), (21, 10_000), (22, 10_000), (23, 10_000)]),
     (Kind::Length, &[(0, 50_000), (1, 500), (20, 5_000), (30, 1_000), (35, 1_500)]),
@@ -33,10 +33,10 @@ const STEP_AT_LEAST: [(u8, u64); 10] = [
     (32, 5_000),
     (33, 5_000),
     (34, 500),
-    (35, 1_000),
+    (35, 10_000),
 ];
 const ACT_AT_LEAST: [(u8, u64); 9] =
-    [(0, 40_000), (1, 1_000), (2, 1_000), (30, 300), (31, 500), (32, 500), (33, 500), (34, 50), (35, 150)];
+    [(0, 40_000), (1, 1_000), (2, 1_000), (30, 300), (31, 500), (32, 500), (33, 500), (34, 50), (35, 2_000)];
 const RUN_AT_LEAST: [(u8, u64); 11] = [
     (0, 20_000),
     (1, 300),
@@ -48,7 +48,7 @@ const RUN_AT_LEAST: [(u8, u64); 11] = [
     (32, 1_000),
     (33, 1_000),
     (34, 300),
-    (35, 300),
+    (35, 2_500),
 ];
 
 /// Each row is executed so often at least by single steps that do not stop.
@@ -120,11 +120,15 @@ const EACH_EVENT: u64 = 300;
 /// So many runs at least take all the frames that a run can have.
 const LONGEST_RUNS: u64 = 10;
 
+/// So many bounds at least meet a code that passes the end, as the lowest excluded place.
+const BOUNDS_PAST_END: u64 = 2_500;
+
 pub struct Coverage {
     answers: [[u64; NUMBERS]; 14],
     rows: [u64; 108],
     events: [u64; EVENTS.len()],
     longest_runs: u64,
+    bounds_past_end: u64,
     /// The record after a step that entered sleep or hold, to see whether the next step wakes it.
     just_entered: Vec<u8>,
 }
@@ -136,6 +140,7 @@ impl Default for Coverage {
             rows: [0; 108],
             events: [0; EVENTS.len()],
             longest_runs: 0,
+            bounds_past_end: 0,
             just_entered: Vec::new(),
         }
     }
@@ -146,6 +151,11 @@ impl Coverage {
         self.answers[call.kind() as usize][answer.number as usize] += 1;
         if call.kind() == Kind::Run && answer.values[0] as usize == MOST_FRAMES {
             self.longest_runs += 1;
+        }
+        if let Call::Bound { image, .. } = call {
+            let excluded = answer.number == numbers::EXCLUDED;
+            let past_end = excluded && read(image, answer.values[0] as usize) == Err(numbers::PAST_END);
+            self.bounds_past_end += past_end as u64;
         }
         if let Call::Step { image, wake, record, .. } = call {
             if answer.number == 0 {
@@ -238,6 +248,7 @@ impl Coverage {
             EVENTS.iter().map(|(event, name)| format!("{name} {}", self.events[*event as usize])).collect();
         lines.push(format!("a step {}", words.join(", ")));
         lines.push(format!("a run made {MOST_FRAMES} steps {} times", self.longest_runs));
+        lines.push(format!("a bound met a code that passes the end {} times", self.bounds_past_end));
         lines
     }
 
@@ -266,6 +277,10 @@ impl Coverage {
         }
         if self.longest_runs < LONGEST_RUNS {
             found.push(format!("a run made {MOST_FRAMES} steps only {} times, not {LONGEST_RUNS}", self.longest_runs));
+        }
+        if self.bounds_past_end < BOUNDS_PAST_END {
+            let count = self.bounds_past_end;
+            found.push(format!("a bound met a code that passes the end only {count} times, not {BOUNDS_PAST_END}"));
         }
         found
     }

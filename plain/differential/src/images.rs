@@ -219,16 +219,28 @@ fn rows(chance: &mut Chance, codes: &Codes, put: impl Fn(&mut Chance, &Codes, &m
     }
     image.truncate(IMAGE_SIZE);
     if chance.one_in(2) {
-        const LONG: [Row; 9] =
-            [Row::Slbr, Row::Slbr, Row::Lbr, Row::Lcall, Row::Sta, Row::Std, Row::Out, Row::Adda, Row::Tt];
-        let row = chance.pick(&LONG);
-        let code = codes.calm_of(chance, row);
-        let start = IMAGE_SIZE - 1 - chance.below(code.len());
-        for (place, byte) in (start..IMAGE_SIZE).zip(code) {
-            image[place] = *byte;
-        }
+        put_at_end(chance, codes, &mut image);
     }
     image.into()
+}
+
+/// Puts a code of some bytes at the end of an image, most often cut, and says where it begins.
+fn put_at_end(chance: &mut Chance, codes: &Codes, image: &mut [u8]) -> usize {
+    const LONG: [Row; 9] =
+        [Row::Slbr, Row::Slbr, Row::Lbr, Row::Lcall, Row::Sta, Row::Std, Row::Out, Row::Adda, Row::Tt];
+    let row = chance.pick(&LONG);
+    let code = codes.calm_of(chance, row);
+    let left = if chance.one_in(4) { code.len() } else { 1 + chance.below(code.len() - 1) };
+    let start = IMAGE_SIZE - left;
+    image[start..].copy_from_slice(&code[..left]);
+    start
+}
+
+/// The image with such a code at its end, and where that begins.
+pub fn ending(chance: &mut Chance, codes: &Codes, image: &Image) -> (Image, u16) {
+    let mut bytes = image.to_vec();
+    let start = put_at_end(chance, codes, &mut bytes);
+    (bytes.into(), start as u16)
 }
 
 /// "Image is not 8,192 bytes."
