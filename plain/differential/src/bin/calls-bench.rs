@@ -47,7 +47,7 @@ mod linked {
         bounds();
         codes();
         println!();
-        println!("A ratio over 1: the proved call is faster. em73862_run and em73862_step take the 409 bytes of the");
+        println!("A ratio over 1: the proved call is faster. em73862_run and em73862_step take the 410 bytes of the");
         println!("record apart and put them together in each call, which counts for a single step and not for a run");
         println!(
             "of 65,536. Plain's step and run copy their Machine instead, but for the line with the record's bytes."
