@@ -3,6 +3,7 @@
 mod bound;
 mod code;
 mod display;
+mod due;
 mod execute;
 mod frame;
 mod hex;
@@ -21,6 +22,7 @@ pub mod numbers;
 pub use bound::{bound, Bound, MOST_PATH_BYTES};
 pub use code::{read, write, Insn, IMAGE_SIZE};
 pub use display::{display, DISPLAY_SIZE};
+pub use due::due_number;
 pub use execute::{add, short_call_target, subtract};
 pub use frame::{Frame, FRAME_LENGTH};
 pub use hex::{hex_record, read_hex, write_hex, HexRefusal, TEXT_SIZE};

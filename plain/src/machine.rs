@@ -1,5 +1,6 @@
 //! The record of document 01, "The record".
 
+use crate::due::due_number;
 use crate::frame::Frame;
 use crate::numbers;
 
@@ -59,6 +60,8 @@ pub struct Machine {
     pub mode: Mode,
     /// Left by a look in sleep or hold, which was the whole step.
     pub mark: bool,
+    /// The source that would be accepted were EI set: 0 none, 1 to 5 INT0, TRGA, TRGB, TBI, INT1.
+    pub due: u8,
 }
 
 /// "Options: eight wake-enable bits (P0.0 to P0.3, P8.0 to P8.3) and SOUND enable."
@@ -93,6 +96,7 @@ pub fn fresh() -> Machine {
         last_frame: Frame::IDLE,
         mode: Mode::Running,
         mark: false,
+        due: 0,
     }
 }
 
@@ -121,6 +125,7 @@ pub fn is_valid(machine: &Machine) -> bool {
         && m.pc < 8192
         && [m.dp, m.ta, m.tb].iter().all(|value| *value < 4096)
         && m.il & !0b10_1111 == 0
+        && m.due == due_number(m.il, m.mask)
         && m.time_base < TIME_BASE_SIZE
         && m.time_base % 8 == 0
         && m.ram.iter().all(|nibble| *nibble < 16)
@@ -202,7 +207,7 @@ mod tests {
     #[test]
     fn ranges() {
         assert!(is_valid(&fresh()));
-        let spoil: [fn(&mut Machine); 12] = [
+        let spoil: [fn(&mut Machine); 13] = [
             |m| m.acc = 16,
             |m| m.pc = 8192,
             |m| m.dp = 4096,
@@ -215,6 +220,7 @@ mod tests {
             |m| m.ports.p25 = 8,
             |m| m.ports.p27 = 11,
             |m| m.mode = Mode::Sleep,
+            |m| m.due = 1,
         ];
         for change in spoil {
             let mut machine = fresh();

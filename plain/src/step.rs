@@ -1,20 +1,12 @@
 //! One step, as document 01's "One step" numbers its phases.
 
 use crate::code::{fetch, whole_image, Image};
+use crate::due::{due_number, due_source, IL0, IL1, IL2, IL3, IL5};
 use crate::execute::execute;
 use crate::frame::{Frame, FRAME_LENGTH};
 use crate::machine::{is_valid, Machine, Mode, Options, TIME_BASE_SIZE};
 use crate::numbers;
 use crate::surroundings::Surroundings;
-
-const IL5: u8 = 1 << 5;
-const IL3: u8 = 1 << 3;
-const IL2: u8 = 1 << 2;
-const IL1: u8 = 1 << 1;
-const IL0: u8 = 1 << 0;
-
-/// The interrupt sources, first to last: latch and entry.
-const SOURCES: [(u8, u16); 5] = [(IL5, 0x002), (IL3, 0x006), (IL2, 0x008), (IL1, 0x00A), (IL0, 0x00C)];
 
 const ACCEPTANCE_CYCLES: u32 = 2;
 
@@ -130,6 +122,7 @@ fn take_frame(m: &mut Machine, options: Options, frame: Frame) -> u32 {
         Mode::Sleep | Mode::Hold => look_for_wake(m, options, frame),
     };
     m.last_frame = frame;
+    m.due = due_number(m.il, m.mask);
     cycles
 }
 
@@ -146,6 +139,7 @@ fn take_turn(m: &mut Machine, image: &Image, options: Options) -> Result<u32, u8
     if m.mode == Mode::Running {
         pass_time(m, around.frame, cycles);
     }
+    m.due = due_number(m.il, m.mask);
     Ok(cycles)
 }
 
@@ -168,40 +162,15 @@ fn look_for_edges(m: &mut Machine, frame: Frame) {
     }
 }
 
-/// Phase 2: accepts an interrupt, or else executes one instruction. Gives the cycles.
+/// Phase 2: "If EI is set" and a source is due, accepts it, or else executes one instruction. Gives the cycles.
 fn accept_or_execute(m: &mut Machine, around: &Surroundings) -> Result<u32, u8> {
-    if let Some((latch, entry)) = due_source(m) {
+    if let Some((latch, entry)) = due_source(m.il, m.mask).filter(|_| m.ei) {
         m.accept(latch, entry)?;
         return Ok(ACCEPTANCE_CYCLES);
     }
     let decoded = fetch(around.image, m.pc)?;
     execute(m, around, decoded)?;
     Ok(decoded.row.cycles())
-}
-
-/// "If EI is set and a latch is set and allowed by its mask, accept the first of INT0, TRGA,
-/// TRGB, TBI, INT1."
-fn due_source(m: &Machine) -> Option<(u8, u16)> {
-    if !m.ei {
-        return None;
-    }
-    let due = m.il & allowed_latches(m.mask);
-    SOURCES.into_iter().find(|(latch, _)| due & latch != 0)
-}
-
-/// MASK2 allows TRGA, MASK1 TRGB and TBI, MASK0 INT1; "INT0 needs EI only".
-fn allowed_latches(mask: u8) -> u8 {
-    let mut allowed = IL5;
-    if mask & 0b0100 != 0 {
-        allowed |= IL3;
-    }
-    if mask & 0b0010 != 0 {
-        allowed |= IL2 | IL1;
-    }
-    if mask & 0b0001 != 0 {
-        allowed |= IL0;
-    }
-    allowed
 }
 
 /// Phase 3: "For each cycle the time base gains 8, modulo 2^22."

@@ -187,6 +187,7 @@ impl Numbers {
         m.tb = 4095 - self.below(3) as u16;
         (m.cf, m.zf, m.sf, m.ei) = (self.bit(), self.bit(), self.bit(), self.below(4) == 0);
         m.il = self.below(64) as u8 & 0b10_1111;
+        m.due = due_number(m.il, m.mask);
         m.time_base = (self.below(1 << 19) as u32) * 8;
         m.ram.iter_mut().for_each(|nibble| *nibble = self.nibble());
         m.ports.p9 = if self.bit() { 8 } else { 0 };

@@ -1,6 +1,8 @@
 -- Document 01, "One step": which interrupt is due, of the latches IL5 to IL0 and the mask. A source is named by its latch's number.
 use Prim.Native.Nat.{ℕ}
 use mathlib.Core.Bool.{Bool}
+use mathlib.Core.List.{[], _∷_}
+use lib.ListN.{getD}
 use Rattle.laws.specs.Choice.{pick, both}
 use Rattle.bits.specs.Bits.{hasBit}
 
@@ -25,3 +27,14 @@ unfoldable pub dueSource : ℕ → ℕ → ℕ
 dueSource il mask =
     pick (int0Due il) 5
     (pick (trgaDue il mask) 3 (pick (trgbDue il mask) 2 (pick (tbiDue il mask) 1 (pick (int1Due il mask) 0 6))))
+
+-- 0 none, 1 to 5 INT0, TRGA, TRGB, TBI, INT1: by the latch, and the latch by it
+abbrev pub numberOf : ℕ → ℕ
+numberOf latch = getD (5 ∷ 4 ∷ 3 ∷ 2 ∷ 0 ∷ 1 ∷ 0 ∷ []) latch 0
+
+abbrev pub latchOf : ℕ → ℕ
+latchOf due = getD (6 ∷ 5 ∷ 3 ∷ 2 ∷ 1 ∷ 0 ∷ []) due 0
+
+-- "the source that would be accepted were EI set, or none" (Q-11)
+unfoldable pub dueNumber : ℕ → ℕ → ℕ
+dueNumber il mask = numberOf (dueSource il mask)

@@ -1,3 +1,4 @@
+pub mod Interrupting
 pub mod WithValid
 pub mod Range
 pub mod Places

@@ -13,6 +13,7 @@ use Rattle.machine.specs.declared.Registers.{Registers}
 use Rattle.machine.specs.declared.Interrupts.{Interrupts}
 use Rattle.machine.specs.declared.Core.{Core}
 use Rattle.machine.specs.declared.Machine.{Machine}
+use Rattle.machine.proofs.Interrupting.{made-valid}
 use Rattle.machine.proofs.WithValid.{with-regs, with-pc, with-ptrs, with-ints}
 use Rattle.machine.proofs.Levels.{stored-nibbles, pc-at-lt, top-lt, kept-lt}
 
@@ -62,11 +63,7 @@ accepted-valid m latch v c h =
     record {
       core =
           moved-valid (n .core) (record { acc = r .acc; hr = r .hr; lr = r .lr }) (entry-lt latch h) (n .core .ptrs .sp)
-          (record {
-            il = omega (arith, without-le (m .core .ints .il) (2 ^ latch), i .il);
-            il4 = still-clear (m .core .ints .il) latch (i .il) (i .il4) h;
-            mask = i .mask;
-          });
+          (made-valid (omega (arith, without-le (m .core .ints .il) (2 ^ latch), i .il)) (still-clear (m .core .ints .il) latch (i .il) (i .il4) h) (i .mask));
       ram = n .ram;
     }
 
@@ -79,6 +76,6 @@ flags-returned-valid m v c =
     record {
       core =
           moved-valid (n .core) (record { acc = r .acc; hr = r .hr; lr = r .lr }) (n .core .pc) (n .core .ptrs .sp)
-          (record { il = i .il; il4 = i .il4; mask = i .mask });
+          (made-valid (i .il) (i .il4) (i .mask));
       ram = n .ram;
     }

@@ -5,6 +5,7 @@ use mathlib.Core.List.{List}
 use lib.ListN.{length, getD}
 use Rattle.numbers.specs.Sizes.{addresses, ramNibbles}
 use Rattle.frame.specs.Frame.{PinsInRange}
+use Rattle.due.specs.Due.{dueNumber}
 use Rattle.machine.specs.declared.Registers.{Registers}
 use Rattle.machine.specs.declared.Pointers.{Pointers}
 use Rattle.machine.specs.declared.Interrupts.{Interrupts}
@@ -24,11 +25,12 @@ pub record ValidPointers (p : Pointers) : Type 0 where
   pub sp : p .sp < 16
   pub dp : p .dp < 4096
 
--- "Latches IL5 to IL0, IL4 always clear."
+-- "Latches IL5 to IL0, IL4 always clear." "2 also when the stored value disagrees with latches and mask" (Q-11)
 pub record ValidInterrupts (i : Interrupts) : Type 0 where
   pub il : i .il < 64
   pub il4 : i .il / 16 % 2 ≡ 0
   pub mask : i .mask < 16
+  pub due : i .due ≡ dueNumber (i .il) (i .mask)
 
 -- "Time base: 22 bits, a multiple of 8."
 pub record ValidTimers (t : Timers) : Type 0 where

@@ -5,6 +5,7 @@ use mathlib.Core.List.{List}
 use Rattle.frame.specs.declared.Pins.{Pins}
 use Rattle.ports.specs.declared.Ports.{Ports}
 use Rattle.ports.specs.declared.Mode.{Mode}
+use Rattle.due.specs.Due.{dueNumber}
 use Rattle.machine.specs.declared.Registers.{Registers}
 use Rattle.machine.specs.declared.Pointers.{Pointers}
 use Rattle.machine.specs.declared.Interrupts.{Interrupts}
@@ -43,6 +44,6 @@ coreWithMode m o = record { regs = m .regs; pc = m .pc; ptrs = m .ptrs; ints = m
 abbrev pub coreWithMark : Core → Bool → Core
 coreWithMark m b = record { regs = m .regs; pc = m .pc; ptrs = m .ptrs; ints = m .ints; timers = m .timers; ports = m .ports; pins = m .pins; mode = m .mode; mark = b }
 
--- EI, the latches and the mask: every place that changes one of them makes all three by this
+-- EI, the latches, the mask, and the source that is due by them: "Frames, instructions, acceptance, timers, waking and reset all keep it true" (Q-11), since every place that changes one of them makes all four by this
 abbrev pub interruptsOf : Bool → ℕ → ℕ → Interrupts
-interruptsOf ei il mask = record { ei = ei; il = il; mask = mask }
+interruptsOf ei il mask = record { ei = ei; il = il; mask = mask; due = dueNumber il mask }

@@ -3,11 +3,13 @@ mod pack;
 pub mod ram;
 pub mod stack;
 
+use due::due_number;
 use frame::Pins;
 use numbers::RAM_NIBBLES;
 use ports::Mode;
 use ports::Ports;
 ghost use mathlib.Core.Path.{_≡_};
+ghost use Rattle.machine.specs.Valid.{ValidInterrupts};
 ghost use Rattle.machine.specs.With.{interruptsOf};
 
 pub struct Registers {
@@ -24,11 +26,12 @@ pub struct Pointers {
     pub dp: u16,
 }
 
-// il has the latches IL5 to IL0 as bits 5 to 0.
+// il has the latches IL5 to IL0 as bits 5 to 0. due is the source that would be accepted were EI set: 0 none, 1 to 5 INT0, TRGA, TRGB, TBI, INT1.
 pub struct Interrupts {
     pub ei: bool,
     pub il: u8,
     pub mask: u8,
+    pub due: u8,
 }
 
 pub struct Timers {
@@ -58,7 +61,7 @@ pub struct Machine {
     pub ram: Ram,
 }
 
-// EI, the latches and the mask: every place that changes one of them makes all three by this.
+// EI, the latches, the mask, and the source that is due by them: every place that changes one of them makes all four by this.
 pub fn interrupts_of(ei: bool, il: u8, mask: u8) -> Interrupts
     ensures { λ r. ⌜ r ≡ interruptsOf ei il mask ⌝ }
 {
@@ -66,5 +69,17 @@ pub fn interrupts_of(ei: bool, il: u8, mask: u8) -> Interrupts
         ei: ei,
         il: il,
         mask: mask,
+        due: due_number(il, mask),
     }
+}
+
+// The same with other latches. Most steps set none: what is due stays then.
+pub fn with_latches(i: Interrupts, il: u8) -> Interrupts
+    requires { ⌜ ValidInterrupts i ⌝ }
+    ensures { λ r. ⌜ r ≡ interruptsOf (i .ei) il (i .mask) ⌝ }
+{
+    if il == i.il {
+        return i;
+    }
+    interrupts_of(i.ei, il, i.mask)
 }

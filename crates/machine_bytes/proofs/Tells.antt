@@ -9,7 +9,6 @@ use lib.ListN.{getD, take, drop}
 use Rattle.laws.specs.Choice.{pick}
 use Rattle.bits.specs.Bits.{bitOf}
 use Rattle.ports.specs.declared.Mode.{Mode}
-use Rattle.machine.specs.With.{interruptsOf}
 use Rattle.machine.specs.declared.Machine.{Machine}
 use Rattle.machine_bytes.specs.Layout.{two, four, modeNumber, latchBytes, nibblesOf, othersOf, recordBytes, Holds}
 use Rattle.machine_bytes.specs.Unpacked.{FlagsFit}
@@ -30,7 +29,7 @@ machineFrom l = record {
     regs = record { acc = getD l 0 0; hr = getD l 1 0; lr = getD l 2 0; cf = flagAt l 24; zf = flagAt l 25; sf = flagAt l 26 };
     pc = twoAt l 16;
     ptrs = record { sp = getD l 3 0; dp = twoAt l 18 };
-    ints = interruptsOf (flagAt l 27) (getD l 28 0) (getD l 4 0);
+    ints = record { ei = flagAt l 27; il = getD l 28 0; mask = getD l 4 0; due = getD l 38 0 };
     timers = record { base = twoAt l 29 + 65536 * twoAt l 31; ta = twoAt l 20; tb = twoAt l 22 };
     ports =
         record {
@@ -50,7 +49,7 @@ machineFrom l = record {
     mode = modeFrom (getD l 36 0);
     mark = flagAt l 37;
   };
-  ram = drop 38 l;
+  ram = drop 39 l;
 }
 
 two-back : (n : ℕ) → n % 256 + 256 * (n / 256) ≡ n
@@ -91,7 +90,7 @@ mode-lt Mode.Sleep = omega arith
 mode-lt Mode.Hold = omega arith
 
 -- what a record's bytes meet, whatever the record
-pub flags-of : (m : Machine) → FlagsFit (take 38 (recordBytes m))
+pub flags-of : (m : Machine) → FlagsFit (take 39 (recordBytes m))
 unfolding nibblesOf othersOf latchBytes two four
 flags-of m =
     record { cf = bit-lt (m .core .regs .cf); zf = bit-lt (m .core .regs .zf); sf = bit-lt (m .core .regs .sf); ei = bit-lt (m .core .ints .ei); mode = mode-lt (m .core .mode); mark = bit-lt (m .core .mark) }

@@ -1,4 +1,4 @@
--- The record as 410 bytes: what stands where in a buffer that crosses a call on numbers and byte buffers. Document 01, "The record", names the parts.
+-- The record as 411 bytes: what stands where in a buffer that crosses a call on numbers and byte buffers. Document 01, "The record", names the parts.
 use Prim.Native.Nat.{ℕ, _/_, _%_}
 use mathlib.Core.List.{List, [], _∷_, _++_}
 use mathlib.Core.Path.{_≡_}
@@ -29,7 +29,7 @@ latchBytes p = p .p4 ∷ p .p8 ∷ p .p9 ∷ p .p16 ∷ p .p23 ∷ p .p24 ∷ p 
 unfoldable pub nibblesOf : Core → List ℕ
 nibblesOf m = m .regs .acc ∷ m .regs .hr ∷ m .regs .lr ∷ m .ptrs .sp ∷ m .ints .mask ∷ latchBytes (m .ports)
 
--- bytes 16 to 37: PC, DP, TA, TB; CF, ZF, SF, EI; the latches IL5 to IL0; the time base; the last frame; the mode; the mark
+-- bytes 16 to 38: PC, DP, TA, TB; CF, ZF, SF, EI; the latches IL5 to IL0; the time base; the last frame; the mode; the mark; the due source
 unfoldable pub othersOf : Core → List ℕ
 othersOf m =
     two (m .pc) ++
@@ -40,7 +40,7 @@ othersOf m =
     m .ints .il ∷
     four (m .timers .base) ++
     m .pins .p0 ∷ m .pins .p8 ∷ m .pins .p4 ∷
-    modeNumber (m .mode) ∷ bitOf (m .mark) ∷ []
+    modeNumber (m .mode) ∷ bitOf (m .mark) ∷ m .ints .due ∷ []
 
 -- all but RAM
 abbrev pub headOf : Core → List ℕ
@@ -52,10 +52,10 @@ recordBytes m = headOf (m .core) ++ m .ram
 
 -- how many bytes come before RAM, and all
 abbrev pub headSize : ℕ
-headSize = 38
+headSize = 39
 
 abbrev pub recordSize : ℕ
-recordSize = 410
+recordSize = 411
 
 -- the buffer holds the record: it is its bytes and no more
 pub record Holds (bytes : List ℕ) (m : Machine) : Type 0 where

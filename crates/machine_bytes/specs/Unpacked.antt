@@ -6,6 +6,7 @@ use mathlib.Core.Path.{_≡_}
 use lib.ListN.{getD}
 use Rattle.bits.specs.Bits.{bitOf}
 use Rattle.machine.specs.declared.Registers.{Registers}
+use Rattle.machine.specs.declared.Interrupts.{Interrupts}
 use Rattle.machine.specs.declared.Timers.{Timers}
 use Rattle.machine_bytes.specs.Layout.{two, four, Holds, HoldsNone}
 use Rattle.machine_bytes.specs.declared.Unpacked.{Unpacked}
@@ -19,7 +20,7 @@ pub record FlagsFit (head : List ℕ) : Type 0 where
   pub mode : getD head 36 0 < 3
   pub mark : getD head 37 0 < 2
 
--- the registers and the timers whose bytes stand in the head
+-- the registers, the interrupt bits and the timers whose bytes stand in the head
 pub record RegistersAt (head : List ℕ) (r : Registers) : Type 0 where
   pub acc : r .acc ≡ getD head 0 0
   pub hr : r .hr ≡ getD head 1 0
@@ -27,6 +28,12 @@ pub record RegistersAt (head : List ℕ) (r : Registers) : Type 0 where
   pub cf : bitOf (r .cf) ≡ getD head 24 0
   pub zf : bitOf (r .zf) ≡ getD head 25 0
   pub sf : bitOf (r .sf) ≡ getD head 26 0
+
+pub record InterruptsAt (head : List ℕ) (i : Interrupts) : Type 0 where
+  pub ei : bitOf (i .ei) ≡ getD head 27 0
+  pub il : i .il ≡ getD head 28 0
+  pub mask : i .mask ≡ getD head 4 0
+  pub due : i .due ≡ getD head 38 0
 
 pub record TimersAt (head : List ℕ) (t : Timers) : Type 0 where
   pub ta : two (t .ta) ≡ getD head 20 0 ∷ getD head 21 0 ∷ []

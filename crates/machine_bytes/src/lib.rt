@@ -1,15 +1,15 @@
-// The record as 410 bytes, and back. The layout loses nothing: proofs/Tells.antt, `one-record`.
+// The record as 411 bytes, and back. The layout loses nothing: proofs/Tells.antt, `one-record`.
 use bits::bit_of;
 use bytes::copy;
 use frame::Pins;
 use laws::both;
 use machine::Core;
+use machine::Interrupts;
 use machine::Machine;
 use machine::Pointers;
 use machine::Ram;
 use machine::Registers;
 use machine::Timers;
-use machine::interrupts_of;
 use machine_start::fresh;
 use numbers::RAM_NIBBLES;
 use ports::Mode;
@@ -23,13 +23,13 @@ ghost use Rattle.laws.specs.Decides.{Decides};
 ghost use Rattle.laws.specs.Writing.{Wrote};
 ghost use Rattle.bits.specs.Bits.{bitOf};
 ghost use Rattle.machine_bytes.specs.Layout.{headSize, recordSize, two, four, modeNumber, latchBytes, nibblesOf, othersOf, headOf, Holds};
-ghost use Rattle.machine_bytes.specs.Unpacked.{FlagsFit, RegistersAt, TimersAt, Unpacks};
+ghost use Rattle.machine_bytes.specs.Unpacked.{FlagsFit, RegistersAt, InterruptsAt, TimersAt, Unpacks};
 
 // How many bytes a record takes.
-pub const RECORD_BYTES: usize = 410;
+pub const RECORD_BYTES: usize = 411;
 
 // How many of them come before RAM.
-const HEAD_BYTES: usize = 38;
+const HEAD_BYTES: usize = 39;
 
 // Whether a buffer holds a record, and that record; where it holds none, the fresh one.
 pub struct Unpacked {
@@ -83,8 +83,8 @@ fn nibbles_of(m: Core) -> [u8; 16]
     ]
 }
 
-// Bytes 16 to 37.
-fn others_of(m: Core) -> [u8; 22]
+// Bytes 16 to 38.
+fn others_of(m: Core) -> [u8; 23]
     ensures { λ r. ⌜ r ≡ othersOf m ⌝ }
 {
     let mode = m.mode;
@@ -113,6 +113,7 @@ fn others_of(m: Core) -> [u8; 22]
         m.pins.p4,
         mode_number(mode),
         bit_of(m.mark),
+        m.ints.due,
     ]
 }
 
@@ -123,7 +124,7 @@ fn put(out: &mut [u8], from: usize, part: &[u8])
     copy(part, &mut out[from..]);
 }
 
-// The record's bytes in a buffer of 410.
+// The record's bytes in a buffer of its size.
 pub fn pack(m: Machine, out: &mut [u8])
     requires { ⌜ length (now out) ≡ recordSize ⌝ }
     ensures { λ _. ⌜ Holds (now (out .exit)) m ⌝ }
@@ -209,6 +210,19 @@ fn registers_of(head: &[u8; HEAD_BYTES]) -> Registers
     }
 }
 
+// The due source as its byte has it: whether it agrees with latches and mask is judged with the record.
+fn interrupts_at(head: &[u8; HEAD_BYTES]) -> Interrupts
+    requires { ⌜ FlagsFit (now head) ⌝ }
+    ensures { λ r. ⌜ InterruptsAt (now (head .entry)) r ⌝ }
+{
+    Interrupts {
+        ei: flag(head[27]),
+        il: head[28],
+        mask: head[4],
+        due: head[38],
+    }
+}
+
 fn timers_of(head: &[u8; HEAD_BYTES]) -> Timers
     ensures { λ r. ⌜ TimersAt (now (head .entry)) r ⌝ }
 {
@@ -227,7 +241,6 @@ fn core_of(head: &[u8; HEAD_BYTES]) -> Core
         sp: head[3],
         dp: from_two(head[18], head[19]),
     };
-    let ints = interrupts_of(flag(head[27]), head[28], head[4]);
     let pins = Pins {
         p0: head[33],
         p8: head[34],
@@ -237,7 +250,7 @@ fn core_of(head: &[u8; HEAD_BYTES]) -> Core
         regs: registers_of(head),
         pc: from_two(head[16], head[17]),
         ptrs: ptrs,
-        ints: ints,
+        ints: interrupts_at(head),
         timers: timers_of(head),
         ports: ports_of(head),
         pins: pins,

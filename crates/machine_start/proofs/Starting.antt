@@ -1,6 +1,6 @@
 -- The fresh record and each reset record are valid, and reset's answer is determined.
 use Prim.Native.Nat.{_<_}
-use mathlib.Core.Path.{_≡_, sym, _∙_}
+use mathlib.Core.Path.{_≡_, refl, sym, _∙_}
 use lib.Dec.{lit<}
 use lib.ListN.{replicate}
 use Rattle.machine.specs.Valid.{ValidRegisters, ValidPointers, ValidCore, Valid}
@@ -9,14 +9,15 @@ use Rattle.machine.specs.declared.Registers.{Registers}
 use Rattle.machine.specs.declared.Pointers.{Pointers}
 use Rattle.machine.specs.declared.Machine.{Machine}
 use Rattle.machine_start.specs.declared.AfterReset.{AfterReset}
-use Rattle.machine_valid.proofs.Validity.{registers, pointers, interrupts, timers, ports, pins, nibbles, valid?}
+use Rattle.machine.proofs.Interrupting.{made-valid}
+use Rattle.machine_valid.proofs.Validity.{registers, pointers, timers, ports, pins, nibbles, valid?}
 
 fresh-core : {r : Registers} {p : Pointers} → ValidRegisters r → ValidPointers p → ValidCore (freshCore r p)
 fresh-core {r} {p} hr hp = record {
   regs = hr;
   pc = lit< tt;
   ptrs = hp;
-  ints = interrupts (freshCore r p .ints) .decides .sound tt;
+  ints = made-valid (lit< tt) refl (lit< tt);
   timers = timers (freshCore r p .timers) .decides .sound tt;
   ports = ports freshPorts .decides .sound tt;
   pins = pins frameFF1 .decides .sound tt;

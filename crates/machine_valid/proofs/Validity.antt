@@ -5,6 +5,7 @@ use lib.ListN.{length, getD}
 use Rattle.laws.proofs.Decided.{Decision, always, less, equal, negated, _and_, restated, each, decided}
 use Rattle.frame.specs.declared.Pins.{Pins}
 use Rattle.frame.specs.Frame.{PinsInRange}
+use Rattle.due.specs.Due.{dueNumber}
 use Rattle.machine.specs.Valid.{ValidRegisters, ValidPointers, ValidInterrupts, ValidTimers, ValidPorts, ModeFits, ValidCore, Nibbles, Valid}
 use Rattle.machine.specs.declared.Registers.{Registers}
 use Rattle.machine.specs.declared.Pointers.{Pointers}
@@ -26,8 +27,8 @@ pointers p =
 
 abbrev pub interrupts : (i : Interrupts) → Decision (ValidInterrupts i)
 interrupts i =
-    restated (λ h. record { il = h .0; il4 = h .1 .0; mask = h .1 .1 }) (λ v. (v .il, (v .il4, v .mask)))
-    (less (i .il) 64 and equal (i .il / 16 % 2) 0 and less (i .mask) 16)
+    restated (λ h. record { il = h .0; il4 = h .1 .0; mask = h .1 .1 .0; due = h .1 .1 .1 }) (λ v. (v .il, (v .il4, (v .mask, v .due))))
+    (less (i .il) 64 and equal (i .il / 16 % 2) 0 and less (i .mask) 16 and equal (i .due) (dueNumber (i .il) (i .mask)))
 
 abbrev pub timers : (t : Timers) → Decision (ValidTimers t)
 timers t =

@@ -1,4 +1,5 @@
 // Whether a record is within its ranges.
+use due::due_number;
 use frame::Pins;
 use laws::both;
 use machine::Core;
@@ -35,7 +36,11 @@ fn pointers_valid(p: Pointers) -> bool
 fn interrupts_valid(i: Interrupts) -> bool
     ensures { λ x. ⌜ Decides x (ValidInterrupts i) ⌝ }
 {
-    both(i.il < 64, both(i.il / 16 % 2 == 0, i.mask < 16))
+    let agrees = i.due == due_number(i.il, i.mask);
+    both(
+        i.il < 64,
+        both(i.il / 16 % 2 == 0, both(i.mask < 16, agrees)),
+    )
 }
 
 fn timers_valid(t: Timers) -> bool

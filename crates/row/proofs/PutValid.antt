@@ -17,6 +17,7 @@ use Rattle.machine.specs.declared.Registers.{Registers}
 use Rattle.machine.specs.declared.Pointers.{Pointers}
 use Rattle.machine.specs.declared.Timers.{Timers}
 use Rattle.machine.specs.declared.Machine.{Machine}
+use Rattle.machine.proofs.Interrupting.{made-valid}
 use Rattle.machine.proofs.Places.{set-nibble}
 use Rattle.machine.proofs.WithValid.{with-regs, with-pc, with-ptrs, with-ints, with-timers, with-ports-and-mode}
 use Rattle.row.specs.Places.{Around, withRegisters, withPc, withPointers, withTimers, cellOf, portOf, portWritten, putOf}
@@ -83,4 +84,4 @@ put-valid m w (Place.pointer (Pointer.dp p)) v h e hv = pointers-valid h (record
 put-valid m w (Place.pointer (Pointer.ta p)) v h e hv = timers-valid h (record { base = h .core .timers .base; eights = h .core .timers .eights; ta = part-put p (m .core .timers .ta) v (h .core .timers .ta) hv; tb = h .core .timers .tb })
 put-valid m w (Place.pointer (Pointer.tb p)) v h e hv = timers-valid h (record { base = h .core .timers .base; eights = h .core .timers .eights; ta = h .core .timers .ta; tb = part-put p (m .core .timers .tb) v (h .core .timers .tb) hv })
 put-valid m w (Place.rom g) v h e hv = h
-put-valid m w Place.mask v h e hv = record { core = with-ints (h .core) (record { il = h .core .ints .il; il4 = h .core .ints .il4; mask = hv }); ram = h .ram }
+put-valid m w Place.mask v h e hv = record { core = with-ints (h .core) (made-valid (h .core .ints .il) (h .core .ints .il4) hv); ram = h .ram }

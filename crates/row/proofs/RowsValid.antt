@@ -19,6 +19,7 @@ use Rattle.ports.specs.declared.Mode.the-variants.{Running}
 use Rattle.machine.specs.Valid.{Valid}
 use Rattle.machine.specs.Stack.{CanPop, popped, flagsReturned}
 use Rattle.machine.specs.declared.Machine.{Machine}
+use Rattle.machine.proofs.Interrupting.{made-valid}
 use Rattle.machine.proofs.StackValid.{called-valid, popped-valid, flags-returned-valid}
 use Rattle.row.specs.Places.{Around, withPc}
 use Rattle.row.specs.Rows.{spent, stops, pcPast, withMarks, worked, workOf, branchOf, callOf, returned, latchesOf, performed, executed}
@@ -92,7 +93,7 @@ module _ (w : Around) (m : Machine) (valid : Valid m) (running : m .core .mode �
           regs = f .core .regs;
           pc = f .core .pc;
           ptrs = f .core .ptrs;
-          ints = record { il = latches-lt (m .core .ints .il) (w .insn .a) (i .il) h; il4 = latches-clear (m .core .ints .il) (w .insn .a) (i .il) h (i .il4); mask = i .mask };
+          ints = made-valid (latches-lt (m .core .ints .il) (w .insn .a) (i .il) h) (latches-clear (m .core .ints .il) (w .insn .a) (i .il) h (i .il4)) (i .mask);
           timers = f .core .timers;
           ports = f .core .ports;
           pins = f .core .pins;

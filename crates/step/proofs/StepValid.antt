@@ -40,7 +40,7 @@ module _ (rom : ℕ → ℕ) (o : Options) (m : Machine) (pins : Pins) where
   stop-by : (t : Bool) → isRunning (m .core .mode) ≡ t → (stepOf rom o m pins .stop ≡ 0 → ⊥) → stepOf rom o m pins ≡ stops (stepOf rom o m pins .stop) (lookStep o m pins .machine)
   stop-by true t z =
       let e = step-runs rom o m pins t in
-      rw (look-runs rom o m pins t, e) (act-keeps rom (o .sound) (sighted rom o m pins) (λ q. z (ap (λ (d : Done). d .stop) e ∙ q)))
+      rw (look-runs rom o m pins t, e) (act-keeps rom (o .sound) (sighted rom o m pins) refl (λ q. z (ap (λ (d : Done). d .stop) e ∙ q)))
   stop-by false t z = absurd (z (ap (λ (d : Done). d .stop) (step-waits rom o m pins t)))
 
   -- "A stop now leaves the record as the first call left it", and spends nothing

@@ -10,6 +10,7 @@ use Rattle.sheet.specs.Table.{lineAt}
 use Rattle.sheet.specs.declared.Read.{Read}
 use Rattle.clock.specs.Clock.{passed}
 use Rattle.ports.specs.declared.Mode.{Mode}
+use Rattle.due.specs.Due.{dueNumber}
 use Rattle.machine.specs.Stack.{canPush, accepted}
 use Rattle.machine.specs.declared.Core.{Core}
 use Rattle.machine.specs.declared.Machine.{Machine}
@@ -25,16 +26,20 @@ Keeps m x = (x .stop ≡ 0 → ⊥) → x ≡ stops (x .stop) m
 abbrev Marked : Machine → Done → Type 0
 Marked m x = x .machine .core .mark ≡ m .core .mark
 
-in-mode-none : (mode : Mode) (m : Core) → coreIn mode 0 m ≡ m
+-- the due source of the record agrees with latches and mask
+abbrev Agrees : Core → Type 0
+Agrees m = m .ints .due ≡ dueNumber (m .ints .il) (m .ints .mask)
+
+in-mode-none : (mode : Mode) (m : Core) → Agrees m → coreIn mode 0 m ≡ m
 unfolding passed
-in-mode-none Mode.Running m = refl
-in-mode-none Mode.Sleep m = refl
-in-mode-none Mode.Hold m = refl
+in-mode-none Mode.Running m a = rw (← a)
+in-mode-none Mode.Sleep m a = refl
+in-mode-none Mode.Hold m a = refl
 
 -- no cycles, no time
-none-passes : (m : Core) → coreAfter 0 m ≡ m
+none-passes : (m : Core) → Agrees m → coreAfter 0 m ≡ m
 unfolding coreAfter
-none-passes m = in-mode-none (m .mode) m
+none-passes m a = in-mode-none (m .mode) m a
 
 in-mode-marked : (mode : Mode) (n : ℕ) (m : Core) → coreIn mode n m .mark ≡ m .mark
 in-mode-marked Mode.Running n m = refl
@@ -64,11 +69,11 @@ module _ (rom : ℕ → ℕ) (sound : Bool) (m : Machine) where
       picked (Keeps m) (ltb (sourceOf (m .core)) 6) (acceptOf m (sourceOf (m .core))) (runOne rom sound m)
       (accept-keeps (sourceOf (m .core))) (read-keeps (readAt rom (m .core .pc)))
 
-  pub act-keeps : Keeps m (actOf rom sound m)
+  pub act-keeps : Agrees (m .core) → Keeps m (actOf rom sound m)
   unfolding actOf
-  act-keeps z =
+  act-keeps a z =
       ap afterTime (turn-keeps z)
-      ∙ ap (λ (c : Core). stops (acceptOrRun rom sound m .stop) (record { core = c; ram = m .ram })) (none-passes (m .core))
+      ∙ ap (λ (c : Core). stops (acceptOrRun rom sound m .stop) (record { core = c; ram = m .ram })) (none-passes (m .core) a)
 
   accept-marked : (source : ℕ) → Marked m (acceptOf m source)
   unfolding acceptOf accepted

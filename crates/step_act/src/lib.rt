@@ -1,11 +1,11 @@
 // What a running record does once it has seen the frame: it accepts an interrupt or executes one row, then time passes.
 use clock::Rates;
 use clock::Time;
-use due::due_source;
+use due::latch_of;
 use machine::Core;
 use machine::Ram;
-use machine::interrupts_of;
 use machine::stack::can_push;
+use machine::with_latches;
 use numbers::STACK_LEVEL;
 use ports::Mode;
 use reader::read_at;
@@ -49,13 +49,13 @@ fn run_one(image: &[u8], sound: bool, m: Core, ram: &mut Ram) -> Turn
     perform(image, sound, m, ram, insn)
 }
 
-// The latch of the source that is due, 6 where none is or EI is clear.
+// The latch of the source that is due, as the record keeps it; 6 where none is or EI is clear.
 fn source(m: Core) -> u8
     requires { ⌜ ValidCore m ⌝ }
     ensures { λ r. ⌜ r ≡ sourceOf m ⌝ }
 {
     if m.ints.ei {
-        return due_source(m.ints.il, m.ints.mask);
+        return latch_of(m.ints.due);
     }
     6
 }
@@ -90,7 +90,7 @@ fn pass(m: Core, n: u16) -> Core
         p81: bits::has_bit(m.pins.p8, 2),
     };
     let s = clock::pass(t, r, n);
-    let ints = interrupts_of(m.ints.ei, s.il, m.ints.mask);
+    let ints = with_latches(m.ints, s.il);
     let mut after = m;
     after.timers.base = s.base;
     after.timers.ta = s.ta;

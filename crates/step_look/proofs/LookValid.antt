@@ -13,6 +13,7 @@ use Rattle.ports.specs.declared.Mode.{Mode}
 use Rattle.machine.specs.Valid.{ModeFits, ValidInterrupts, ValidTimers, ValidCore}
 use Rattle.machine.specs.declared.Core.{Core}
 use Rattle.laws.proofs.Choices.{picked}
+use Rattle.machine.proofs.Interrupting.{made-valid}
 use Rattle.machine.proofs.WithValid.{with-ints, with-timers, with-pins, with-ports-and-mode, with-mark}
 use Rattle.step_look.specs.declared.Looked.{Looked}
 use Rattle.step_look.specs.Look.{withTime, showing, edgesTimed, edgesCounted, seen, isRunning, releasesByLevel, waited, looked}
@@ -24,7 +25,7 @@ showing-valid m mode mark new v f p = with-mark (with-ports-and-mode (with-pins 
 
 pub with-time-valid : (m : Core) (t : Time) → ValidCore m → InRange t → ValidCore (withTime m t)
 with-time-valid m t v i =
-    with-timers (with-ints v (record { il = i .il; il4 = is-clear (t .il) (i .il4); mask = v .ints .mask })) (record { base = i .base; eights = i .eights; ta = i .ta; tb = i .tb })
+    with-timers (with-ints v (made-valid (i .il) (is-clear (t .il) (i .il4)) (v .ints .mask))) (record { base = i .base; eights = i .eights; ta = i .ta; tb = i .tb })
 
 counted-in-range : (m : Core) (new : Pins) → ValidInterrupts (m .ints) → ValidTimers (m .timers) → InRange (edgesCounted m new)
 unfolding edgesCounted

@@ -7,7 +7,7 @@ use edges::rose;
 use edges::wakes;
 use frame::Pins;
 use machine::Core;
-use machine::interrupts_of;
+use machine::with_latches;
 use ports::Mode;
 ghost use mathlib.Core.Path.{_≡_};
 ghost use mathlib.Core.Bool.{true};
@@ -75,7 +75,7 @@ pub fn seen(m: Core, new: Pins) -> Core
         return still;
     }
     let t = counted(m, new);
-    let ints = interrupts_of(m.ints.ei, t.il, m.ints.mask);
+    let ints = with_latches(m.ints, t.il);
     let mut after = m;
     after.pins = new;
     after.timers.base = t.base;

@@ -171,7 +171,7 @@ mod tests {
             (|answer| answer.number = 30, "number: plain 0, proved 30"),
             (|answer| answer.values[1] = 9, "cycles: plain 8, proved 9"),
             (|answer| answer.buffer[0] = 0, "record, byte 0, ACC: plain 1, proved 0"),
-            (|answer| answer.buffer[409] = 0, "record, byte 409, RAM 17Fh: plain 1, proved 0"),
+            (|answer| answer.buffer[410] = 0, "record, byte 410, RAM 17Fh: plain 1, proved 0"),
             (|answer| answer.others_kept = false, "the proved call changed bytes outside its buffer"),
             (|answer| answer.values[3] = 1, "the form of the answers"),
         ];

@@ -83,9 +83,19 @@ enum Event {
     CountsTb,
     TimeBaseWraps,
     PcWraps,
+    NothingIsDue,
+    Int0IsDue,
+    TrgaIsDue,
+    TrgbIsDue,
+    TbiIsDue,
+    Int1IsDue,
 }
 
-const EVENTS: [(Event, &str); 26] = [
+/// What is due now and was not, by its number in the record.
+const DUE: [Event; 6] =
+    [Event::NothingIsDue, Event::Int0IsDue, Event::TrgaIsDue, Event::TrgbIsDue, Event::TbiIsDue, Event::Int1IsDue];
+
+const EVENTS: [(Event, &str); 32] = [
     (Event::AcceptsInt0, "accepts INT0"),
     (Event::AcceptsTrga, "accepts TRGA"),
     (Event::AcceptsTrgb, "accepts TRGB"),
@@ -112,6 +122,12 @@ const EVENTS: [(Event, &str); 26] = [
     (Event::CountsTb, "counts TB"),
     (Event::TimeBaseWraps, "wraps the time base"),
     (Event::PcWraps, "wraps the PC"),
+    (Event::NothingIsDue, "makes nothing due"),
+    (Event::Int0IsDue, "makes INT0 due"),
+    (Event::TrgaIsDue, "makes TRGA due"),
+    (Event::TrgbIsDue, "makes TRGB due"),
+    (Event::TbiIsDue, "makes TBI due"),
+    (Event::Int1IsDue, "makes INT1 due"),
 ];
 
 /// Each event comes so often at least in single steps.
@@ -184,6 +200,7 @@ impl Coverage {
             self.count_waiting(before, after);
             return;
         }
+        self.happens(DUE[after.due as usize], after.due != before.due);
         let set = after.il & !before.il;
         for (bit, event) in
             [(5, Event::SetsIl5), (3, Event::SetsIl3), (2, Event::SetsIl2), (1, Event::SetsIl1), (0, Event::SetsIl0)]

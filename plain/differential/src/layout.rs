@@ -1,9 +1,9 @@
-//! The record as the 410 bytes of include/em73862.h.
+//! The record as the 411 bytes of include/em73862.h.
 
 use plain::{Frame, Machine, Mode, Ports, RAM_SIZE};
 use std::ops::Range;
 
-pub const RECORD_BYTES: usize = 410;
+pub const RECORD_BYTES: usize = 411;
 
 pub const PC: usize = 16;
 pub const DP: usize = 18;
@@ -15,12 +15,13 @@ pub const TIME_BASE: usize = 29;
 pub const LAST_FRAME: usize = 33;
 pub const MODE: usize = 36;
 pub const MARK: usize = 37;
-pub const RAM: usize = 38;
+pub const DUE: usize = 38;
+pub const RAM: usize = 39;
 
 const NAMES: [&str; RAM] = [
     "ACC", "HR", "LR", "SP", "mask", "P4", "P8", "P9", "P16", "P23", "P24", "P25", "P27", "P28", "P29", "P30", "PC",
     "PC", "DP", "DP", "TA", "TA", "TB", "TB", "CF", "ZF", "SF", "EI", "IL", "time base", "time base", "time base",
-    "time base", "P0 of the last frame", "P8 of the last frame", "P4.0 of the last frame", "mode", "mark",
+    "time base", "P0 of the last frame", "P8 of the last frame", "P4.0 of the last frame", "mode", "mark", "due",
 ];
 
 pub fn record_of(m: &Machine) -> Vec<u8> {
@@ -41,6 +42,7 @@ pub fn record_of(m: &Machine) -> Vec<u8> {
         Mode::Hold => 2,
     });
     record.push(m.mark.into());
+    record.push(m.due);
     record.extend(m.ram);
     record
 }
@@ -85,6 +87,7 @@ pub fn machine_of(record: &[u8]) -> Option<Machine> {
         last_frame: Frame { p0: record[LAST_FRAME], p8: record[LAST_FRAME + 1], p4_0: record[LAST_FRAME + 2] },
         mode,
         mark: flag(MARK)?,
+        due: record[DUE],
     })
 }
 
@@ -146,7 +149,7 @@ mod tests {
             spoilt[place] = value;
             assert_eq!(machine_of(&spoilt), None);
         }
-        assert_eq!(machine_of(&record[..409]), None);
+        assert_eq!(machine_of(&record[..410]), None);
         assert_eq!(machine_of(&[]), None);
         assert_eq!(machine_of(&[&record[..], &[0]].concat()), None);
     }
@@ -162,17 +165,17 @@ mod tests {
         let record = record_of(&machine);
         assert_eq!((record[18], record[19]), (0xBC, 0x0A));
         assert_eq!(record[29..33], [0x50, 0x34, 0x12, 0]);
-        assert_eq!((record[15], record[25], record[26], record[409]), (9, 1, 1, 7));
-        assert_eq!(record[33..38], [15, 15, 1, 0, 0]);
-        assert_eq!((field_at(15), field_at(409)), ("P30".to_string(), "RAM 17Fh".to_string()));
-        assert_eq!((field_at(38 + 0xF3), field_at(38 + 0xF4)), ("RAM 0F3h".to_string(), "RAM 100h".to_string()));
+        assert_eq!((record[15], record[25], record[26], record[410]), (9, 1, 1, 7));
+        assert_eq!(record[33..39], [15, 15, 1, 0, 0, 0]);
+        assert_eq!((field_at(15), field_at(410)), ("P30".to_string(), "RAM 17Fh".to_string()));
+        assert_eq!((field_at(39 + 0xF3), field_at(39 + 0xF4)), ("RAM 0F3h".to_string(), "RAM 100h".to_string()));
         assert_eq!(
             (places_of("P30"), places_of("DP"), places_of("time base")),
             (Some(15..16), Some(18..20), Some(29..33))
         );
         assert_eq!(
             (places_of("RAM 000h"), places_of("RAM 0F4h"), places_of("RAM 17Fh")),
-            (Some(38..39), None, Some(409..410))
+            (Some(39..40), None, Some(410..411))
         );
     }
 }

@@ -2,7 +2,7 @@
 
 use crate::chance::Chance;
 use crate::layout::{self, record_of, RECORD_BYTES};
-use plain::{fresh, Frame, Machine, Mode, Ports, RAM_SIZE};
+use plain::{due_number, fresh, Frame, Machine, Mode, Ports, RAM_SIZE};
 
 const TIME_BASE_SIZE: u32 = 1 << 22;
 
@@ -33,7 +33,9 @@ pub fn valid(chance: &mut Chance) -> Machine {
         last_frame: Frame { p0: nibble(chance), p8: nibble(chance), p4_0: chance.below(2) as u8 },
         mode: Mode::Running,
         mark: chance.one_in(8),
+        due: 0,
     };
+    machine.due = due_number(machine.il, machine.mask);
     if chance.one_in(4) {
         fall_asleep(chance, &mut machine);
     }
@@ -132,7 +134,7 @@ fn ports(chance: &mut Chance) -> Ports {
 /// A record in bytes that one change takes out of its range; now and then a buffer of another length.
 pub fn spoilt(chance: &mut Chance) -> Vec<u8> {
     let mut record = record_of(&fresh_or_valid(chance));
-    match chance.below(10) {
+    match chance.below(11) {
         0 => return of_another_length(chance, record),
         1 => spoil_mode(chance, &mut record),
         2 => spoil_time_base(chance, &mut record),
@@ -143,14 +145,15 @@ pub fn spoilt(chance: &mut Chance) -> Vec<u8> {
         7 => spoil_word(chance, &mut record),
         // P25 and P27.
         8 => record[chance.pick(&[11, 12])] = chance.pick(&[8, 9, 10, 11, 16, 255]),
+        9 => spoil_due(chance, &mut record),
         _ => spoil_nibble(chance, &mut record),
     }
     record
 }
 
 fn of_another_length(chance: &mut Chance, mut record: Vec<u8>) -> Vec<u8> {
-    let length = if chance.one_in(8) { chance.below(900) } else { chance.pick(&[0, 1, 37, 38, 409, 411]) };
-    record.resize(if length == RECORD_BYTES { 409 } else { length }, 0);
+    let length = if chance.one_in(8) { chance.below(900) } else { chance.pick(&[0, 1, 38, 39, 410, 412]) };
+    record.resize(if length == RECORD_BYTES { 410 } else { length }, 0);
     record
 }
 
@@ -176,6 +179,15 @@ fn spoil_mode(chance: &mut Chance, record: &mut [u8]) {
         (true, 1) => 7 | chance.nibble() & 8,
         (true, _) => 4 | chance.pick(&[0, 1, 2]) | chance.nibble() & 8,
         (false, _) => chance.nibble() & 0b1011,
+    };
+}
+
+/// Another source than is due, or none, or a number that names none.
+fn spoil_due(chance: &mut Chance, record: &mut [u8]) {
+    let due = record[layout::DUE];
+    record[layout::DUE] = match chance.below(8) {
+        0 => over(chance, 6),
+        _ => (due + 1 + chance.below(5) as u8) % 6,
     };
 }
 

@@ -4,14 +4,24 @@ use borrow.Author.Needs.{needs}
 use Rattle.machine_valid.proofs.interrupts_valid.Statement.{statement}
 use Rattle.machine_valid.proofs.interrupts_valid.Tie as tie
 
+due-number-requires : tie.Need-due-number-requires
+due-number-requires c κs = search needs
+
 both-requires : tie.Need-both-requires
 both-requires c κs = search needs
 
 both-requires-2 : tie.Need-both-requires-2
 both-requires-2 c κs = search needs
 
+both-requires-3 : tie.Need-both-requires-3
+both-requires-3 c κs = search needs
+
 returns : tie.Need-returns
-returns c = rw (c .both2 .ensures, c .before .both .ensures) (interrupts (c .before .before .before .before .before .args .i) .decides)
+returns c =
+    let due-number = c .before .before .before .before .before .before .before .due-number in
+    rw (c .both3 .ensures, c .before .both2 .ensures, c .before .before .both .ensures, due-number .ensures)
+    (interrupts (c .before .before .before .before .before .before .before .before .args .i) .decides)
 
 pub interrupts-valid-spec : {M : Type 1} → statement M
-interrupts-valid-spec = tie.close (tie.spec both-requires both-requires-2 returns)
+interrupts-valid-spec =
+    tie.close (tie.spec due-number-requires both-requires both-requires-2 both-requires-3 returns)

@@ -13,13 +13,13 @@ has-bit-requires-2 c κs = search needs
 pass-requires : tie.Need-pass-requires
 pass-requires c κs = (time-in-range _ (c .before .before .pre), c .before .before .pre .ports .p25)
 
-interrupts-of-requires : tie.Need-interrupts-of-requires
-interrupts-of-requires c κs = search needs
+with-latches-requires : tie.Need-with-latches-requires
+with-latches-requires c κs = search needs
 
 returns : tie.Need-returns
-returns c = rw (c .before .before .before .interrupts-of .ensures, c .before .before .before .before .pass .ensures, c .before .before .before .before .before .before .has-bit .ensures, c .before .before .before .before .before .has-bit2 .ensures)
+returns c = rw (c .before .before .before .with-latches .ensures, c .before .before .before .before .pass .ensures, c .before .before .before .before .before .before .has-bit .ensures, c .before .before .before .before .before .has-bit2 .ensures)
 
 pub pass-spec : {M : Type 1} → statement M
 pass-spec =
     tie.close
-    (tie.spec has-bit-requires has-bit-requires-2 pass-requires interrupts-of-requires returns)
+    (tie.spec has-bit-requires has-bit-requires-2 pass-requires with-latches-requires returns)

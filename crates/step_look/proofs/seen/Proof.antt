@@ -5,16 +5,17 @@ use Rattle.step_look.proofs.seen.Statement.{statement}
 use Rattle.step_look.proofs.seen.Tie as tie
 
 returns : tie.Need-returns
-returns c = rw (counted-still (c .before .before .before .args .m) (c .before .before .before .args .new) (c .if1 .taken))
+returns c =
+    rw (counted-still (c .before .before .before .args .m) (c .before .before .before .args .new) (c .if1 .taken), ← c .before .before .before .pre .0 .due)
 
 counted-requires : tie.Need-counted-requires
 counted-requires c κs = search needs
 
-interrupts-of-requires : tie.Need-interrupts-of-requires
-interrupts-of-requires c κs = search needs
+with-latches-requires : tie.Need-with-latches-requires
+with-latches-requires c κs = search needs
 
 returns-2 : tie.Need-returns-2
-returns-2 c = rw (c .before .before .before .interrupts-of .ensures, c .before .before .before .before .counted .ensures)
+returns-2 c = rw (c .before .before .before .with-latches .ensures, c .before .before .before .before .counted .ensures)
 
 pub seen-spec : {M : Type 1} → statement M
-seen-spec = tie.close (tie.spec returns counted-requires interrupts-of-requires returns-2)
+seen-spec = tie.close (tie.spec returns counted-requires with-latches-requires returns-2)

@@ -1,6 +1,7 @@
 //! Records by the names of their fields, which are those of include/em73862.h.
 
-use crate::layout::{places_of, LAST_FRAME, RECORD_BYTES};
+use crate::layout::{places_of, DUE, LAST_FRAME, LATCHES, RECORD_BYTES};
+use plain::due_number;
 
 pub const RUNNING: u32 = 0;
 pub const SLEEP: u32 = 1;
@@ -12,7 +13,7 @@ pub fn fresh() -> Vec<u8> {
     with_last_frame(&with(&[0; RECORD_BYTES], &others), b"FF1")
 }
 
-/// The record with other values in some fields, the low byte first.
+/// The record with other values in some fields, the low byte first; the due source is that of latches and mask where it is not one of them.
 pub fn with(record: &[u8], fields: &[(&str, u32)]) -> Vec<u8> {
     let mut record = record.to_vec();
     for (name, value) in fields {
@@ -21,6 +22,9 @@ pub fn with(record: &[u8], fields: &[(&str, u32)]) -> Vec<u8> {
         let (bytes, rest) = value_bytes.split_at(places.len());
         assert!(rest.iter().all(|byte| *byte == 0), "{name} has no bytes for {value}");
         record[places].copy_from_slice(bytes);
+    }
+    if fields.iter().all(|(name, _)| *name != "due") {
+        record[DUE] = due_number(record[LATCHES], value_of(&record, "mask") as u8);
     }
     record
 }

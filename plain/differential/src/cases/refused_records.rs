@@ -39,6 +39,18 @@ const RAM_ENDS: [&str; 4] = ["RAM 000h", "RAM 0F3h", "RAM 100h", "RAM 17Fh"];
 const UNTIED: [(u32, u32); 5] = [(SLEEP, 7), (SLEEP, 0), (SLEEP, 8), (HOLD, 4), (HOLD, 3)];
 const TIED: [(u32, u32); 2] = [(SLEEP, 6), (HOLD, 7)];
 
+/// Latches, mask, and the source that is due by them: none, each source alone, and one before others.
+const DUE: [(u32, u32, u32); 8] = [
+    (0, 15, 0),
+    (0b00_1111, 0, 0),
+    (0b10_0000, 0, 1),
+    (0b00_1000, 4, 2),
+    (0b00_0100, 2, 3),
+    (0b00_0010, 2, 4),
+    (0b00_0001, 1, 5),
+    (0b00_0011, 3, 4),
+];
+
 const FRAME: &[u8; 3] = b"FF1";
 
 pub fn cases() -> Vec<Case> {
@@ -47,6 +59,12 @@ pub fn cases() -> Vec<Case> {
     let nibbles = RAM_ENDS.map(|nibble| (nibble, 16));
     for field in [&OVER[..], &latches, &RESERVED, &nibbles].concat() {
         cases.extend(all_refuse(&format!("{} {}", field.0, field.1), &with(&fresh(), &[field])));
+    }
+    for (latches, mask, due) in DUE {
+        for wrong in (0..=u8::MAX as u32).filter(|wrong| *wrong != due) {
+            let record = with(&fresh(), &[("IL", latches), ("mask", mask), ("due", wrong)]);
+            cases.extend(all_refuse(&format!("IL {latches}, mask {mask}, due {wrong}"), &record));
+        }
     }
     for (mode, p16) in UNTIED {
         cases.extend(all_refuse(&format!("mode {mode}, P16 {p16}"), &in_mode(mode, p16)));
