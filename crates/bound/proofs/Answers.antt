@@ -3,6 +3,7 @@ use mathlib.Core.Path.{_≡_, refl, ap₂}
 use mathlib.Core.List.{List, [], _∷_}
 use Prim.Native.Nat.{ℕ, _/_, _%_}
 use native.Mathlib.Omega.{arith}
+use Rattle.device.specs.declared.Device.{Device}
 use Rattle.graph.specs.Graph.{Longest, sum, Sound}
 use Rattle.graph.specs.Laid.{graphOf, costOf}
 use Rattle.graph.proofs.Agree.{Agree}
@@ -16,7 +17,7 @@ use Rattle.bound_explore.specs.Explored.{Explored}
 use Rattle.bound.specs.Answer.{boundedOf, paperOf, addressBytes, FlowAnswer, gives-21, gives-22, gives-23, gives-N}
 
 -- what was laid is the flow graph, as far as it is reached
-pub explored-agrees : {rom : ℕ → ℕ} {s count : ℕ} {k nx o c m q : List ℕ} → Explored rom s k nx o c m q count → Agree (graphOf k nx o) (flowGraph rom) (costOf c) (flowCost rom) s
+pub explored-agrees : {d : Device} {rom : ℕ → ℕ} {s count : ℕ} {k nx o c m q : List ℕ} → Explored d rom s k nx o c m q count → Agree (graphOf k nx o) (flowGraph d rom) (costOf c) (flowCost d rom) s
 unfolding flowGraph flowCost graphOf costOf
 explored-agrees x =
     record {
@@ -34,12 +35,12 @@ encoded (v ∷ l) =
     let high : v / 512 % 256 ≡ v / 2 / 256 % 256 = omega arith in
     ap₂ (λ (h : ℕ) (t : List ℕ). v / 2 % 256 ∷ h ∷ t) high (encoded l)
 
-has-bound : {rom : ℕ → ℕ} {start N : ℕ} {path : List ℕ} → Sound (flowGraph rom) (startOf start) → Longest (flowGraph rom) (flowCost rom) (startOf start) path → N ≡ sum (flowCost rom) path → HasBound rom start N path
+has-bound : {d : Device} {rom : ℕ → ℕ} {start N : ℕ} {path : List ℕ} → Sound (flowGraph d rom) (startOf start) → Longest (flowGraph d rom) (flowCost d rom) (startOf start) path → N ≡ sum (flowCost d rom) path → HasBound d rom start N path
 has-bound s l e = record { sound = s; is-path = longest-path l; sum = e; largest = λ k p. rw e (longest-most l k p); longest = l }
 
-pub answers : (rom : ℕ → ℕ) (start : ℕ) (p p′ : List ℕ) (found : Found) → Means (flowGraph rom) (flowCost rom) (startOf start) p p′ found → FlowAnswer rom start p p′ (paperOf (boundedOf found))
+pub answers : (d : Device) (rom : ℕ → ℕ) (start : ℕ) (p p′ : List ℕ) (found : Found) → Means (flowGraph d rom) (flowCost d rom) (startOf start) p p′ found → FlowAnswer d rom start p p′ (paperOf (boundedOf found))
 unfolding Means
-answers rom start p p′ (Found.Excluded v) m = gives-21 (least-address (m .lowest)) (m .kept)
-answers rom start p p′ (Found.Repeats v) m = gives-22 (m .no-bad) (least-address (m .lowest)) (m .kept)
-answers rom start p p′ (Found.Short n) m = rw (m .needs) (gives-23 (has-bound (m .sound) (m .longest) refl) (rw (m .needs) at (m .short)) (m .kept))
-answers rom start p p′ (Found.Longest n) m = gives-N (has-bound (m .sound) (m .longest) (m .total)) (m .room) (rw (encoded (m .path)) at (m .bytes))
+answers d rom start p p′ (Found.Excluded v) m = gives-21 (least-address (m .lowest)) (m .kept)
+answers d rom start p p′ (Found.Repeats v) m = gives-22 (m .no-bad) (least-address (m .lowest)) (m .kept)
+answers d rom start p p′ (Found.Short n) m = rw (m .needs) (gives-23 (has-bound (m .sound) (m .longest) refl) (rw (m .needs) at (m .short)) (m .kept))
+answers d rom start p p′ (Found.Longest n) m = gives-N (has-bound (m .sound) (m .longest) (m .total)) (m .room) (rw (encoded (m .path)) at (m .bytes))

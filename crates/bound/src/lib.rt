@@ -1,21 +1,23 @@
 // The handler bound: the most cycles that any path of the flow rules takes from an address to RTI, and the path.
 use bound_explore::explore;
+use device::Device;
+use device::image_size;
+use device::is_banked;
 use graph::PLACES;
 use graph_longest::Found;
 use graph_longest::longest;
 use numbers::ADDRESS_OVER_8191;
 use numbers::EXCLUDED_INSTRUCTION_REACHABLE;
-use numbers::IMAGE_BYTES;
-use numbers::IMAGE_IS_NOT_8192_BYTES;
+use numbers::IMAGE_OF_ANOTHER_SIZE;
 use numbers::LAST_ADDRESS;
 use numbers::PATH_BUFFER_TOO_SHORT;
+use numbers::RECORD_OUTSIDE_THE_RANGES;
 use numbers::REPETITION_REACHABLE;
 ghost use mathlib.Core.Path.{_≡_};
-ghost use Prim.Native.Nat.{_<_};
+ghost use Prim.Native.Nat.{_+_, _*_, _%_, _<_, _≤_};
 ghost use lib.ListN.{length};
-ghost use Rattle.numbers.specs.Sizes.{imageBytes};
 ghost use Rattle.graph.specs.Laid.{places};
-ghost use Rattle.sheet.specs.Reading.{romOf};
+ghost use Rattle.device.specs.Device.{romOf};
 ghost use Rattle.graph_search.specs.Marks.{Blank};
 ghost use Rattle.bound_flow.specs.Flow.{flowGraph, flowCost};
 ghost use Rattle.bound_explore.specs.Explored.{Empty};
@@ -26,6 +28,7 @@ ghost use Rattle.bound.specs.Numbers.{OfBound};
 // What the call answers; specs/Answer.antt gives document 01's number and value for each.
 pub enum Bounded {
     ImageSize,
+    P3Range,
     AddressRange,
     Excluded(usize),
     Repeats(usize),
@@ -35,7 +38,9 @@ pub enum Bounded {
 
 // The bound from a place, with empty arrays lent to lay the graph in.
 fn bound_in(
+    d: Device,
     image: &[u8],
+    p3: u8,
     s: usize,
     path: &mut [u8],
     kind: &mut [u8],
@@ -45,10 +50,10 @@ fn bound_in(
     marks: &mut [u8],
     queue: &mut [u16],
 ) -> Found
-    requires { ⌜ (length (now image) ≡ imageBytes) × (s < places) × Empty (now kind) (now next) (now other) (now cost) × Blank (now marks) × (length (now marks) ≡ places) × (length (now queue) ≡ places) ⌝ }
-    ensures { λ r. ⌜ Means (flowGraph (romOf (now (image .entry)))) (flowCost (romOf (now (image .entry)))) s (now (path .entry)) (now (path .exit)) r ⌝ }
+    requires { ⌜ (8192 + 4096 * (p3 % 4) ≤ length (now image)) × (s < places) × Empty (now kind) (now next) (now other) (now cost) × Blank (now marks) × (length (now marks) ≡ places) × (length (now queue) ≡ places) ⌝ }
+    ensures { λ r. ⌜ Means (flowGraph d (romOf (now (image .entry)) p3)) (flowCost d (romOf (now (image .entry)) p3)) s (now (path .entry)) (now (path .exit)) r ⌝ }
 {
-    let count = explore(image, s, kind, next, other, cost, marks, queue);
+    let count = explore(d, image, p3, s, kind, next, other, cost, marks, queue);
     longest(kind, next, other, cost, s, marks, queue, count, path)
 }
 
@@ -65,11 +70,14 @@ fn answer(found: Found) -> Bounded
 }
 
 // The public bound.
-pub fn bound(image: &[u8], address: u32, path: &mut [u8]) -> Bounded
-    ensures { λ r. ⌜ BoundAnswer (now (image .entry)) address (now (path .entry)) (now (path .exit)) (paperOf r) ⌝ }
+pub fn bound(d: Device, image: &[u8], p3: u32, address: u32, path: &mut [u8]) -> Bounded
+    ensures { λ r. ⌜ BoundAnswer d (now (image .entry)) p3 address (now (path .entry)) (now (path .exit)) (paperOf r) ⌝ }
 {
-    if image.len() != IMAGE_BYTES {
+    if image.len() != image_size(d) {
         return Bounded::ImageSize;
+    }
+    if !is_banked(d, p3) {
+        return Bounded::P3Range;
     }
     if LAST_ADDRESS < address {
         return Bounded::AddressRange;
@@ -82,7 +90,9 @@ pub fn bound(image: &[u8], address: u32, path: &mut [u8]) -> Bounded
     let mut marks = [0u8; PLACES];
     let mut queue = [0u16; PLACES];
     let found = bound_in(
+        d,
         image,
+        p3 as u8,
         start,
         path,
         &mut kind,
@@ -106,7 +116,11 @@ pub fn numbers_of(answer: Bounded) -> BoundNumbers
 {
     match answer {
         Bounded::ImageSize => BoundNumbers {
-            number: IMAGE_IS_NOT_8192_BYTES,
+            number: IMAGE_OF_ANOTHER_SIZE,
+            value: 0,
+        },
+        Bounded::P3Range => BoundNumbers {
+            number: RECORD_OUTSIDE_THE_RANGES,
             value: 0,
         },
         Bounded::AddressRange => BoundNumbers {

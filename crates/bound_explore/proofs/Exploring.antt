@@ -7,6 +7,7 @@ use native.Mathlib.Decide.{ℕ-discrete}
 use native.Mathlib.Omega.{arith}
 use lib.ListN.{length, getD, set, length-set}
 use lib.Seq.{getD-set-same, getD-set-other}
+use Rattle.device.specs.declared.Device.{Device}
 use Rattle.graph.specs.Laid.{graphOf, costOf, Laid, Costs}
 use Rattle.graph.proofs.Reach.{reach-inside}
 use Rattle.graph.proofs.Agree.{Agree, agree-sym, reach-to}
@@ -24,20 +25,20 @@ pub record Nothing (k nx o c : List ℕ) (v : ℕ) : Type 0 where
   pub cost : getD c v 0 ≡ 0
 
 -- each place has its node laid or nothing, and those before the head of the queue have it
-pub record Laying (rom : ℕ → ℕ) (k nx o c q : List ℕ) (head : ℕ) : Type 0 where
+pub record Laying (d : Device) (rom : ℕ → ℕ) (k nx o c q : List ℕ) (head : ℕ) : Type 0 where
   pub sized : Sized k nx o c
-  pub each : (v : ℕ) → Holds rom k nx o c v ⊎ Nothing k nx o c v
-  pub done : (i : ℕ) → i < head → Holds rom k nx o c (getD q i 0)
+  pub each : (v : ℕ) → Holds d rom k nx o c v ⊎ Nothing k nx o c v
+  pub done : (i : ℕ) → i < head → Holds d rom k nx o c (getD q i 0)
 
-pub laying-none : (rom : ℕ → ℕ) {k nx o c : List ℕ} (q : List ℕ) → Empty k nx o c → Laying rom k nx o c q 0
-laying-none rom q e =
+pub laying-none : (d : Device) (rom : ℕ → ℕ) {k nx o c : List ℕ} (q : List ℕ) → Empty k nx o c → Laying d rom k nx o c q 0
+laying-none d rom q e =
     record {
       sized = e .sized;
       each = λ v. inr (record { kind = e .kinds .at v; next = e .nexts .at v; other = e .others .at v; cost = e .costs .at v });
       done = λ i l. absurd (omega (arith, l));
     }
 
-module _ {rom : ℕ → ℕ} {v : ℕ} {k nx o c k′ nx′ o′ c′ : List ℕ} (size : Sized k nx o c) (lt : v < 16384) (lays : Lays rom v k nx o c k′ nx′ o′ c′) where
+module _ {d : Device} {rom : ℕ → ℕ} {v : ℕ} {k nx o c k′ nx′ o′ c′ : List ℕ} (size : Sized k nx o c) (lt : v < 16384) (lays : Lays d rom v k nx o c k′ nx′ o′ c′) where
   -- an array after the store at v: at v, and elsewhere
   stored : (l : List ℕ) (x : ℕ) {l′ : List ℕ} → length l ≡ 16384 → l′ ≡ set l v x → getD l′ v 0 ≡ x
   stored l x len e = rw e (getD-set-same l v x 0 (omega (arith, len, lt)))
@@ -49,38 +50,38 @@ module _ {rom : ℕ → ℕ} {v : ℕ} {k nx o c k′ nx′ o′ c′ : List ℕ
   same-size l x len e = rw e (length-set l v x ∙ len)
 
   sized-more : Sized k′ nx′ o′ c′
-  sized-more = record { kinds = same-size k (nodeOf rom v .kind) (size .kinds) (lays .kind); nexts = same-size nx (nodeOf rom v .next) (size .nexts) (lays .next); others = same-size o (nodeOf rom v .other) (size .others) (lays .other); costs = same-size c (nodeOf rom v .cost) (size .costs) (lays .cost) }
+  sized-more = record { kinds = same-size k (nodeOf d rom v .kind) (size .kinds) (lays .kind); nexts = same-size nx (nodeOf d rom v .next) (size .nexts) (lays .next); others = same-size o (nodeOf d rom v .other) (size .others) (lays .other); costs = same-size c (nodeOf d rom v .cost) (size .costs) (lays .cost) }
 
-  holds-here : Holds rom k′ nx′ o′ c′ v
-  holds-here = record { kind = stored k (nodeOf rom v .kind) (size .kinds) (lays .kind); next = stored nx (nodeOf rom v .next) (size .nexts) (lays .next); other = stored o (nodeOf rom v .other) (size .others) (lays .other); cost = stored c (nodeOf rom v .cost) (size .costs) (lays .cost) }
+  holds-here : Holds d rom k′ nx′ o′ c′ v
+  holds-here = record { kind = stored k (nodeOf d rom v .kind) (size .kinds) (lays .kind); next = stored nx (nodeOf d rom v .next) (size .nexts) (lays .next); other = stored o (nodeOf d rom v .other) (size .others) (lays .other); cost = stored c (nodeOf d rom v .cost) (size .costs) (lays .cost) }
 
-  holds-kept : (u : ℕ) → Dec (u ≡ v) → Holds rom k nx o c u → Holds rom k′ nx′ o′ c′ u
+  holds-kept : (u : ℕ) → Dec (u ≡ v) → Holds d rom k nx o c u → Holds d rom k′ nx′ o′ c′ u
   holds-kept u (yes e) h = rw e holds-here
-  holds-kept u (no ne) h = record { kind = kept k (nodeOf rom v .kind) (lays .kind) u ne ∙ h .kind; next = kept nx (nodeOf rom v .next) (lays .next) u ne ∙ h .next; other = kept o (nodeOf rom v .other) (lays .other) u ne ∙ h .other; cost = kept c (nodeOf rom v .cost) (lays .cost) u ne ∙ h .cost }
+  holds-kept u (no ne) h = record { kind = kept k (nodeOf d rom v .kind) (lays .kind) u ne ∙ h .kind; next = kept nx (nodeOf d rom v .next) (lays .next) u ne ∙ h .next; other = kept o (nodeOf d rom v .other) (lays .other) u ne ∙ h .other; cost = kept c (nodeOf d rom v .cost) (lays .cost) u ne ∙ h .cost }
 
-  nothing-kept : (u : ℕ) → Dec (u ≡ v) → Nothing k nx o c u → Holds rom k′ nx′ o′ c′ u ⊎ Nothing k′ nx′ o′ c′ u
+  nothing-kept : (u : ℕ) → Dec (u ≡ v) → Nothing k nx o c u → Holds d rom k′ nx′ o′ c′ u ⊎ Nothing k′ nx′ o′ c′ u
   nothing-kept u (yes e) h = inl (rw e holds-here)
-  nothing-kept u (no ne) h = inr (record { kind = kept k (nodeOf rom v .kind) (lays .kind) u ne ∙ h .kind; next = kept nx (nodeOf rom v .next) (lays .next) u ne ∙ h .next; other = kept o (nodeOf rom v .other) (lays .other) u ne ∙ h .other; cost = kept c (nodeOf rom v .cost) (lays .cost) u ne ∙ h .cost })
+  nothing-kept u (no ne) h = inr (record { kind = kept k (nodeOf d rom v .kind) (lays .kind) u ne ∙ h .kind; next = kept nx (nodeOf d rom v .next) (lays .next) u ne ∙ h .next; other = kept o (nodeOf d rom v .other) (lays .other) u ne ∙ h .other; cost = kept c (nodeOf d rom v .cost) (lays .cost) u ne ∙ h .cost })
 
 -- the place at the head is visited
-pub laying-more : {rom : ℕ → ℕ} {k nx o c k′ nx′ o′ c′ q q′ : List ℕ} {head count : ℕ} → Laying rom k nx o c q head → head < count → getD q head 0 < 16384
-    → Lays rom (getD q head 0) k nx o c k′ nx′ o′ c′ → ((i : ℕ) → i < count → getD q′ i 0 ≡ getD q i 0) → Laying rom k′ nx′ o′ c′ q′ (head + 1)
-laying-more {rom} {k} {nx} {o} {c} {k′} {nx′} {o′} {c′} {q} {q′} {head} l in-it lt lays same =
+pub laying-more : {d : Device} {rom : ℕ → ℕ} {k nx o c k′ nx′ o′ c′ q q′ : List ℕ} {head count : ℕ} → Laying d rom k nx o c q head → head < count → getD q head 0 < 16384
+    → Lays d rom (getD q head 0) k nx o c k′ nx′ o′ c′ → ((i : ℕ) → i < count → getD q′ i 0 ≡ getD q i 0) → Laying d rom k′ nx′ o′ c′ q′ (head + 1)
+laying-more {d} {rom} {k} {nx} {o} {c} {k′} {nx′} {o′} {c′} {q} {q′} {head} l in-it lt lays same =
     record {
       sized = sized-more (l .sized) lt lays;
       each = λ u. ⊎-elim (λ h. inl (holds-kept (l .sized) lt lays u (ℕ-discrete u (getD q head 0)) h)) (λ h. nothing-kept (l .sized) lt lays u (ℕ-discrete u (getD q head 0)) h) (l .each u);
       done = λ i h. rw (same i (omega (arith, h, in-it))) (before i h (ℕ-discrete i head));
     }
   where
-    before : (i : ℕ) → i < head + 1 → Dec (i ≡ head) → Holds rom k′ nx′ o′ c′ (getD q i 0)
+    before : (i : ℕ) → i < head + 1 → Dec (i ≡ head) → Holds d rom k′ nx′ o′ c′ (getD q i 0)
     before i h (yes e) = rw e (holds-here (l .sized) lt lays)
     before i h (no ne) = holds-kept (l .sized) lt lays (getD q i 0) (ℕ-discrete (getD q i 0) (getD q head 0)) (l .done i (omega arith))
 
 -- what is reached from a place of the image is one
-pub inside-image : {rom : ℕ → ℕ} → ((at : ℕ) → rom at < 256) → {s count head : ℕ} {m q : List ℕ} → s < 16384 → Search (flowGraph rom) s m q count head → head < count → getD q head 0 < 16384
-inside-image {rom} bytes h search lt = reach-inside (flow-inside rom bytes) (search .sound _ lt) h
+pub inside-image : (d : Device) {rom : ℕ → ℕ} → ((at : ℕ) → rom at < 256) → {s count head : ℕ} {m q : List ℕ} → s < 16384 → Search (flowGraph d rom) s m q count head → head < count → getD q head 0 < 16384
+inside-image d {rom} bytes h search lt = reach-inside (flow-inside d rom bytes) (search .sound _ lt) h
 
-module _ {rom : ℕ → ℕ} (bytes : (at : ℕ) → rom at < 256) {k nx o c q : List ℕ} {head : ℕ} (l : Laying rom k nx o c q head) where
+module _ {d : Device} {rom : ℕ → ℕ} (bytes : (at : ℕ) → rom at < 256) {k nx o c q : List ℕ} {head : ℕ} (l : Laying d rom k nx o c q head) where
   laid : Laid k nx o 16384
   laid =
       record {
@@ -88,30 +89,30 @@ module _ {rom : ℕ → ℕ} (bytes : (at : ℕ) → rom at < 256) {k nx o c q :
         nexts = l .sized .nexts;
         others = l .sized .others;
         small = omega arith;
-        next-lt = λ v h. ⊎-elim (λ x. omega (arith, x .next, node-good rom bytes v h .next-lt)) (λ x. omega (arith, x .next)) (l .each v);
-        other-lt = λ v h. ⊎-elim (λ x. omega (arith, x .other, node-good rom bytes v h .other-lt)) (λ x. omega (arith, x .other)) (l .each v);
+        next-lt = λ v h. ⊎-elim (λ x. omega (arith, x .next, node-good d rom bytes v h .next-lt)) (λ x. omega (arith, x .next)) (l .each v);
+        other-lt = λ v h. ⊎-elim (λ x. omega (arith, x .other, node-good d rom bytes v h .other-lt)) (λ x. omega (arith, x .other)) (l .each v);
       }
 
   costs : Costs k c 16384
   costs =
       record {
         costs = l .sized .costs;
-        on-pos = λ v h e. ⊎-elim (λ x. omega (arith, x .cost, node-good rom bytes v h .on-pos (sym (x .kind) ∙ e))) (λ x. absurd (omega (arith, x .kind, e))) (l .each v);
-        end-pos = λ v h e. ⊎-elim (λ x. omega (arith, x .cost, node-good rom bytes v h .end-pos (sym (x .kind) ∙ e))) (λ x. absurd (omega (arith, x .kind, e))) (l .each v);
-        le = λ v h. ⊎-elim (λ x. omega (arith, x .cost, node-good rom bytes v h .le)) (λ x. omega (arith, x .cost)) (l .each v);
+        on-pos = λ v h e. ⊎-elim (λ x. omega (arith, x .cost, node-good d rom bytes v h .on-pos (sym (x .kind) ∙ e))) (λ x. absurd (omega (arith, x .kind, e))) (l .each v);
+        end-pos = λ v h e. ⊎-elim (λ x. omega (arith, x .cost, node-good d rom bytes v h .end-pos (sym (x .kind) ∙ e))) (λ x. absurd (omega (arith, x .kind, e))) (l .each v);
+        le = λ v h. ⊎-elim (λ x. omega (arith, x .cost, node-good d rom bytes v h .le)) (λ x. omega (arith, x .cost)) (l .each v);
       }
 
   -- the head has come to the end of the queue
-  module _ {s count : ℕ} {m : List ℕ} (end : count ≤ head) (room : Room m q count) (search : Search (flowGraph rom) s m q count head) where
-    holds : (v : ℕ) → Marked m v → Holds rom k nx o c v
+  module _ {s count : ℕ} {m : List ℕ} (end : count ≤ head) (room : Room m q count) (search : Search (flowGraph d rom) s m q count head) where
+    holds : (v : ℕ) → Marked m v → Holds d rom k nx o c v
     holds v mk =
         let on = search .onq v mk in
-        subst (λ (u : ℕ). Holds rom k nx o c u) (on .2) (l .done (on .0) (omega (arith, on .1, end)))
+        subst (λ (u : ℕ). Holds d rom k nx o c u) (on .2) (l .done (on .0) (omega (arith, on .1, end)))
 
-    found : Reached (flowGraph rom) s m
+    found : Reached (flowGraph d rom) s m
     found = search-end search end
 
-    agrees : Agree (flowGraph rom) (graphOf k nx o) (flowCost rom) (costOf c) s
+    agrees : Agree (flowGraph d rom) (graphOf k nx o) (flowCost d rom) (costOf c) s
     unfolding flowGraph flowCost graphOf costOf
     agrees =
         record {
@@ -121,7 +122,7 @@ module _ {rom : ℕ → ℕ} (bytes : (at : ℕ) → rom at < 256) {k nx o c q :
           cost = λ v r in-it. sym (holds v (found .complete v r) .cost);
         }
 
-    pub explored : Explored rom s k nx o c m q count
+    pub explored : Explored d rom s k nx o c m q count
     explored =
         record {
           laid = laid;

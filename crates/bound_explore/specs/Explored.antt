@@ -3,8 +3,8 @@ use mathlib.Core.Path.{_≡_}
 use mathlib.Core.List.{List}
 use Prim.Native.Nat.{ℕ}
 use lib.ListN.{length, getD, set}
-use Rattle.graph.specs.Laid.{places}
-use Rattle.graph.specs.Laid.{graphOf, Laid, Costs}
+use Rattle.device.specs.declared.Device.{Device}
+use Rattle.graph.specs.Laid.{places, graphOf, Laid, Costs}
 use Rattle.graph_search.specs.Marks.{Marked, Blank, Listed}
 use Rattle.graph_search.specs.Search.{Reached}
 use Rattle.bound_flow.specs.Flow.{nodeOf}
@@ -24,23 +24,23 @@ pub record Empty (k nx o c : List ℕ) : Type 0 where
   pub costs : Blank c
 
 -- the node of v is laid
-pub record Lays (rom : ℕ → ℕ) (v : ℕ) (k nx o c k′ nx′ o′ c′ : List ℕ) : Type 0 where
-  pub kind : k′ ≡ set k v (nodeOf rom v .kind)
-  pub next : nx′ ≡ set nx v (nodeOf rom v .next)
-  pub other : o′ ≡ set o v (nodeOf rom v .other)
-  pub cost : c′ ≡ set c v (nodeOf rom v .cost)
+pub record Lays (d : Device) (rom : ℕ → ℕ) (v : ℕ) (k nx o c k′ nx′ o′ c′ : List ℕ) : Type 0 where
+  pub kind : k′ ≡ set k v (nodeOf d rom v .kind)
+  pub next : nx′ ≡ set nx v (nodeOf d rom v .next)
+  pub other : o′ ≡ set o v (nodeOf d rom v .other)
+  pub cost : c′ ≡ set c v (nodeOf d rom v .cost)
 
 -- the arrays hold the node of v
-pub record Holds (rom : ℕ → ℕ) (k nx o c : List ℕ) (v : ℕ) : Type 0 where
-  pub kind : getD k v 0 ≡ nodeOf rom v .kind
-  pub next : getD nx v 0 ≡ nodeOf rom v .next
-  pub other : getD o v 0 ≡ nodeOf rom v .other
-  pub cost : getD c v 0 ≡ nodeOf rom v .cost
+pub record Holds (d : Device) (rom : ℕ → ℕ) (k nx o c : List ℕ) (v : ℕ) : Type 0 where
+  pub kind : getD k v 0 ≡ nodeOf d rom v .kind
+  pub next : getD nx v 0 ≡ nodeOf d rom v .next
+  pub other : getD o v 0 ≡ nodeOf d rom v .other
+  pub cost : getD c v 0 ≡ nodeOf d rom v .cost
 
 -- m marks what is reached from s, q lists it, and the arrays hold its nodes
-pub record Explored (rom : ℕ → ℕ) (s : ℕ) (k nx o c m q : List ℕ) (count : ℕ) : Type 0 where
+pub record Explored (d : Device) (rom : ℕ → ℕ) (s : ℕ) (k nx o c m q : List ℕ) (count : ℕ) : Type 0 where
   pub laid : Laid k nx o places
   pub costs : Costs k c places
   pub reached : Reached (graphOf k nx o) s m
   pub listed : Listed m q count
-  pub holds : (v : ℕ) → Marked m v → Holds rom k nx o c v
+  pub holds : (v : ℕ) → Marked m v → Holds d rom k nx o c v

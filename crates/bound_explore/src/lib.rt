@@ -1,13 +1,13 @@
-// The places of an image that are reached from a place, laid in arrays as a graph.
+// The places of an image, seen through the window of P3, that are reached from a place, laid in arrays as a graph.
 use bound_flow::node_at;
+use device::Device;
 use graph_search::mark;
 ghost use mathlib.Core.Path.{_≡_};
-ghost use Prim.Native.Nat.{_<_};
+ghost use Prim.Native.Nat.{_+_, _*_, _%_, _<_, _≤_};
 ghost use lib.ListN.{length};
-ghost use Rattle.numbers.specs.Sizes.{imageBytes};
 ghost use Rattle.graph.specs.Laid.{places};
 ghost use Rattle.graph.specs.Graph.{Edge};
-ghost use Rattle.sheet.specs.Reading.{romOf};
+ghost use Rattle.device.specs.Device.{romOf};
 ghost use Rattle.graph_search.specs.Marks.{Blank, Room, Grown};
 ghost use Rattle.graph_search.specs.Search.{Visited};
 ghost use Rattle.bound_flow.specs.Flow.{flowGraph};
@@ -15,7 +15,9 @@ ghost use Rattle.bound_explore.specs.Explored.{Sized, Empty, Lays, Explo
 
 // Lays the node of v, and marks what follows it.
 fn visit(
+    d: Device,
     image: &[u8],
+    p3: u8,
     kind: &mut [u8],
     next: &mut [u16],
     other: &mut [u16],
@@ -25,12 +27,12 @@ fn visit(
     count: usize,
     v: usize,
 ) -> usize
-    requires { ⌜ (length (now image) ≡ imageBytes) × Sized (now kind) (now next) (now other) (now cost) × Room (now m) (now q) count × (length (now m) ≡ places) × (v < places) ⌝ }
-    ensures { λ r. ⌜ Lays (romOf (now (image .entry))) v (now (kind .entry)) (now (next .entry)) (now (other .entry)) (now (cost .entry)) (now (kind .exit)) (now (next .exit)) (now (other .exit)) (now (cost .exit))
-        × Grown (Edge (flowGraph (romOf (now (image .entry)))) v) (now (m .entry)) (now (q .entry)) count (now (m .exit)) (now (q .exit)) r
-        × Visited (flowGraph (romOf (now (image .entry)))) v (now (m .exit)) ⌝ }
+    requires { ⌜ (8192 + 4096 * (p3 % 4) ≤ length (now image)) × Sized (now kind) (now next) (now other) (now cost) × Room (now m) (now q) count × (length (now m) ≡ places) × (v < places) ⌝ }
+    ensures { λ r. ⌜ Lays d (romOf (now (image .entry)) p3) v (now (kind .entry)) (now (next .entry)) (now (other .entry)) (now (cost .entry)) (now (kind .exit)) (now (next .exit)) (now (other .exit)) (now (cost .exit))
+        × Grown (Edge (flowGraph d (romOf (now (image .entry)) p3)) v) (now (m .entry)) (now (q .entry)) count (now (m .exit)) (now (q .exit)) r
+        × Visited (flowGraph d (romOf (now (image .entry)) p3)) v (now (m .exit)) ⌝ }
 {
-    let x = node_at(image, v);
+    let x = node_at(d, image, p3, v);
     kind[v] = x.kind;
     next[v] = x.next;
     other[v] = x.other;
@@ -44,7 +46,9 @@ fn visit(
 
 // Reads what is reached from s and no more. Returns how many places that is.
 pub fn explore(
+    d: Device,
     image: &[u8],
+    p3: u8,
     s: usize,
     kind: &mut [u8],
     next: &mut [u16],
@@ -53,14 +57,14 @@ pub fn explore(
     m: &mut [u8],
     q: &mut [u16],
 ) -> usize
-    requires { ⌜ (length (now image) ≡ imageBytes) × (s < places) × Empty (now kind) (now next) (now other) (now cost) × Blank (now m) × (length (now m) ≡ places) × (length (now q) ≡ places) ⌝ }
-    ensures { λ r. ⌜ Explored (romOf (now (image .entry))) s (now (kind .exit)) (now (next .exit)) (now (other .exit)) (now (cost .exit)) (now (m .exit)) (now (q .exit)) r ⌝ }
+    requires { ⌜ (8192 + 4096 * (p3 % 4) ≤ length (now image)) × (s < places) × Empty (now kind) (now next) (now other) (now cost) × Blank (now m) × (length (now m) ≡ places) × (length (now q) ≡ places) ⌝ }
+    ensures { λ r. ⌜ Explored d (romOf (now (image .entry)) p3) s (now (kind .exit)) (now (next .exit)) (now (other .exit)) (now (cost .exit)) (now (m .exit)) (now (q .exit)) r ⌝ }
 {
     let mut count = mark(m, q, 0, s);
     let mut head = 0;
     while head < count {
         let v = q[head] as usize;
-        count = visit(image, kind, next, other, cost, m, q, count, v);
+        count = visit(d, image, p3, kind, next, other, cost, m, q, count, v);
         head += 1;
     }
     count

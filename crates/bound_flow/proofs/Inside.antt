@@ -7,6 +7,7 @@ use native.Mathlib.Omega.{arith}
 use lib.Dec.{T, leb, leb→le, le→leb}
 use Rattle.laws.specs.Choice.{pick, both}
 use Rattle.laws.proofs.Computed.{implies, at, both-left, both-right, modus}
+use Rattle.device.specs.declared.Device.{Device}
 use Rattle.sheet.specs.Operation.{Operation}
 use Rattle.sheet.specs.Table.{Mark, lines, lineAt}
 use Rattle.sheet.specs.Fields.{fieldA}
@@ -19,7 +20,7 @@ use Rattle.row.specs.Columns.{setsEi}
 use Rattle.row.proofs.RowsValid.{fitsOperation, line-fits, target-lt}
 use Rattle.graph.specs.Graph.{GoesOn, Ends}
 use Rattle.graph.specs.Laid.{Inside}
-use Rattle.bound_flow.specs.Flow.{Way, place, addressOf, isKnown, isOne, writesP16, wayBy, excluded, forked, nodeBy, nodeRead, nodeOf, flowGraph, flowCost}
+use Rattle.bound_flow.specs.Flow.{Way, place, addressOf, isKnown, isOne, writesGuarded, wayBy, excluded, forked, nodeBy, nodeRead, nodeOf, flowGraph, flowCost}
 use Rattle.bound_flow.specs.declared.Node.{Node}
 
 pub record Good (x : Node) : Type 0 where
@@ -41,7 +42,7 @@ place-lt address false h = omega arith
 excluded-good : Good excluded
 excluded-good = record { next-lt = omega arith; other-lt = omega arith; on-pos = λ e. absurd (omega (arith, e)); end-pos = λ e. absurd (omega (arith, e)); le = omega arith }
 
-module _ (address : ℕ) (known : Bool) (i : Insn) (bytes cycles : ℕ) (pos : 0 < cycles) (few : cycles ≤ 3) where
+module _ (d : Device) (address : ℕ) (known : Bool) (i : Insn) (bytes cycles : ℕ) (pos : 0 < cycles) (few : cycles ≤ 3) where
   wrapped-lt : wrapped address bytes < 8192
   wrapped-lt = omega arith
 
@@ -59,8 +60,8 @@ module _ (address : ℕ) (known : Bool) (i : Insn) (bytes cycles : ℕ) (pos : 0
   picked-good true k = nowhere-good
   picked-good false k = onward-good k
 
-  way-good : (n : ℕ) → i .a < n → address < 8192 → (s : Mark) (o : Operation) → T (fitsOperation n o) → Good (nodeBy address known i bytes cycles (wayBy i s o))
-  way-good n h l s (Operation.work d a) f = picked-good (writesP16 i (Operation.work d a)) (isOne s)
+  way-good : (n : ℕ) → i .a < n → address < 8192 → (s : Mark) (o : Operation) → T (fitsOperation n o) → Good (nodeBy address known i bytes cycles (wayBy d i s o))
+  way-good n h l s (Operation.work to a) f = picked-good (writesGuarded d i (Operation.work to a)) (isOne s)
   way-good n h l s (Operation.branch t) f = forked-good known (wrapped address bytes) (targetOf t address (i .a)) wrapped-lt (target-lt n t address (i .a) l h f)
   way-good n h l s (Operation.call e) f = nowhere-good
   way-good n h l s Operation.return f = nowhere-good
@@ -68,25 +69,25 @@ module _ (address : ℕ) (known : Bool) (i : Insn) (bytes cycles : ℕ) (pos : 0
   way-good n h l s (Operation.IL⟵IL-and-r e) f = picked-good (setsEi (Operation.IL⟵IL-and-r e)) (isOne s)
   way-good n h l s Operation.no-operation f = onward-good (isOne s)
 
-read-good : (rom : ℕ → ℕ) → ((at : ℕ) → rom at < 256) → (address : ℕ) (known : Bool) → address < 8192 → (r : Read) → readAt rom address ≡ r → Good (nodeRead address known r)
-read-good rom bytes address known l (Read.Row i) e =
+read-good : (d : Device) (rom : ℕ → ℕ) → ((at : ℕ) → rom at < 256) → (address : ℕ) (known : Bool) → address < 8192 → (r : Read) → readAt rom address ≡ r → Good (nodeRead d address known r)
+read-good d rom bytes address known l (Read.Row i) e =
     let h = read-in-fields rom address i e bytes in
     let line = lineAt (i .row) in
     let c = cycles-of (i .row) (h .some) (h .row) in
-    way-good address known i (line .bytes) (line .cycles) (leb→le 1 (line .cycles) (both-left (leb 1 (line .cycles)) _ c)) (leb→le (line .cycles) 3 (both-right (leb 1 (line .cycles)) _ c))
+    way-good d address known i (line .bytes) (line .cycles) (leb→le 1 (line .cycles) (both-left (leb 1 (line .cycles)) _ c)) (leb→le (line .cycles) 3 (both-right (leb 1 (line .cycles)) _ c))
     (fieldA (line .codes)) (h .a) l (line .s) (line .operation) (line-fits (i .row) (h .row))
-read-good rom bytes address known l Read.Unassigned e = excluded-good
-read-good rom bytes address known l Read.PastEnd e = excluded-good
+read-good d rom bytes address known l Read.Unassigned e = excluded-good
+read-good d rom bytes address known l Read.PastEnd e = excluded-good
 
-pub node-good : (rom : ℕ → ℕ) → ((at : ℕ) → rom at < 256) → (v : ℕ) → v < 16384 → Good (nodeOf rom v)
+pub node-good : (d : Device) (rom : ℕ → ℕ) → ((at : ℕ) → rom at < 256) → (v : ℕ) → v < 16384 → Good (nodeOf d rom v)
 unfolding nodeOf
-node-good rom bytes v l = read-good rom bytes (addressOf v) (isKnown v) (omega arith) (readAt rom (addressOf v)) refl
+node-good d rom bytes v l = read-good d rom bytes (addressOf v) (isKnown v) (omega arith) (readAt rom (addressOf v)) refl
 
 -- edges lead from places of the image to places of the image
-pub flow-inside : (rom : ℕ → ℕ) → ((at : ℕ) → rom at < 256) → Inside (flowGraph rom) 16384
+pub flow-inside : (d : Device) (rom : ℕ → ℕ) → ((at : ℕ) → rom at < 256) → Inside (flowGraph d rom) 16384
 unfolding flowGraph
-flow-inside rom bytes = record { edge = λ v w l e. ⊎-elim (λ n. rw n (node-good rom bytes v l .next-lt)) (λ n. rw n (node-good rom bytes v l .other-lt)) (e .1) }
+flow-inside d rom bytes = record { edge = λ v w l e. ⊎-elim (λ n. rw n (node-good d rom bytes v l .next-lt)) (λ n. rw n (node-good d rom bytes v l .other-lt)) (e .1) }
 
-pub cost-pos : (rom : ℕ → ℕ) → ((at : ℕ) → rom at < 256) → (v : ℕ) → v < 16384 → GoesOn (flowGraph rom) v ⊎ Ends (flowGraph rom) v → 0 < flowCost rom v
+pub cost-pos : (d : Device) (rom : ℕ → ℕ) → ((at : ℕ) → rom at < 256) → (v : ℕ) → v < 16384 → GoesOn (flowGraph d rom) v ⊎ Ends (flowGraph d rom) v → 0 < flowCost d rom v
 unfolding flowGraph flowCost
-cost-pos rom bytes v l k = ⊎-elim (λ on. node-good rom bytes v l .on-pos on) (λ end. node-good rom bytes v l .end-pos end) k
+cost-pos d rom bytes v l k = ⊎-elim (λ on. node-good d rom bytes v l .on-pos on) (λ end. node-good d rom bytes v l .end-pos end) k

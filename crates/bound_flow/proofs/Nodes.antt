@@ -4,6 +4,7 @@ use Prim.Native.Nat.{ℕ, _<_}
 use native.Mathlib.Omega.{arith}
 use lib.Dec.{leb, leb→le}
 use Rattle.laws.proofs.Computed.{at}
+use Rattle.device.specs.declared.Device.{Device}
 use Rattle.sheet.specs.Fields.{fieldA, InFields}
 use Rattle.sheet.specs.Reading.{readAt}
 use Rattle.sheet.specs.Table.{lines, lineAt}
@@ -21,13 +22,13 @@ pub operand-lt : (i : Insn) → InFields i → i .a < 8192
 unfolding lineAt lines
 operand-lt i h = omega (arith, h .a, leb→le (fieldA (lineAt (i .row) .codes)) 8192 (at (λ row. leb (fieldA (lineAt row .codes)) 8192) 108 tt (i .row) (h .row)))
 
-module _ (rom : ℕ → ℕ) (v : ℕ) where
-  pub none-node : (r : Read) → r ≡ readAt rom (addressOf v) → NoRow r → (x : Node) → x ≡ excluded → x ≡ nodeOf rom v
+module _ (d : Device) (rom : ℕ → ℕ) (v : ℕ) where
+  pub none-node : (r : Read) → r ≡ readAt rom (addressOf v) → NoRow r → (x : Node) → x ≡ excluded → x ≡ nodeOf d rom v
   unfolding nodeOf
-  none-node r e t x q = q ∙ (no-row r (λ (s : Read). excluded ≡ nodeRead (addressOf v) (isKnown v) s) t refl refl ∙ ap (nodeRead (addressOf v) (isKnown v)) e)
+  none-node r e t x q = q ∙ (no-row r (λ (s : Read). excluded ≡ nodeRead d (addressOf v) (isKnown v) s) t refl refl ∙ ap (nodeRead d (addressOf v) (isKnown v)) e)
 
-  pub row-node : (i : Insn) → readAt rom (addressOf v) ≡ Read.Row i → (bytes cycles way : ℕ) → TimedFrom (rom (addressOf v)) bytes cycles → IsWay i way
-      → (x : Node) → x ≡ nodeBy (addressOf v) (isKnown v) i bytes cycles (numbered way) → x ≡ nodeOf rom v
+  pub row-node : (i : Insn) → readAt rom (addressOf v) ≡ Read.Row i → (bytes cycles way : ℕ) → TimedFrom (rom (addressOf v)) bytes cycles → IsWay d i way
+      → (x : Node) → x ≡ nodeBy (addressOf v) (isKnown v) i bytes cycles (numbered way) → x ≡ nodeOf d rom v
   unfolding nodeOf
   row-node i e bytes cycles way timed is x q =
       let c = columns rom (addressOf v) i e bytes cycles timed in

@@ -7,8 +7,11 @@ use native.Mathlib.Omega.{arith}
 use lib.Dec.{T, eqb, eqb→eq, ltb, ltb→lt}
 use lib.ListN.{getD}
 use borrow.Author.Tests.{eq-eqb, ne-eqb}
+use Rattle.laws.specs.Among.{among}
 use Rattle.laws.specs.Choice.{pick, both}
 use Rattle.laws.proofs.Computed.{listed, listed-at, implies, at, NoKey, rest-at}
+use Rattle.device.specs.Device.{guarded}
+use Rattle.device.specs.declared.Device.{Device}
 use Rattle.sheet.specs.Operation.{Target, Operation}
 use Rattle.sheet.specs.Table.{Mark, lines, lineAt}
 use Rattle.sheet.specs.Fields.{InFields}
@@ -20,7 +23,7 @@ use Rattle.bound_flow.specs.Ways.{numbered, IsWay}
 
 -- the number of a row's way, 7 where the port that it writes decides
 abbrev numberBy : Mark → Operation → ℕ
-numberBy s (Operation.work d a) = pick (writesPort (Operation.work d a)) 7 (pick (isOne s) 2 3)
+numberBy s (Operation.work to a) = pick (writesPort (Operation.work to a)) 7 (pick (isOne s) 2 3)
 numberBy s (Operation.branch Target.page) = 4
 numberBy s (Operation.branch Target.half) = 5
 numberBy s (Operation.branch Target.whole) = 6
@@ -50,48 +53,48 @@ few-ways : (row : ℕ) → row < 108 → numberOf row < 8
 unfolding lineAt lines
 few-ways row h = ltb→lt (numberOf row) 8 (at (λ row. ltb (numberOf row) 8) 108 tt row h)
 
--- a way by its number and by whether the port is P16
+-- a way by its number and by whether the port is guarded
 abbrev settled : ℕ → Bool → Way
-settled n to16 = pick (eqb n 7) (pick to16 nowhere (onward true)) (numbered n)
+settled n shut = pick (eqb n 7) (pick shut nowhere (onward true)) (numbered n)
 
-work-way : (writes one to16 : Bool) → T (implies writes one) → pick (both writes to16) nowhere (onward one) ≡ settled (pick writes 7 (pick one 2 3)) to16
+work-way : (writes one shut : Bool) → T (implies writes one) → pick (both writes shut) nowhere (onward one) ≡ settled (pick writes 7 (pick one 2 3)) shut
 work-way true true true t = refl
 work-way true true false t = refl
-work-way true false to16 t = absurd t
-work-way false true to16 t = refl
-work-way false false to16 t = refl
+work-way true false shut t = absurd t
+work-way false true shut t = refl
+work-way false false shut t = refl
 
-latch-way : (sets one to16 : Bool) → pick sets nowhere (onward one) ≡ settled (pick sets 0 (pick one 2 3)) to16
-latch-way true one to16 = refl
-latch-way false true to16 = refl
-latch-way false false to16 = refl
+latch-way : (sets one shut : Bool) → pick sets nowhere (onward one) ≡ settled (pick sets 0 (pick one 2 3)) shut
+latch-way true one shut = refl
+latch-way false true shut = refl
+latch-way false false shut = refl
 
-way-by : (i : Insn) (s : Mark) (o : Operation) → T (implies (writesPort o) (isOne s)) → wayBy i s o ≡ settled (numberBy s o) (eqb (i .b) 16)
-way-by i s (Operation.work d a) t = work-way (writesPort (Operation.work d a)) (isOne s) (eqb (i .b) 16) t
-way-by i s (Operation.branch Target.page) t = refl
-way-by i s (Operation.branch Target.half) t = refl
-way-by i s (Operation.branch Target.whole) t = refl
-way-by i s (Operation.call e) t = refl
-way-by i s Operation.return t = refl
-way-by i s Operation.return-FLAG t = refl
-way-by i s (Operation.IL⟵IL-and-r e) t = latch-way (setsEi (Operation.IL⟵IL-and-r e)) (isOne s) (eqb (i .b) 16)
-way-by i s Operation.no-operation t = latch-way false (isOne s) (eqb (i .b) 16)
+way-by : (d : Device) (i : Insn) (s : Mark) (o : Operation) → T (implies (writesPort o) (isOne s)) → wayBy d i s o ≡ settled (numberBy s o) (among (guarded d) (i .b))
+way-by d i s (Operation.work to a) t = work-way (writesPort (Operation.work to a)) (isOne s) (among (guarded d) (i .b)) t
+way-by d i s (Operation.branch Target.page) t = refl
+way-by d i s (Operation.branch Target.half) t = refl
+way-by d i s (Operation.branch Target.whole) t = refl
+way-by d i s (Operation.call e) t = refl
+way-by d i s Operation.return t = refl
+way-by d i s Operation.return-FLAG t = refl
+way-by d i s (Operation.IL⟵IL-and-r e) t = latch-way (setsEi (Operation.IL⟵IL-and-r e)) (isOne s) (among (guarded d) (i .b))
+way-by d i s Operation.no-operation t = latch-way false (isOne s) (among (guarded d) (i .b))
 
-module _ (i : Insn) (h : InFields i) (way : ℕ) (e : way ≡ getD letters (i .row) 0 - 97) where
+module _ (d : Device) (i : Insn) (h : InFields i) (way : ℕ) (e : way ≡ getD letters (i .row) 0 - 97) where
   way-number : way ≡ numberOf (i .row)
   way-number = e ∙ rw (letter-of (i .row) (h .row)) (omega arith)
 
-  settles : wayOf i (lineAt (i .row)) ≡ settled way (eqb (i .b) 16)
-  settles = way-by i (lineAt (i .row) .s) (lineAt (i .row) .operation) (port-sets (i .row) (h .row)) ∙ rw way-number
+  settles : wayOf d i (lineAt (i .row)) ≡ settled way (among (guarded d) (i .b))
+  settles = way-by d i (lineAt (i .row) .s) (lineAt (i .row) .operation) (port-sets (i .row) (h .row)) ∙ rw way-number
 
-  pub plain-way : (way ≡ 7 → ⊥) → IsWay i way
+  pub plain-way : (way ≡ 7 → ⊥) → IsWay d i way
   plain-way ne = record { is = settles ∙ rw (ne-eqb way 7 ne); few = omega (arith, ne, way-number, few-ways (i .row) (h .row)) }
 
-  pub to-p16 : way ≡ 7 → i .b ≡ 16 → IsWay i 0
-  to-p16 s p = record { is = settles ∙ rw (eq-eqb way 7 s, eq-eqb (i .b) 16 p); few = omega arith }
+  pub to-guarded : way ≡ 7 → among (guarded d) (i .b) ≡ true → IsWay d i 0
+  to-guarded s p = record { is = settles ∙ rw (eq-eqb way 7 s, p); few = omega arith }
 
-  pub to-other-port : way ≡ 7 → (i .b ≡ 16 → ⊥) → IsWay i 2
-  to-other-port s p = record { is = settles ∙ rw (eq-eqb way 7 s, ne-eqb (i .b) 16 p); few = omega arith }
+  pub to-other-port : way ≡ 7 → among (guarded d) (i .b) ≡ false → IsWay d i 2
+  to-other-port s p = record { is = settles ∙ rw (eq-eqb way 7 s, p); few = omega arith }
 
 -- of the seven ways the last
 pub last-way : (way : ℕ) → way < 7 → NoKey way (5 ∷ 4 ∷ 3 ∷ 2 ∷ 1 ∷ 0 ∷ []) → way ≡ 6

@@ -2,8 +2,11 @@
 use Prim.Native.Nat.{ℕ, _+_, _*_, _/_, _%_}
 use mathlib.Core.Bool.{Bool, true, false}
 use lib.Dec.{eqb}
+use Rattle.laws.specs.Among.{among}
 use Rattle.laws.specs.Choice.{pick, both}
 use Rattle.bits.specs.Bits.{bitOf}
+use Rattle.device.specs.Device.{guarded}
+use Rattle.device.specs.declared.Device.{Device}
 use Rattle.sheet.specs.Operation.{Target, Operation}
 use Rattle.sheet.specs.Table.{Mark, Line, lineAt}
 use Rattle.sheet.specs.Reading.{readAt, wrapped}
@@ -36,8 +39,8 @@ isOne Mark.set = true
 isOne Mark.by-operation = false
 
 -- a port is written by its number p, or as PORT[LR₃₋₂+4], which is one of 4 to 7; a row without p has 0 for it
-abbrev pub writesP16 : Insn → Operation → Bool
-writesP16 i o = both (writesPort o) (eqb (i .b) 16)
+abbrev pub writesGuarded : Device → Insn → Operation → Bool
+writesGuarded d i o = both (writesPort o) (among (guarded d) (i .b))
 
 -- how a path goes on after a row: not at all; to its end; at the next instruction, with SF known set or not; as a branch
 pub data Way : Type 0 where
@@ -46,18 +49,18 @@ pub data Way : Type 0 where
   onward : Bool → Way
   branches : Target → Way
 
--- "RTI ends a path. Excluded, with no next place: calls, RET, .., any row other than RTI that sets EI, any row writing P16."
-abbrev pub wayBy : Insn → Mark → Operation → Way
-wayBy i s (Operation.work d a) = pick (writesP16 i (Operation.work d a)) Way.nowhere (Way.onward (isOne s))
-wayBy i s (Operation.branch t) = Way.branches t
-wayBy i s (Operation.call e) = Way.nowhere
-wayBy i s Operation.return = Way.nowhere
-wayBy i s Operation.return-FLAG = Way.end
-wayBy i s (Operation.IL⟵IL-and-r e) = pick (setsEi (Operation.IL⟵IL-and-r e)) Way.nowhere (Way.onward (isOne s))
-wayBy i s Operation.no-operation = Way.onward (isOne s)
+-- "RTI ends a path. Excluded, with no next place: calls, RET, .., any row other than RTI that sets EI, any row writing P16." Q-6: "any row writing P3, by set or clear too, joins the bound's excluded rows"
+abbrev pub wayBy : Device → Insn → Mark → Operation → Way
+wayBy d i s (Operation.work to a) = pick (writesGuarded d i (Operation.work to a)) Way.nowhere (Way.onward (isOne s))
+wayBy d i s (Operation.branch t) = Way.branches t
+wayBy d i s (Operation.call e) = Way.nowhere
+wayBy d i s Operation.return = Way.nowhere
+wayBy d i s Operation.return-FLAG = Way.end
+wayBy d i s (Operation.IL⟵IL-and-r e) = pick (setsEi (Operation.IL⟵IL-and-r e)) Way.nowhere (Way.onward (isOne s))
+wayBy d i s Operation.no-operation = Way.onward (isOne s)
 
-abbrev pub wayOf : Insn → Line → Way
-wayOf i l = wayBy i (l .s) (l .operation)
+abbrev pub wayOf : Device → Insn → Line → Way
+wayOf d i l = wayBy d i (l .s) (l .operation)
 
 -- a node: a place's kind in the graph, what follows it, and its cycles
 abbrev pub excluded : Node
@@ -79,24 +82,25 @@ nodeBy at known i bytes cycles Way.end = ending cycles
 nodeBy at known i bytes cycles (Way.onward set) = going (place (wrapped at bytes) set) (place (wrapped at bytes) set) cycles
 nodeBy at known i bytes cycles (Way.branches t) = forked known (wrapped at bytes) (targetOf t at (i .a)) cycles
 
-abbrev pub nodeRow : ℕ → Bool → Insn → Line → Node
-nodeRow at known i l = nodeBy at known i (l .bytes) (l .cycles) (wayOf i l)
+abbrev pub nodeRow : Device → ℕ → Bool → Insn → Line → Node
+nodeRow d at known i l = nodeBy at known i (l .bytes) (l .cycles) (wayOf d i l)
 
 -- "unassigned codes"; and Q-8 of one whose bytes pass the end: "bound (there it is excluded)"
-abbrev pub nodeRead : ℕ → Bool → Read → Node
-nodeRead at known (Read.Row i) = nodeRow at known i (lineAt (i .row))
-nodeRead at known Read.Unassigned = excluded
-nodeRead at known Read.PastEnd = excluded
+abbrev pub nodeRead : Device → ℕ → Bool → Read → Node
+nodeRead d at known (Read.Row i) = nodeRow d at known i (lineAt (i .row))
+nodeRead d at known Read.Unassigned = excluded
+nodeRead d at known Read.PastEnd = excluded
 
-unfoldable pub nodeOf : (ℕ → ℕ) → ℕ → Node
-nodeOf rom v = nodeRead (addressOf v) (isKnown v) (readAt rom (addressOf v))
+-- the ROM is the image as P3 shows it
+unfoldable pub nodeOf : Device → (ℕ → ℕ) → ℕ → Node
+nodeOf d rom v = nodeRead d (addressOf v) (isKnown v) (readAt rom (addressOf v))
 
--- the flow graph of a ROM, and the cycles of its places
-unfoldable pub flowGraph : (ℕ → ℕ) → Graph
-flowGraph rom = record { kind = λ v. nodeOf rom v .kind; next = λ v. nodeOf rom v .next; other = λ v. nodeOf rom v .other }
+-- the flow graph of a device's ROM, and the cycles of its places
+unfoldable pub flowGraph : Device → (ℕ → ℕ) → Graph
+flowGraph d rom = record { kind = λ v. nodeOf d rom v .kind; next = λ v. nodeOf d rom v .next; other = λ v. nodeOf d rom v .other }
 
-unfoldable pub flowCost : (ℕ → ℕ) → ℕ → ℕ
-flowCost rom v = nodeOf rom v .cost
+unfoldable pub flowCost : Device → (ℕ → ℕ) → ℕ → ℕ
+flowCost d rom v = nodeOf d rom v .cost
 
 -- "the start is known"
 abbrev pub startOf : ℕ → ℕ

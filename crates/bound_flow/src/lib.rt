@@ -1,16 +1,19 @@
 // The places of an image as a flow graph: document 01, "The handler bound".
+use device::Device;
+use device::in_image;
+use device::is_guarded;
 use numbers::ADDRESSES;
 use reader::read_at;
 use sheet::Cost;
 use sheet::Insn;
 use sheet::Read;
 ghost use mathlib.Core.Path.{_≡_};
-ghost use Prim.Native.Nat.{_<_};
+ghost use Prim.Native.Nat.{_+_, _*_, _%_, _<_, _≤_};
 ghost use lib.ListN.{length};
-ghost use Rattle.numbers.specs.Sizes.{addresses, imageBytes};
+ghost use Rattle.numbers.specs.Sizes.{addresses};
+ghost use Rattle.device.specs.Device.{romOf};
 ghost use Rattle.graph.specs.Laid.{places};
 ghost use Rattle.sheet.specs.Fields.{InFields};
-ghost use Rattle.sheet.specs.Reading.{romOf};
 ghost use Rattle.bound_flow.specs.Flow.{going, excluded, ending, forked, nodeBy, nodeOf};
 ghost use Rattle.bound_flow.specs.Ways.{IsWay, numbered};
 
@@ -22,7 +25,7 @@ pub struct Node {
     pub cost: u32,
 }
 
-// By a row's number, a letter a row and a line for each section of the sheet: how a path goes on after it, as specs/Ways.antt numbers the ways, of which `a` is way 0; `h` is a row that writes a port: whether that is P16 decides. The first letter is row 0's, which is none.
+// By a row's number, a letter a row and a line for each section of the sheet: how a path goes on after it, as specs/Ways.antt numbers the ways, of which `a` is way 0; `h` is a row that writes a port: whether the device guards it decides. The first letter is row 0's, which is none.
 const WAYS: [u8; 108] = *b"\
     dccccccccccddcdcc\
     dd\
@@ -39,17 +42,17 @@ const WAYS: [u8; 108] = *b"\
     d\
     cccccccccccccccccccc";
 
-// The way after a row: of a row that writes a port, whether the port is P16 decides.
-fn way_of(i: Insn) -> u8
+// The way after a row: of a row that writes a port, whether the device guards the port decides.
+fn way_of(d: Device, i: Insn) -> u8
     requires { ⌜ InFields i ⌝ }
-    ensures { λ w. ⌜ IsWay i w ⌝ }
+    ensures { λ w. ⌜ IsWay d i w ⌝ }
 {
     let at = i.row as usize;
     let way = WAYS[at] - 97;
     if way != 7 {
         return way;
     }
-    if i.b == 16 {
+    if is_guarded(d, i.b) {
         return 0;
     }
     2
@@ -116,16 +119,17 @@ fn node_by(at: u16, known: bool, i: Insn, cost: Cost, way: u8) -> Node
     }
 }
 
-// What stands at a place of an image, and what follows it.
-pub fn node_at(image: &[u8], v: usize) -> Node
-    requires { ⌜ (length (now image) ≡ imageBytes) × (v < places) ⌝ }
-    ensures { λ r. ⌜ r ≡ nodeOf (romOf (now (image .entry))) v ⌝ }
+// What stands at a place of an image, seen through the window of P3, and what follows it.
+pub fn node_at(d: Device, image: &[u8], p3: u8, v: usize) -> Node
+    requires { ⌜ (8192 + 4096 * (p3 % 4) ≤ length (now image)) × (v < places) ⌝ }
+    ensures { λ r. ⌜ r ≡ nodeOf d (romOf (now (image .entry)) p3) v ⌝ }
 {
     let at = (v / 2) as u16;
-    let Read::Row(insn) = read_at(image, at) else {
+    let Read::Row(insn) = read_at(image, p3, at) else {
         return nowhere();
     };
-    let cost = sheet::timing(image[v / 2]);
-    let way = way_of(insn);
+    let i = in_image(p3, at);
+    let cost = sheet::timing(image[i]);
+    let way = way_of(d, insn);
     node_by(at, v % 2 == 1, insn, cost, way)
 }

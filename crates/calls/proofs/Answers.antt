@@ -1,7 +1,7 @@
 -- What the functions below answer, as the calls hand it on.
 use Prim.Native.Nat.{ℕ}
 use mathlib.Core.List.{List}
-use mathlib.Core.Path.{_≡_, refl, sym, ap, subst, _∙_}
+use mathlib.Core.Path.{_≡_, refl, sym, ap, subst}
 use Rattle.writer.specs.Writing.{paperOf, fromPaper}
 use Rattle.writer.specs.declared.Code.{Code}
 use Rattle.writer.specs.declared.Written.{Written}
@@ -9,11 +9,11 @@ use Rattle.writer.specs.declared.Written.the-variants as written
 use Rattle.machine.specs.declared.Machine.{Machine}
 use Rattle.machine_bytes.specs.Layout.{Holds}
 use Rattle.step.specs.Answers.{StepOf}
-use Rattle.step.specs.declared.Options.{Options}
-use Rattle.step.specs.declared.Stepped.{Stepped}
+use Rattle.device.specs.declared.Options.{Options}
 use Rattle.step_apart.specs.Answers.{LookOf, ActOf}
 use Rattle.run.specs.Answers.{RunOf}
 use Rattle.run.specs.declared.Ran.{Ran}
+use Rattle.step.specs.declared.Stepped.{Stepped}
 use Rattle.calls.specs.Calls.{Answers, RunAnswer}
 use Rattle.calls.specs.Numbers.{OfWrite}
 

@@ -1,9 +1,10 @@
--- Each of the base calls has one answer: two answers to the same that conform are equal, numbers and buffers.
+-- Each of the calls has one answer, on either device: two answers to the same that conform are equal, numbers and buffers.
 use Prim.Native.Nat.{ℕ}
 use mathlib.Core.List.{List}
 use mathlib.Core.Path.{_≡_, sym, ap, subst, _∙_}
 use lib.ListN.{length}
 use Rattle.numbers.specs.ComesBack.{Paper, valueAt, record-outside-the-ranges}
+use Rattle.device.specs.declared.Device.{Device}
 use Rattle.sheet.specs.declared.Insn.{Insn}
 use Rattle.writer.specs.Writing.{paperOf as codePaper}
 use Rattle.writer.proofs.RoundTrip.{one-answer as one-written}
@@ -14,7 +15,7 @@ use Rattle.machine_start.proofs.Starting.{reset-determined}
 use Rattle.machine_valid.proofs.Validity.{valid?}
 use Rattle.machine_bytes.specs.Layout.{recordBytes}
 use Rattle.machine_bytes.proofs.Tells.{one-record}
-use Rattle.step.specs.declared.Options.{Options}
+use Rattle.device.specs.declared.Options.{Options}
 use Rattle.step.specs.declared.Stepped.{Stepped}
 use Rattle.step.specs.Answers.{StepOf}
 use Rattle.step.proofs.Answering.{one-answer as one-stepped}
@@ -39,29 +40,29 @@ judged f g (no-record n r) (record-of m h a) = absurd (n m h)
 judged f g (record-of m h a) (no-record n r) = absurd (n m h)
 judged {A′ = A′} f g (record-of m h a) (record-of m′ h′ a′) = g m a (subst A′ (one-record m′ m h′ h) a′)
 
-module _ {bytes : List ℕ} {n n′ : ℕ} {z z′ : List ℕ} where
-  pub one-fresh : FreshCall bytes n z → FreshCall bytes n′ z′ → (n ≡ n′) × (z ≡ z′)
+module _ {d : Device} {bytes : List ℕ} {n n′ : ℕ} {z z′ : List ℕ} where
+  pub one-fresh : FreshCall d bytes n z → FreshCall d bytes n′ z′ → (n ≡ n′) × (z ≡ z′)
   one-fresh (wrong-length s p q) (wrong-length s′ p′ q′) = (agree p p′, agree q q′)
   one-fresh (wrong-length s p q) (fresh s′ p′ q′) = absurd (s s′)
   one-fresh (fresh s p q) (wrong-length s′ p′ q′) = absurd (s′ s)
   one-fresh (fresh s p q) (fresh s′ p′ q′) = (agree p p′, agree q q′)
 
-  pub one-reset : ResetCall bytes n z → ResetCall bytes n′ z′ → (n ≡ n′) × (z ≡ z′)
+  pub one-reset : ResetCall d bytes n z → ResetCall d bytes n′ z′ → (n ≡ n′) × (z ≡ z′)
   one-reset =
       judged (λ a b. (agree (a .refusal) (b .refusal), agree (a .kept) (b .kept)))
-      (λ m a b. let e : a .r ≡ b .r = reset-determined m (a .r) (b .r) (a .resets) (b .resets) in (via (λ (r : AfterReset). r .refusal) e (a .refusal) (b .refusal), via (λ (r : AfterReset). recordBytes (r .machine)) e (a .left) (b .left)))
+      (λ m a b. let e : a .r ≡ b .r = reset-determined d m (a .r) (b .r) (a .resets) (b .resets) in (via (λ (r : AfterReset). r .refusal) e (a .refusal) (b .refusal), via (λ (r : AfterReset). recordBytes (r .machine)) e (a .left) (b .left)))
 
-  pub one-display : {dots : List ℕ} → DisplayCall bytes dots n z → DisplayCall bytes dots n′ z′ → (n ≡ n′) × (z ≡ z′)
+  pub one-display : {dots : List ℕ} → DisplayCall d bytes dots n z → DisplayCall d bytes dots n′ z′ → (n ≡ n′) × (z ≡ z′)
   one-display {dots} =
       judged (λ a b. (agree (a .refusal) (b .refusal), agree (a .kept) (b .kept)))
-      (λ m a b. one-shown m dots z z′ n n′ a b)
+      (λ m a b. one-shown d m dots z z′ n n′ a b)
 
-valid-by : {m : Machine} {n n′ : ℕ} → ValidAnswer m n → ValidAnswer m n′ → Dec (Valid m) → n ≡ n′
+valid-by : {d : Device} {m : Machine} {n n′ : ℕ} → ValidAnswer d m n → ValidAnswer d m n′ → Dec (Valid d m) → n ≡ n′
 valid-by a b (yes v) = agree (a .inside v) (b .inside v)
 valid-by a b (no v) = agree (a .outside v) (b .outside v)
 
-pub one-valid : {bytes : List ℕ} {n n′ : ℕ} → ValidCall bytes n → ValidCall bytes n′ → n ≡ n′
-one-valid = judged agree (λ m a b. valid-by a b (valid? m))
+pub one-valid : {d : Device} {bytes : List ℕ} {n n′ : ℕ} → ValidCall d bytes n → ValidCall d bytes n′ → n ≡ n′
+one-valid {d} = judged agree (λ m a b. valid-by a b (valid? d m))
 
 module _ {bytes : List ℕ} {n n′ c c′ : ℕ} {z z′ : List ℕ} where
   -- of a promise with one answer
@@ -74,7 +75,7 @@ module _ {bytes : List ℕ} {n n′ c c′ : ℕ} {z z′ : List ℕ} where
 
 module _ {image : List ℕ} {o : Options} {bytes frames : List ℕ} {n n′ c c′ : ℕ} {z z′ : List ℕ} where
   pub one-step : StepCall image o bytes frames n c z → StepCall image o bytes frames n′ c′ z′ → (n ≡ n′) × (c ≡ c′) × (z ≡ z′)
-  one-step = one-promised (unheld image) (λ m r. StepOf image o m frames r) (λ m. one-stepped image o m frames)
+  one-step = one-promised (unheld (o .device) image) (λ m r. StepOf image o m frames r) (λ m. one-stepped image o m frames)
 
 module _ {o : Options} {bytes frame : List ℕ} {n n′ c c′ : ℕ} {z z′ : List ℕ} where
   pub one-look : LookCall o bytes frame n c z → LookCall o bytes frame n′ c′ z′ → (n ≡ n′) × (c ≡ c′) × (z ≡ z′)
@@ -82,7 +83,7 @@ module _ {o : Options} {bytes frame : List ℕ} {n n′ c c′ : ℕ} {z z′ : 
 
 module _ {image : List ℕ} {o : Options} {bytes : List ℕ} {n n′ c c′ : ℕ} {z z′ : List ℕ} where
   pub one-act : ActCall image o bytes n c z → ActCall image o bytes n′ c′ z′ → (n ≡ n′) × (c ≡ c′) × (z ≡ z′)
-  one-act = one-promised (unheld image) (λ m r. ActOf image o m r) (λ m. one-acted image o m)
+  one-act = one-promised (unheld (o .device) image) (λ m r. ActOf image o m r) (λ m. one-acted image o m)
 
 module _ {image : List ℕ} {o : Options} {bytes frames : List ℕ} {n n′ c c′ : ℕ} {z z′ : List ℕ} where
   pub one-run : {s s′ : ℕ} → RunCall image o bytes frames n s c z → RunCall image o bytes frames n′ s′ c′ z′ → (n ≡ n′) × (s ≡ s′) × (c ≡ c′) × (z ≡ z′)

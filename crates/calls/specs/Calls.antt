@@ -1,14 +1,15 @@
--- What the base calls on numbers and byte buffers answer: include/em73862.h has their names. A primed name is what a call leaves where it was given the other.
+-- What the calls on numbers and byte buffers answer, for either device: include/em73862.h and include/em73p982.h have their names, here without em73862_ or em73p982_. A primed name is what a call leaves where it was given the other.
 use Prim.Native.Nat.{ℕ}
 use mathlib.Core.Bool.{not}
 use mathlib.Core.List.{List}
 use mathlib.Core.Path.{_≡_}
 use lib.Dec.{eqb}
 use lib.ListN.{length}
+use Rattle.device.specs.declared.Device.{Device}
 use Rattle.machine_bytes.specs.Layout.{recordSize}
-use Rattle.numbers.specs.Sizes.{imageBytes}
+use Rattle.device.specs.Device.{imageSize}
 use Rattle.laws.specs.Choice.{pick}
-use Rattle.numbers.specs.ComesBack.{valueAt, image-is-not-8192-bytes, record-outside-the-ranges}
+use Rattle.numbers.specs.ComesBack.{valueAt, image-of-another-size, record-outside-the-ranges}
 use Rattle.sheet.specs.declared.Insn.{Insn}
 use Rattle.writer.specs.Writing.{Writes}
 use Rattle.writer.specs.Writing.{paperOf as codePaper}
@@ -19,7 +20,7 @@ use Rattle.machine.specs.declared.Machine.{Machine}
 use Rattle.machine_start.specs.declared.AfterReset.{AfterReset}
 use Rattle.machine_bytes.specs.Layout.{recordBytes, Holds, HoldsNone}
 use Rattle.step.specs.Answers.{StepOf}
-use Rattle.step.specs.declared.Options.{Options}
+use Rattle.device.specs.declared.Options.{Options}
 use Rattle.step.specs.declared.Stepped.{Stepped}
 use Rattle.step_apart.specs.Answers.{LookOf, ActOf}
 use Rattle.run.specs.Answers.{RunOf}
@@ -32,39 +33,39 @@ pub data Judged (bytes : List ℕ) (Refusal : Type 0) (Answer : Machine → Type
   record-of : (m : Machine) → Holds bytes m → Answer m → Judged bytes Refusal Answer
 
 -- no record is 2, "record outside the ranges above"; where there is an image, 1 comes before it
-abbrev pub unheld : List ℕ → ℕ
-unheld image = pick (eqb (length image) imageBytes) record-outside-the-ranges image-is-not-8192-bytes
+abbrev pub unheld : Device → List ℕ → ℕ
+unheld d image = pick (eqb (length image) (imageSize d)) record-outside-the-ranges image-of-another-size
 
 -- "Options: eight wake-enable bits (P0.0 to P0.3, P8.0 to P8.3) and SOUND enable": sound is enabled where it is not 0
-abbrev pub optionsOf : ℕ → ℕ → Options
-optionsOf wake sound = record { wake = wake; sound = not (eqb sound 0) }
+abbrev pub optionsOf : Device → ℕ → ℕ → Options
+optionsOf d wake sound = record { device = d; wake = wake; sound = not (eqb sound 0) }
 
--- em73862_fresh: a buffer of another length is refused, whatever is in it
-pub data FreshCall (bytes : List ℕ) (number : ℕ) (bytes′ : List ℕ) : Type 0 where
-  wrong-length : (length bytes ≡ recordSize → ⊥) → number ≡ record-outside-the-ranges → bytes′ ≡ bytes → FreshCall bytes number bytes′
-  fresh : length bytes ≡ recordSize → number ≡ 0 → bytes′ ≡ recordBytes freshMachine → FreshCall bytes number bytes′
+-- fresh: a buffer of another length is refused, whatever is in it
+pub data FreshCall (d : Device) (bytes : List ℕ) (number : ℕ) (bytes′ : List ℕ) : Type 0 where
+  wrong-length : (length bytes ≡ recordSize → ⊥) → number ≡ record-outside-the-ranges → bytes′ ≡ bytes → FreshCall d bytes number bytes′
+  fresh : length bytes ≡ recordSize → number ≡ 0 → bytes′ ≡ recordBytes (freshMachine d) → FreshCall d bytes number bytes′
 
--- em73862_reset
+-- reset
 pub record NotReset (bytes : List ℕ) (number : ℕ) (bytes′ : List ℕ) : Type 0 where
   pub refusal : number ≡ record-outside-the-ranges
   pub kept : bytes′ ≡ bytes
 
-pub record ResetAnswer (m : Machine) (number : ℕ) (bytes′ : List ℕ) : Type 0 where
+pub record ResetAnswer (d : Device) (m : Machine) (number : ℕ) (bytes′ : List ℕ) : Type 0 where
   pub r : AfterReset
-  pub resets : ResetOf m r
+  pub resets : ResetOf d m r
   pub refusal : number ≡ r .refusal
   pub left : bytes′ ≡ recordBytes (r .machine)
 
-abbrev pub ResetCall : List ℕ → ℕ → List ℕ → Type 0
-ResetCall bytes number bytes′ = Judged bytes (NotReset bytes number bytes′) (λ m. ResetAnswer m number bytes′)
+abbrev pub ResetCall : Device → List ℕ → ℕ → List ℕ → Type 0
+ResetCall d bytes number bytes′ = Judged bytes (NotReset bytes number bytes′) (λ m. ResetAnswer d m number bytes′)
 
--- em73862_is_valid
-pub record ValidAnswer (m : Machine) (number : ℕ) : Type 0 where
-  pub inside : Valid m → number ≡ 0
-  pub outside : (Valid m → ⊥) → number ≡ record-outside-the-ranges
+-- is_valid
+pub record ValidAnswer (d : Device) (m : Machine) (number : ℕ) : Type 0 where
+  pub inside : Valid d m → number ≡ 0
+  pub outside : (Valid d m → ⊥) → number ≡ record-outside-the-ranges
 
-abbrev pub ValidCall : List ℕ → ℕ → Type 0
-ValidCall bytes number = Judged bytes (number ≡ record-outside-the-ranges) (λ m. ValidAnswer m number)
+abbrev pub ValidCall : Device → List ℕ → ℕ → Type 0
+ValidCall d bytes number = Judged bytes (number ≡ record-outside-the-ranges) (λ m. ValidAnswer d m number)
 
 -- a step, or one of its two calls, that is refused where the buffer holds no record; and one that answers as a promise says
 pub record NotStepped (refusal : ℕ) (bytes : List ℕ) (number cycles : ℕ) (bytes′ : List ℕ) : Type 0 where
@@ -79,24 +80,24 @@ pub record Answers (Promise : Stepped → Type 0) (number cycles : ℕ) (bytes�
   pub spent : cycles ≡ r .cycles
   pub left : bytes′ ≡ recordBytes (r .machine)
 
--- em73862_step
+-- step
 abbrev pub StepCall : List ℕ → Options → List ℕ → List ℕ → ℕ → ℕ → List ℕ → Type 0
 StepCall image o bytes frame number cycles bytes′ =
-    Judged bytes (NotStepped (unheld image) bytes number cycles bytes′) (λ m. Answers (StepOf image o m frame) number cycles bytes′)
+    Judged bytes (NotStepped (unheld (o .device) image) bytes number cycles bytes′) (λ m. Answers (StepOf image o m frame) number cycles bytes′)
 
--- em73862_look, which has no image
+-- look, which has no image
 abbrev pub LookCall : Options → List ℕ → List ℕ → ℕ → ℕ → List ℕ → Type 0
 LookCall o bytes frame number cycles bytes′ =
     Judged bytes (NotStepped record-outside-the-ranges bytes number cycles bytes′) (λ m. Answers (LookOf o m frame) number cycles bytes′)
 
--- em73862_act, which has no frame
+-- act, which has no frame
 abbrev pub ActCall : List ℕ → Options → List ℕ → ℕ → ℕ → List ℕ → Type 0
 ActCall image o bytes number cycles bytes′ =
-    Judged bytes (NotStepped (unheld image) bytes number cycles bytes′) (λ m. Answers (ActOf image o m) number cycles bytes′)
+    Judged bytes (NotStepped (unheld (o .device) image) bytes number cycles bytes′) (λ m. Answers (ActOf image o m) number cycles bytes′)
 
--- em73862_run
-pub record NotRun (image bytes : List ℕ) (number steps cycles : ℕ) (bytes′ : List ℕ) : Type 0 where
-  pub refusal : number ≡ unheld image
+-- run
+pub record NotRun (d : Device) (image bytes : List ℕ) (number steps cycles : ℕ) (bytes′ : List ℕ) : Type 0 where
+  pub refusal : number ≡ unheld d image
   pub no-steps : steps ≡ 0
   pub no-cycles : cycles ≡ 0
   pub kept : bytes′ ≡ bytes
@@ -111,17 +112,17 @@ pub record RunAnswer (image : List ℕ) (o : Options) (frames : List ℕ) (m : M
 
 abbrev pub RunCall : List ℕ → Options → List ℕ → List ℕ → ℕ → ℕ → ℕ → List ℕ → Type 0
 RunCall image o bytes frames number steps cycles bytes′ =
-    Judged bytes (NotRun image bytes number steps cycles bytes′) (λ m. RunAnswer image o frames m number steps cycles bytes′)
+    Judged bytes (NotRun (o .device) image bytes number steps cycles bytes′) (λ m. RunAnswer image o frames m number steps cycles bytes′)
 
--- em73862_display
+-- display
 pub record NotShown (number : ℕ) (dots dots′ : List ℕ) : Type 0 where
   pub refusal : number ≡ record-outside-the-ranges
   pub kept : dots′ ≡ dots
 
-abbrev pub DisplayCall : List ℕ → List ℕ → ℕ → List ℕ → Type 0
-DisplayCall bytes dots number dots′ = Judged bytes (NotShown number dots dots′) (λ m. DisplayOf m dots dots′ number)
+abbrev pub DisplayCall : Device → List ℕ → List ℕ → ℕ → List ℕ → Type 0
+DisplayCall d bytes dots number dots′ = Judged bytes (NotShown number dots dots′) (λ m. DisplayOf d m dots dots′ number)
 
--- em73862_write
+-- write
 pub record WriteCall (i : Insn) (number size b0 b1 b2 : ℕ) : Type 0 where
   pub r : Written
   pub writes : Writes i r

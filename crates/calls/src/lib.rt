@@ -1,24 +1,23 @@
-// The base calls on numbers and byte buffers, for C and for whatever calls C: include/em73862.h declares them. Each takes its bytes apart, calls the public function and puts numbers back.
+// The base calls on numbers and byte buffers, for C and for whatever calls C: include/em73862.h declares them. by_device.rt has what they do for either device.
 // Two answers of a call to the same inputs are equal, for each of the nine: proofs/OneAnswer.antt. A refusal leaves the record's bytes as they were: proofs/Kept.antt.
-use display::display;
-use machine_bytes::RECORD_BYTES;
-use machine_bytes::pack;
-use machine_bytes::unpack;
-use machine_start::fresh;
-use machine_start::reset;
-use machine_valid::is_valid;
-use numbers::IMAGE_BYTES;
+pub mod by_device;
+
+use by_device::act_record;
+use by_device::fresh_record;
+use by_device::judge_record;
+use by_device::look_record;
+use by_device::reset_record;
+use by_device::show_record;
+use by_device::step_record;
+use device::Device;
 use numbers::NOT_TO_BE_WRITTEN;
 use sheet::Insn;
-use step::Options;
-use step::step;
-use step_apart::act;
-use step_apart::look;
 use writer::Written;
 use writer::write;
 ghost use mathlib.Core.Path.{_≡_};
+ghost use Rattle.device.specs.declared.Device.the-variants.{Em73862};
 ghost use Rattle.writer.specs.Writing.{paperOf as codePaper, fromPaper as codeFrom};
-ghost use Rattle.calls.specs.Calls.{unheld, optionsOf, FreshCall, ResetCall, ValidCall, StepCall, LookCall, ActCall, DisplayCall, WriteCall};
+ghost use Rattle.calls.specs.Calls.{optionsOf, FreshCall, ResetCall, ValidCall, StepCall, LookCall, ActCall, DisplayCall, WriteCall};
 ghost use Rattle.calls.specs.Numbers.{OfWrite};
 
 // What the writer answers, as numbers.
@@ -30,61 +29,25 @@ pub struct WriteNumbers {
     pub b2: u8,
 }
 
-// The refusal of a buffer that holds no record, where there is an image too.
-pub fn refusal(image: &[u8]) -> u8
-    ensures { λ r. ⌜ r ≡ unheld (now (image .entry)) ⌝ }
-{
-    if image.len() == IMAGE_BYTES {
-        return 2;
-    }
-    1
-}
-
-pub fn options_of(wake: u8, sound: u8) -> Options
-    ensures { λ r. ⌜ r ≡ optionsOf wake sound ⌝ }
-{
-    Options {
-        wake: wake,
-        sound: sound != 0,
-    }
-}
-
 #[no_mangle]
 pub extern "C" fn em73862_fresh(bytes: &mut [u8]) -> u8
-    ensures { λ r. ⌜ FreshCall (now (bytes .entry)) r (now (bytes .exit)) ⌝ }
+    ensures { λ r. ⌜ FreshCall Em73862 (now (bytes .entry)) r (now (bytes .exit)) ⌝ }
 {
-    if bytes.len() != RECORD_BYTES {
-        return 2;
-    }
-    pack(fresh(), bytes);
-    0
+    fresh_record(Device::Em73862, bytes)
 }
 
 #[no_mangle]
 pub extern "C" fn em73862_reset(bytes: &mut [u8]) -> u8
-    ensures { λ r. ⌜ ResetCall (now (bytes .entry)) r (now (bytes .exit)) ⌝ }
+    ensures { λ r. ⌜ ResetCall Em73862 (now (bytes .entry)) r (now (bytes .exit)) ⌝ }
 {
-    let u = unpack(bytes);
-    if u.held {
-        let r = reset(u.machine);
-        pack(r.machine, bytes);
-        return r.refusal;
-    }
-    2
+    reset_record(Device::Em73862, bytes)
 }
 
 #[no_mangle]
 pub extern "C" fn em73862_is_valid(bytes: &[u8]) -> u8
-    ensures { λ r. ⌜ ValidCall (now (bytes .entry)) r ⌝ }
+    ensures { λ r. ⌜ ValidCall Em73862 (now (bytes .entry)) r ⌝ }
 {
-    let u = unpack(bytes);
-    if u.held {
-        if is_valid(u.machine) {
-            return 0;
-        }
-        return 2;
-    }
-    2
+    judge_record(Device::Em73862, bytes)
 }
 
 #[no_mangle]
@@ -96,17 +59,9 @@ pub extern "C" fn em73862_step(
     frame: &[u8],
     cycles: &mut u32,
 ) -> u8
-    ensures { λ r. ⌜ StepCall (now (image .entry)) (optionsOf wake sound) (now (bytes .entry)) (now (frame .entry)) r (now (cycles .exit)) (now (bytes .exit)) ⌝ }
+    ensures { λ r. ⌜ StepCall (now (image .entry)) (optionsOf Em73862 wake sound) (now (bytes .entry)) (now (frame .entry)) r (now (cycles .exit)) (now (bytes .exit)) ⌝ }
 {
-    let u = unpack(bytes);
-    if u.held {
-        let r = step(image, options_of(wake, sound), u.machine, frame);
-        *cycles = r.cycles as u32;
-        pack(r.machine, bytes);
-        return r.number;
-    }
-    *cycles = 0;
-    refusal(image)
+    step_record(Device::Em73862, image, wake, sound, bytes, frame, cycles)
 }
 
 #[no_mangle]
@@ -117,17 +72,9 @@ pub extern "C" fn em73862_look(
     frame: &[u8],
     cycles: &mut u32,
 ) -> u8
-    ensures { λ r. ⌜ LookCall (optionsOf wake sound) (now (bytes .entry)) (now (frame .entry)) r (now (cycles .exit)) (now (bytes .exit)) ⌝ }
+    ensures { λ r. ⌜ LookCall (optionsOf Em73862 wake sound) (now (bytes .entry)) (now (frame .entry)) r (now (cycles .exit)) (now (bytes .exit)) ⌝ }
 {
-    let u = unpack(bytes);
-    if u.held {
-        let r = look(options_of(wake, sound), u.machine, frame);
-        *cycles = r.cycles as u32;
-        pack(r.machine, bytes);
-        return r.number;
-    }
-    *cycles = 0;
-    2
+    look_record(Device::Em73862, wake, sound, bytes, frame, cycles)
 }
 
 #[no_mangle]
@@ -138,28 +85,16 @@ pub extern "C" fn em73862_act(
     bytes: &mut [u8],
     cycles: &mut u32,
 ) -> u8
-    ensures { λ r. ⌜ ActCall (now (image .entry)) (optionsOf wake sound) (now (bytes .entry)) r (now (cycles .exit)) (now (bytes .exit)) ⌝ }
+    ensures { λ r. ⌜ ActCall (now (image .entry)) (optionsOf Em73862 wake sound) (now (bytes .entry)) r (now (cycles .exit)) (now (bytes .exit)) ⌝ }
 {
-    let u = unpack(bytes);
-    if u.held {
-        let r = act(image, options_of(wake, sound), u.machine);
-        *cycles = r.cycles as u32;
-        pack(r.machine, bytes);
-        return r.number;
-    }
-    *cycles = 0;
-    refusal(image)
+    act_record(Device::Em73862, image, wake, sound, bytes, cycles)
 }
 
 #[no_mangle]
 pub extern "C" fn em73862_display(bytes: &[u8], dots: &mut [u8]) -> u8
-    ensures { λ r. ⌜ DisplayCall (now (bytes .entry)) (now (dots .entry)) r (now (dots .exit)) ⌝ }
+    ensures { λ r. ⌜ DisplayCall Em73862 (now (bytes .entry)) (now (dots .entry)) r (now (dots .exit)) ⌝ }
 {
-    let u = unpack(bytes);
-    if u.held {
-        return display(u.machine, dots);
-    }
-    2
+    show_record(Device::Em73862, bytes, dots)
 }
 
 fn write_numbers(code: Written) -> WriteNumbers

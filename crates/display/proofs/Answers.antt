@@ -9,6 +9,7 @@ use lib.ListN.{length}
 use borrow.Author.Tests.{not-true, not-false}
 use Rattle.laws.specs.Decides.{Decides}
 use Rattle.laws.proofs.Computed.{true→T}
+use Rattle.device.specs.declared.Device.{Device}
 use Rattle.machine.specs.Valid.{Valid}
 use Rattle.machine.specs.declared.Machine.{Machine}
 use Rattle.machine_valid.proofs.Validity.{valid?}
@@ -23,8 +24,8 @@ fails {t} d e p = rw (not-true t e) at (d .complete p)
 pub passes : {t : Bool} {P : Type 0} → Decides t P → not t ≡ false → P
 passes {t} d e = d .sound (true→T (not-false t e))
 
-module _ (m : Machine) (b : List ℕ) where
-  pub outside-ranges : (Valid m → ⊥) → DisplayOf m b b record-outside-the-ranges
+module _ {d : Device} (m : Machine) (b : List ℕ) where
+  pub outside-ranges : (Valid d m → ⊥) → DisplayOf d m b b record-outside-the-ranges
   outside-ranges n =
       record {
         outside = λ _. record { answer = refl; kept = refl };
@@ -32,7 +33,7 @@ module _ (m : Machine) (b : List ℕ) where
         shown = λ v. absurd (n v);
       }
 
-  pub under-40 : Valid m → length b < 40 → DisplayOf m b b display-buffer-under-40-bytes
+  pub under-40 : Valid d m → length b < 40 → DisplayOf d m b b display-buffer-under-40-bytes
   under-40 v h =
       record {
         outside = λ n. absurd (n v);
@@ -40,7 +41,7 @@ module _ (m : Machine) (b : List ℕ) where
         shown = λ _ l. absurd (let z : ⊥ = omega arith in z);
       }
 
-  pub all-shown : (a : List ℕ) → Valid m → 40 ≤ length b → Shows m b a → DisplayOf m b a 0
+  pub all-shown : (a : List ℕ) → Valid d m → 40 ≤ length b → Shows m b a → DisplayOf d m b a 0
   all-shown a v h e = record { outside = λ n. absurd (n v); short = λ _ l. absurd (let z : ⊥ = omega arith in z); shown = λ _ _. (refl, e) }
 
 same-refusal : {n : ℕ} {b a z : List ℕ} {r q : ℕ} → Refused n b a r → Refused n b z q → (r ≡ q) × (a ≡ z)
@@ -49,14 +50,14 @@ same-refusal f g = (f .answer ∙ sym (g .answer), f .kept ∙ sym (g .kept))
 same-shown : {m : Machine} {b a z : List ℕ} {r q : ℕ} → (r ≡ 0) × Shows m b a → (q ≡ 0) × Shows m b z → (r ≡ q) × (a ≡ z)
 same-shown f g = (f .0 ∙ sym (g .0), one-buffer (f .1) (g .1))
 
-by-size : {m : Machine} {b a z : List ℕ} {r q : ℕ} → DisplayOf m b a r → DisplayOf m b z q → Valid m → Dec (length b < 40) → (r ≡ q) × (a ≡ z)
+by-size : {d : Device} {m : Machine} {b a z : List ℕ} {r q : ℕ} → DisplayOf d m b a r → DisplayOf d m b z q → Valid d m → Dec (length b < 40) → (r ≡ q) × (a ≡ z)
 by-size f g v (yes h) = same-refusal (f .short v h) (g .short v h)
 by-size f g v (no h) = same-shown (f .shown v (omega arith)) (g .shown v (omega arith))
 
-by-validity : {m : Machine} {b a z : List ℕ} {r q : ℕ} → DisplayOf m b a r → DisplayOf m b z q → Dec (Valid m) → (r ≡ q) × (a ≡ z)
+by-validity : {d : Device} {m : Machine} {b a z : List ℕ} {r q : ℕ} → DisplayOf d m b a r → DisplayOf d m b z q → Dec (Valid d m) → (r ≡ q) × (a ≡ z)
 by-validity {b = b} f g (yes v) = by-size f g v (decLt (length b) 40)
 by-validity f g (no n) = same-refusal (f .outside n) (g .outside n)
 
 -- any two answers to the same record and buffer are equal, and leave the same bytes
-pub one-answer : (m : Machine) (b a z : List ℕ) (r q : ℕ) → DisplayOf m b a r → DisplayOf m b z q → (r ≡ q) × (a ≡ z)
-one-answer m b a z r q f g = by-validity f g (valid? m)
+pub one-answer : (d : Device) (m : Machine) (b a z : List ℕ) (r q : ℕ) → DisplayOf d m b a r → DisplayOf d m b z q → (r ≡ q) × (a ≡ z)
+one-answer d m b a z r q f g = by-validity f g (valid? d m)

@@ -10,7 +10,7 @@ use lib.ListN.{length, getD, drop, length-append, length-drop, List·getD-append
 use lib.Seq.{ext-getD, getD-drop, drop-at}
 use Rattle.laws.proofs.Computed.{below, at}
 use Rattle.bits.specs.Bits.{hasBit, bitOf}
-use Rattle.machine.specs.Valid.{Nibbles, Valid}
+use Rattle.machine.specs.Valid.{Nibbles}
 use Rattle.machine.specs.declared.Machine.{Machine}
 use Rattle.display.specs.Bytes.{byteIn}
 use Rattle.display.specs.Display.{isOn, Shows}
@@ -22,7 +22,7 @@ byte-lt true ram j n h =
     omega (arith, n .each (0x20 + 16 * (j / 5) + 2 * (j % 5)) (omega arith), n .each (0x20 + 16 * (j / 5) + 2 * (j % 5) + 1) (omega arith))
 byte-lt false ram j n h = omega arith
 
-module _ (m : Machine) (b a : List ℕ) (v : Valid m) (room : 40 ≤ length b) (e : a ≡ bytesIn (isOn m) (m .ram) ++ drop 40 b) where
+module _ (m : Machine) (b a : List ℕ) (n : Nibbles (m .ram)) (room : 40 ≤ length b) (e : a ≡ bytesIn (isOn m) (m .ram) ++ drop 40 b) where
   abbrev forty : List ℕ
   forty = bytesIn (isOn m) (m .ram)
 
@@ -35,8 +35,8 @@ module _ (m : Machine) (b a : List ℕ) (v : Valid m) (room : 40 ≤ length b) (
   pub shows : Shows m b a
   shows =
       record {
-        dots = λ c s hc hs. ap (λ (n : ℕ). hasBit n (2 ^ (s % 8))) (first (5 * c + s / 8) (omega arith)) ∙ dots-in (isOn m) (m .ram) c s (v .ram) hc hs;
-        bytes = λ j h. rw (first j h, bytes-at (isOn m) (m .ram) j h) (omega (arith, byte-lt (isOn m) (m .ram) j (v .ram) h));
+        dots = λ c s hc hs. ap (λ (byte : ℕ). hasBit byte (2 ^ (s % 8))) (first (5 * c + s / 8) (omega arith)) ∙ dots-in (isOn m) (m .ram) c s n hc hs;
+        bytes = λ j h. rw (first j h, bytes-at (isOn m) (m .ram) j h) (omega (arith, byte-lt (isOn m) (m .ram) j n h));
         later = ap (drop 40) e ∙ drop-at forty (drop 40 b) 40 size-is;
         size = ap length e ∙ (length-append forty (drop 40 b) ∙ omega (arith, size-is, length-drop 40 b));
       }

@@ -8,6 +8,7 @@ use lib.ListN.{length, getD, drop}
 use Rattle.laws.specs.Choice.{both}
 use Rattle.bits.specs.Bits.{hasBit}
 use Rattle.numbers.specs.ComesBack.{record-outside-the-ranges, display-buffer-under-40-bytes}
+use Rattle.device.specs.declared.Device.{Device}
 use Rattle.machine.specs.Valid.{Valid}
 use Rattle.machine.specs.declared.Machine.{Machine}
 
@@ -36,7 +37,7 @@ pub record Refused (number : ℕ) (before after : List ℕ) (r : ℕ) : Type 0 w
   pub kept : after ≡ before
 
 -- what the call gives, in the table's order, and leaves in the buffer
-pub record DisplayOf (m : Machine) (before after : List ℕ) (r : ℕ) : Type 0 where
-  pub outside : (Valid m → ⊥) → Refused record-outside-the-ranges before after r
-  pub short : Valid m → length before < 40 → Refused display-buffer-under-40-bytes before after r
-  pub shown : Valid m → 40 ≤ length before → (r ≡ 0) × Shows m before after
+pub record DisplayOf (d : Device) (m : Machine) (before after : List ℕ) (r : ℕ) : Type 0 where
+  pub outside : (Valid d m → ⊥) → Refused record-outside-the-ranges before after r
+  pub short : Valid d m → length before < 40 → Refused display-buffer-under-40-bytes before after r
+  pub shown : Valid d m → 40 ≤ length before → (r ≡ 0) × Shows m before after

@@ -1,4 +1,5 @@
 // Document 01, "Display": the forty bytes that say which dots are on.
+use device::Device;
 use machine::Machine;
 use machine::Ram;
 use machine::ram::peek;
@@ -8,7 +9,7 @@ use numbers::RECORD_OUTSIDE_THE_RANGES;
 ghost use mathlib.Core.Path.{_≡_};
 ghost use Prim.Native.Nat.{_<_, _≤_};
 ghost use lib.ListN.{length};
-ghost use Rattle.machine.specs.Valid.{Nibbles, Valid};
+ghost use Rattle.machine.specs.Valid.{Nibbles};
 ghost use Rattle.display.specs.Bytes.{pairAt, byteIn};
 ghost use Rattle.display.specs.Display.{Shows, DisplayOf};
 
@@ -36,7 +37,7 @@ fn byte(on: bool, ram: &Ram, j: usize) -> u8
 }
 
 fn show(m: Machine, out: &mut [u8])
-    requires { ⌜ (Valid m) × (40 ≤ length (now out)) ⌝ }
+    requires { ⌜ (Nibbles (m .ram)) × (40 ≤ length (now out)) ⌝ }
     ensures { λ _. ⌜ Shows m (now (out .entry)) (now (out .exit)) ⌝ }
 {
     let ram = m.ram;
@@ -49,10 +50,10 @@ fn show(m: Machine, out: &mut [u8])
 }
 
 // 0 and the dots in the first forty bytes of out, or a refusal's number and out as it was.
-pub fn display(m: Machine, out: &mut [u8]) -> u8
-    ensures { λ r. ⌜ DisplayOf m (now (out .entry)) (now (out .exit)) r ⌝ }
+pub fn display(d: Device, m: Machine, out: &mut [u8]) -> u8
+    ensures { λ r. ⌜ DisplayOf d m (now (out .entry)) (now (out .exit)) r ⌝ }
 {
-    if !is_valid(m) {
+    if !is_valid(d, m) {
         return RECORD_OUTSIDE_THE_RANGES;
     }
     if out.len() < DOT_BYTES {

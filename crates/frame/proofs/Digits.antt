@@ -1,15 +1,15 @@
 -- The characters of a frame: whether each is a digit, and its value.
 use Prim.Native.Nat.{ℕ, _+_, _*_, _/_, _%_, _<_, _≤_}
 use mathlib.Core.Bool.{Bool, true, false}
-use mathlib.Core.List.{List}
-use mathlib.Core.Path.{_≡_, refl, subst}
+use mathlib.Core.List.{List, [], _∷_}
+use mathlib.Core.Path.{_≡_, refl}
 use lib.Dec.{T, eqb, eqb→eq, leb, ltb, lt→ltb}
 use lib.ListN.{length, getD}
 use Rattle.laws.specs.Choice.{both, either}
 use Rattle.laws.proofs.Computed.{at, where-at}
 use Rattle.hexadecimal.specs.Hexadecimal.{digitOf}
-use Rattle.frame.specs.Frame.{em73862Digits, isFrame, charsAt}
-use Rattle.frame.proofs.Characters.{chars-at, in-range}
+use Rattle.frame.specs.Frame.{isFrame, digitAt, charsAt}
+use Rattle.frame.proofs.Characters.{chars-three, chars-four, below-limit}
 use Rattle.frame.specs.Judged.{byte}
 
 abbrev same? : Bool → Bool → Bool
@@ -32,8 +32,11 @@ pub bit-range : (c : ℕ) → c < 256 → both (leb 48 c) (leb c 49) ≡ ltb (di
 unfolding digitOf
 bit-range c h = same _ _ (at (λ c. same? (both (leb 48 c) (leb c 49)) (ltb (digitOf c) 2)) 256 tt c h)
 
-pub by-bytes : (s : List ℕ) (at : ℕ) → at + 3 ≤ length s → both (ltb (digitOf (byte s at)) 16) (both (ltb (digitOf (byte s (at + 1))) 16) (both (ltb (digitOf (byte s (at + 2))) 2) true)) ≡ isFrame em73862Digits (charsAt s at)
-by-bytes s at h = rw (chars-at s at h)
+pub three-by-bytes : (s : List ℕ) (at : ℕ) → at + 3 ≤ length s → both (ltb (digitOf (byte s at)) 16) (both (ltb (digitOf (byte s (at + 1))) 16) (both (ltb (digitOf (byte s (at + 2))) 2) true)) ≡ isFrame (16 ∷ 16 ∷ 2 ∷ []) (charsAt 3 s at)
+three-by-bytes s at h = rw (chars-three s at h)
+
+pub four-by-bytes : (s : List ℕ) (at : ℕ) → at + 4 ≤ length s → both (ltb (digitOf (byte s at)) 16) (both (ltb (digitOf (byte s (at + 1))) 16) (both (ltb (digitOf (byte s (at + 2))) 16) (both (ltb (digitOf (byte s (at + 3))) 2) true))) ≡ isFrame (16 ∷ 16 ∷ 16 ∷ 2 ∷ []) (charsAt 4 s at)
+four-by-bytes s at h = rw (chars-four s at h)
 
 -- the value of a digit, and of 0 or 1
 pub digit : (c : ℕ) → c < 256 → digitOf c < 16 → c % 16 + 9 * (c / 64) ≡ digitOf c
@@ -48,12 +51,24 @@ bit c h d =
     eqb→eq (c % 2) (digitOf c)
     (where-at (λ c. ltb (digitOf c) 2) (λ c. eqb (c % 2) (digitOf c)) 256 tt c h (lt→ltb (digitOf c) 2 d))
 
-module _ (s : List ℕ) (at : ℕ) (h : at + 3 ≤ length s) (f : isFrame em73862Digits (charsAt s at) ≡ true) where
-  pub first-digit : digitOf (byte s at) < 16
-  first-digit = subst (λ (cs : List ℕ). digitOf (getD cs 0 0) < 16) (chars-at s at h) (in-range (charsAt s at) f .p0)
+-- the digits of a frame of three characters, and of one of four
+pub record Three (s : List ℕ) (at : ℕ) : Type 0 where
+  pub first : digitOf (byte s at) < 16
+  pub second : digitOf (byte s (at + 1)) < 16
+  pub third : digitOf (byte s (at + 2)) < 2
 
-  pub second-digit : digitOf (byte s (at + 1)) < 16
-  second-digit = subst (λ (cs : List ℕ). digitOf (getD cs 1 0) < 16) (chars-at s at h) (in-range (charsAt s at) f .p8)
+pub three-digits : (s : List ℕ) (at : ℕ) → at + 3 ≤ length s → isFrame (16 ∷ 16 ∷ 2 ∷ []) (charsAt 3 s at) ≡ true → Three s at
+three-digits s at h f =
+    let below : (i : ℕ) → digitAt (byte s at ∷ byte s (at + 1) ∷ byte s (at + 2) ∷ []) i < getD (16 ∷ 16 ∷ 2 ∷ []) i 1 = λ i. below-limit (16 ∷ 16 ∷ 2 ∷ []) (byte s at ∷ byte s (at + 1) ∷ byte s (at + 2) ∷ []) i (rw (chars-three s at h) at f) in
+    record { first = below 0; second = below 1; third = below 2 }
 
-  pub third-digit : digitOf (byte s (at + 2)) < 2
-  third-digit = subst (λ (cs : List ℕ). digitOf (getD cs 2 0) < 2) (chars-at s at h) (in-range (charsAt s at) f .p4)
+pub record Four (s : List ℕ) (at : ℕ) : Type 0 where
+  pub first : digitOf (byte s at) < 16
+  pub second : digitOf (byte s (at + 1)) < 16
+  pub third : digitOf (byte s (at + 2)) < 16
+  pub fourth : digitOf (byte s (at + 3)) < 2
+
+pub four-digits : (s : List ℕ) (at : ℕ) → at + 4 ≤ length s → isFrame (16 ∷ 16 ∷ 16 ∷ 2 ∷ []) (charsAt 4 s at) ≡ true → Four s at
+four-digits s at h f =
+    let below : (i : ℕ) → digitAt (byte s at ∷ byte s (at + 1) ∷ byte s (at + 2) ∷ byte s (at + 3) ∷ []) i < getD (16 ∷ 16 ∷ 16 ∷ 2 ∷ []) i 1 = λ i. below-limit (16 ∷ 16 ∷ 16 ∷ 2 ∷ []) (byte s at ∷ byte s (at + 1) ∷ byte s (at + 2) ∷ byte s (at + 3) ∷ []) i (rw (chars-four s at h) at f) in
+    record { first = below 0; second = below 1; third = below 2; fourth = below 3 }

@@ -1,3 +1,4 @@
+pub mod Sizes
 pub mod Characters
 pub mod Sequence
 pub mod Digits

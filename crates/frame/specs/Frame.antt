@@ -1,18 +1,17 @@
--- Document 01, "The record": what three characters, and a buffer of them, say of the pins.
+-- Document 01, "The record": what the characters of a frame, and a buffer of them, say of the pins. How many digits a frame has, and what each stays below, is the device's.
 use Prim.Native.Nat.{ℕ, zero, suc, _+_, _-_, _/_, _<_}
+use Prim.Native.Char.{code}
 use mathlib.Core.Bool.{Bool, true, false}
 use mathlib.Core.List.{List, [], _∷_, map}
 use lib.Dec.{ltb}
 use lib.ListN.{length, getD, take, drop}
 use Rattle.laws.specs.Choice.{pick, both}
 use Rattle.hexadecimal.specs.Hexadecimal.{digitOf}
+use Rattle.device.specs.Device.{digitsOf, frameSize, limitOf}
+use Rattle.device.specs.declared.Device.{Device}
 use Rattle.frame.specs.declared.Pins.{Pins}
 use Rattle.frame.specs.declared.Frame.{Frame}
 use Rattle.frame.specs.declared.Frame.the-variants.{Seen, NoFrame}
-
--- "A frame is three hexadecimal digits, either case: P0, P8, P4.0 (0 or 1)": what each digit stays below
-abbrev pub em73862Digits : List ℕ
-em73862Digits = 16 ∷ 16 ∷ 2 ∷ []
 
 -- as many characters as limits, each a digit below its limit; so "an empty line is no frame"
 abbrev pub isFrame : List ℕ → List ℕ → Bool
@@ -21,18 +20,25 @@ isFrame [] (c ∷ cs) = false
 isFrame (l ∷ ls) [] = false
 isFrame (l ∷ ls) (c ∷ cs) = both (ltb (digitOf c) l) (isFrame ls cs)
 
+-- the digit at a place; one that the frame does not have is 0
+abbrev pub digitAt : List ℕ → ℕ → ℕ
+digitAt cs i = digitOf (getD cs i (code "0"))
+
 abbrev pub pinsOf : List ℕ → Pins
-pinsOf cs = record { p0 = digitOf (getD cs 0 0); p8 = digitOf (getD cs 1 0); p4 = digitOf (getD cs 2 0) }
+pinsOf cs = record { p0 = digitAt cs 0; p8 = digitAt cs 1; p4 = digitAt cs 2; speech = digitAt cs 3 }
 
-unfoldable pub frameOf : List ℕ → Frame
-frameOf cs = pick (isFrame em73862Digits cs) (Seen (pinsOf cs)) NoFrame
+unfoldable pub frameOf : Device → List ℕ → Frame
+frameOf d cs = pick (isFrame (digitsOf d) cs) (Seen (pinsOf cs)) NoFrame
 
--- the characters of a sequence from at on, and the frame that they are
-abbrev pub charsAt : List ℕ → ℕ → List ℕ
-charsAt s at = take 3 (drop at s)
+-- n characters of a sequence from at on; whether those of a frame's size are a frame, and which
+abbrev pub charsAt : ℕ → List ℕ → ℕ → List ℕ
+charsAt n s at = take n (drop at s)
 
-abbrev pub frameAt : List ℕ → ℕ → Frame
-frameAt s at = frameOf (charsAt s at)
+abbrev pub isFrameAt : Device → List ℕ → ℕ → Bool
+isFrameAt d s at = isFrame (digitsOf d) (charsAt (frameSize d) s at)
+
+abbrev pub frameAt : Device → List ℕ → ℕ → Frame
+frameAt d s at = frameOf d (charsAt (frameSize d) s at)
 
 -- the first k pieces of n characters each
 abbrev pub cut : ℕ → ℕ → List ℕ → List (List ℕ)
@@ -48,15 +54,16 @@ every f [] = true
 every f (x ∷ xs) = both (f x) (every f xs)
 
 -- "In calls frames are these characters with nothing between; a last frame cut short is no frame."
-unfoldable pub areFrames : List ℕ → Bool
-areFrames s = every (isFrame em73862Digits) (pieces 3 s)
+unfoldable pub areFrames : Device → List ℕ → Bool
+areFrames d s = every (isFrame (digitsOf d)) (pieces (frameSize d) s)
 
 -- such a buffer's frames, in order
-unfoldable pub framesOf : List ℕ → List Pins
-framesOf s = map pinsOf (pieces 3 s)
+unfoldable pub framesOf : Device → List ℕ → List Pins
+framesOf d s = map pinsOf (pieces (frameSize d) s)
 
--- P0 and P8 are digits, P4.0 is 0 or 1
-pub record PinsInRange (p : Pins) : Type 0 where
+-- P0 and P8 are digits, P4 and the fourth digit are below the device's limits
+pub record PinsInRange (d : Device) (p : Pins) : Type 0 where
   pub p0 : p .p0 < 16
   pub p8 : p .p8 < 16
-  pub p4 : p .p4 < 2
+  pub p4 : p .p4 < limitOf d 2
+  pub speech : p .speech < limitOf d 3

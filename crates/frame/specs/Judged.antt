@@ -5,7 +5,9 @@ use mathlib.Core.List.{List}
 use mathlib.Core.Path.{_≡_}
 use lib.ListN.{getD, drop}
 use Rattle.laws.specs.Choice.{both}
-use Rattle.frame.specs.Frame.{em73862Digits, isFrame, charsAt, areFrames}
+use Rattle.device.specs.Device.{frameSize}
+use Rattle.device.specs.declared.Device.{Device}
+use Rattle.frame.specs.Frame.{isFrameAt, areFrames}
 
 abbrev pub byte : List ℕ → ℕ → ℕ
 byte s i = getD s i 0
@@ -22,15 +24,15 @@ pub record Four (s : List ℕ) (at r : ℕ) : Type 0 where
   pub b2 : byte s (at + 2) < 256
   pub b3 : byte s (at + 3) < 256
 
--- r only where n bytes from at + 3 on are those from at on
-pub record Again (s : List ℕ) (at n : ℕ) (r : Bool) : Type 0 where
-  pub same : r ≡ true → (i : ℕ) → i < n → byte s (at + i + 3) ≡ byte s (at + i)
+-- r only where k bytes from at + n on are those from at on
+pub record Again (s : List ℕ) (n at k : ℕ) (r : Bool) : Type 0 where
+  pub same : r ≡ true → (i : ℕ) → i < k → byte s (at + i + n) ≡ byte s (at + i)
 
 -- the characters of the place before, where there is one, are a frame
-pub record AfterFrame (s : List ℕ) (at : ℕ) : Type 0 where
-  pub shown : 3 ≤ at → isFrame em73862Digits (charsAt s (at - 3)) ≡ true
+pub record AfterFrame (d : Device) (s : List ℕ) (at : ℕ) : Type 0 where
+  pub shown : frameSize d ≤ at → isFrameAt d s (at - frameSize d) ≡ true
 
--- whether the characters from one place to another are frames; then the last three are one
-pub record Between (s : List ℕ) (from to : ℕ) (r : Bool) : Type 0 where
-  pub judged : areFrames (drop from s) ≡ both r (areFrames (drop to s))
-  pub last : r ≡ true → from < to → isFrame em73862Digits (charsAt s (to - 3)) ≡ true
+-- whether the characters from one place to another are frames; then the last of them are one
+pub record Between (d : Device) (s : List ℕ) (from to : ℕ) (r : Bool) : Type 0 where
+  pub judged : areFrames d (drop from s) ≡ both r (areFrames d (drop to s))
+  pub last : r ≡ true → from < to → isFrameAt d s (to - frameSize d) ≡ true

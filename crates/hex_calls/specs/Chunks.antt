@@ -3,7 +3,7 @@ use Prim.Native.Nat.{ℕ}
 use mathlib.Core.Path.{_≡_}
 use mathlib.Core.List.{List, []}
 use lib.ListN.{length}
-use Rattle.numbers.specs.ComesBack.{image-is-not-8192-bytes, record-outside-the-ranges}
+use Rattle.numbers.specs.ComesBack.{image-of-another-size, record-outside-the-ranges}
 use Rattle.hex_line.specs.Refusals.{work-buffer-is-not-9216-bytes}
 use Rattle.hex_work.specs.Given.{imageSize}
 use Rattle.hex_work.specs.Work.{workSize}
@@ -58,12 +58,12 @@ pub record EndedAs (state stateAfter work workAfter image imageAfter : List ℕ)
 -- "47 work buffer not 9,216 bytes, tested first, then 1 for the image buffer", then 2 for a state of another size
 pub record FeedBytes (state stateAfter chunk work workAfter image : List ℕ) (number line : ℕ) : Type 0 where
   pub short-work : (length work ≡ workSize → ⊥) → Unchanged work-buffer-is-not-9216-bytes number line state stateAfter work workAfter image image
-  pub short-image : length work ≡ workSize → (length image ≡ imageSize → ⊥) → Unchanged image-is-not-8192-bytes number line state stateAfter work workAfter image image
+  pub short-image : length work ≡ workSize → (length image ≡ imageSize → ⊥) → Unchanged image-of-another-size number line state stateAfter work workAfter image image
   pub no-state : length work ≡ workSize → length image ≡ imageSize → (length state ≡ stateSize → ⊥) → Unchanged record-outside-the-ranges number line state stateAfter work workAfter image image
   pub feeds : length work ≡ workSize → length image ≡ imageSize → length state ≡ stateSize → FedAs state stateAfter chunk work workAfter image number line
 
 pub record EndBytes (state stateAfter work workAfter image imageAfter : List ℕ) (number line : ℕ) : Type 0 where
   pub short-work : (length work ≡ workSize → ⊥) → Unchanged work-buffer-is-not-9216-bytes number line state stateAfter work workAfter image imageAfter
-  pub short-image : length work ≡ workSize → (length image ≡ imageSize → ⊥) → Unchanged image-is-not-8192-bytes number line state stateAfter work workAfter image imageAfter
+  pub short-image : length work ≡ workSize → (length image ≡ imageSize → ⊥) → Unchanged image-of-another-size number line state stateAfter work workAfter image imageAfter
   pub no-state : length work ≡ workSize → length image ≡ imageSize → (length state ≡ stateSize → ⊥) → Unchanged record-outside-the-ranges number line state stateAfter work workAfter image imageAfter
   pub ends : length work ≡ workSize → length image ≡ imageSize → length state ≡ stateSize → EndedAs state stateAfter work workAfter image imageAfter number line

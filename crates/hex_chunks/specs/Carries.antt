@@ -4,7 +4,7 @@ use mathlib.Core.Path.{_≡_}
 use mathlib.Core.Bool.{Bool, true, false}
 use mathlib.Core.List.{List, []}
 use lib.ListN.{length}
-use Rattle.numbers.specs.ComesBack.{image-is-not-8192-bytes}
+use Rattle.numbers.specs.ComesBack.{image-of-another-size}
 use Rattle.hex_line.specs.Refusals.{work-buffer-is-not-9216-bytes}
 use Rattle.hex_work.specs.Given.{imageSize}
 use Rattle.hex_work.specs.Work.{workSize, Holds}
@@ -74,7 +74,7 @@ Fits (told r) chunk = Unit
 -- "47 work buffer not 9,216 bytes, tested first, then 1 for the image buffer"; 0 where both are right
 pub record Sized (work image : List ℕ) (r : ℕ) : Type 0 where
   pub short-work : (length work ≡ workSize → ⊥) → r ≡ work-buffer-is-not-9216-bytes
-  pub short-image : length work ≡ workSize → (length image ≡ imageSize → ⊥) → r ≡ image-is-not-8192-bytes
+  pub short-image : length work ≡ workSize → (length image ≡ imageSize → ⊥) → r ≡ image-of-another-size
   pub right : r ≡ 0 → (length work ≡ workSize) × (length image ≡ imageSize)
   pub both-right : length work ≡ workSize → length image ≡ imageSize → r ≡ 0
 
@@ -100,14 +100,14 @@ pub record Repeats (s : HexChunks) (work workAfter image imageAfter : List ℕ) 
 pub record FeedCall (s : HexChunks) (chunk work workAfter image : List ℕ) (r : Fed) : Type 0 where
   pub size : length workAfter ≡ length work
   pub short-work : (length work ≡ workSize → ⊥) → Stays work-buffer-is-not-9216-bytes s work workAfter image image r
-  pub short-image : length work ≡ workSize → (length image ≡ imageSize → ⊥) → Stays image-is-not-8192-bytes s work workAfter image image r
+  pub short-image : length work ≡ workSize → (length image ≡ imageSize → ⊥) → Stays image-of-another-size s work workAfter image image r
   pub feeds : length work ≡ workSize → length image ≡ imageSize → (session : Session) → Carries s work session → Fits session chunk → TakesTo (afterChunk session chunk) workAfter r
   pub repeats : length work ≡ workSize → length image ≡ imageSize → (t : Reading) → Carries s work (told t) → Repeats s work workAfter image image r
 
 -- the end is declared
 pub record EndCall (s : HexChunks) (work workAfter image imageAfter : List ℕ) (r : Fed) : Type 0 where
   pub short-work : (length work ≡ workSize → ⊥) → Stays work-buffer-is-not-9216-bytes s work workAfter image imageAfter r
-  pub short-image : length work ≡ workSize → (length image ≡ imageSize → ⊥) → Stays image-is-not-8192-bytes s work workAfter image imageAfter r
+  pub short-image : length work ≡ workSize → (length image ≡ imageSize → ⊥) → Stays image-of-another-size s work workAfter image imageAfter r
   pub ends : length work ≡ workSize → length image ≡ imageSize → (session : Session) → Carries s work session → TakesTo (afterEnd session) workAfter r
   pub written : length work ≡ workSize → length image ≡ imageSize → (session : Session) → Carries s work session → imageAfter ≡ imageAtEnd session image
   pub repeats : length work ≡ workSize → length image ≡ imageSize → (t : Reading) → Carries s work (told t) → Repeats s work workAfter image imageAfter r

@@ -24,7 +24,7 @@ ghost use Rattle.hex_chunks.specs.Carries.{Along, Chunked, Carries, Read
 
 pub const WORK_BUFFER_IS_NOT_9216_BYTES: u8 = 47;
 
-pub const IMAGE_IS_NOT_8192_BYTES: u8 = 1;
+pub const IMAGE_OF_ANOTHER_SIZE: u8 = 1;
 
 // The line that is begun and how many characters it has, its number, what the lines before it came to, whether the work buffer is in use, and whether the end was declared of a good text.
 pub struct HexChunks {
@@ -195,7 +195,7 @@ pub fn refusal_of(work: &[u8], image: &[u8]) -> u8
         return WORK_BUFFER_IS_NOT_9216_BYTES;
     }
     if image.len() != IMAGE_SIZE {
-        return IMAGE_IS_NOT_8192_BYTES;
+        return IMAGE_OF_ANOTHER_SIZE;
     }
     0
 }

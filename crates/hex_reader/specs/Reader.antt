@@ -5,7 +5,7 @@ use mathlib.Core.List.{List}
 use lib.Dec.{eqb}
 use lib.ListN.{length}
 use Rattle.laws.specs.Choice.{pick}
-use Rattle.numbers.specs.ComesBack.{image-is-not-8192-bytes}
+use Rattle.numbers.specs.ComesBack.{image-of-another-size}
 use Rattle.hex_work.specs.Given.{imageSize, imageOf}
 use Rattle.hex_progress.specs.Progress.{Reading, good, refused, readOf}
 use Rattle.hex_reader.specs.declared.HexRead.{HexRead}
@@ -25,7 +25,7 @@ resultOf before (refused number line) = record { number = number; line = line; i
 unfoldable pub readInto : List ℕ → List ℕ → Result
 readInto text before =
     pick (eqb (length before) imageSize) (resultOf before (readOf text))
-    (record { number = image-is-not-8192-bytes; line = 0; image = before })
+    (record { number = image-of-another-size; line = 0; image = before })
 
 -- what the call answers and leaves is that
 abbrev pub ReadHex : List ℕ → List ℕ → List ℕ → HexRead → Type 0

@@ -17,7 +17,7 @@ ghost use Rattle.hex_progress.specs.Reached.{Concluded};
 ghost use Rattle.hex_reader.specs.Reader.{ReadHex};
 
 // Document 01's refusal of an image buffer.
-pub const IMAGE_IS_NOT_8192_BYTES: u8 = 1;
+pub const IMAGE_OF_ANOTHER_SIZE: u8 = 1;
 
 // 0, or a refusal with the line of the first fault; a refusal of a buffer has line 0.
 pub struct HexRead {
@@ -60,7 +60,7 @@ pub fn read_hex(text: &[u8], image: &mut [u8]) -> HexRead
     ensures { λ r. ⌜ ReadHex (now (text .entry)) (now (image .entry)) (now (image .exit)) r ⌝ }
 {
     if image.len() != IMAGE_SIZE {
-        return answer(IMAGE_IS_NOT_8192_BYTES, 0);
+        return answer(IMAGE_OF_ANOTHER_SIZE, 0);
     }
     let mut work = [0u8; WORK_SIZE];
     match read_lines(text, &mut work) {

@@ -6,7 +6,7 @@ use mathlib.Core.List.{List, [], _∷_, _++_}
 use lib.Dec.{eqb, ltb}
 use lib.ListN.{length, take, drop}
 use Rattle.laws.specs.Choice.{pick}
-use Rattle.numbers.specs.ComesBack.{image-is-not-8192-bytes}
+use Rattle.numbers.specs.ComesBack.{image-of-another-size}
 use Rattle.text_digits.specs.Digits.{hex}
 use Rattle.hex_line.specs.Refusals.{output-buffer-under-22540-bytes}
 use Rattle.hex_line.specs.Record.{total}
@@ -63,7 +63,7 @@ writtenFrom image before =
     pick (eqb (length image) imageSize)
     (pick (ltb (length before) textSize) (record { number = output-buffer-under-22540-bytes; text = before })
     (record { number = 0; text = textOf image ++ drop textSize before }))
-    (record { number = image-is-not-8192-bytes; text = before })
+    (record { number = image-of-another-size; text = before })
 
 -- what the call answers and leaves is that
 abbrev pub WriteHex : List ℕ → List ℕ → List ℕ → ℕ → Type 0

@@ -12,7 +12,7 @@ ghost use Rattle.hex_writer.specs.Writer.{hexBytes, recordText, textOf, 
 
 pub const OUTPUT_BUFFER_UNDER_22540_BYTES: u8 = 46;
 
-pub const IMAGE_IS_NOT_8192_BYTES: u8 = 1;
+pub const IMAGE_OF_ANOTHER_SIZE: u8 = 1;
 
 pub const TEXT_SIZE: usize = 22540;
 
@@ -92,7 +92,7 @@ pub fn write_hex(image: &[u8], out: &mut [u8]) -> u8
     ensures { λ r. ⌜ WriteHex (now (image .entry)) (now (out .entry)) (now (out .exit)) r ⌝ }
 {
     if image.len() != IMAGE_SIZE {
-        return IMAGE_IS_NOT_8192_BYTES;
+        return IMAGE_OF_ANOTHER_SIZE;
     }
     if out.len() < TEXT_SIZE {
         return OUTPUT_BUFFER_UNDER_22540_BYTES;

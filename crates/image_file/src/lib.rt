@@ -1,4 +1,7 @@
-// The image that a program is given by a word of its command line.
+// The image that a program is given by a word of its command line, and the device and P3 that the words before it choose.
+use device_words::Choice;
+use device_words::device_words;
+use device_words::window_words;
 ghost use Rattle.io.specs.Counts.{Counts};
 
 // Whether the file can be read, and how many of its bytes are in the buffer.
@@ -26,4 +29,26 @@ pub fn read_image(word: usize, buffer: &mut [u8]) -> ImageFile
         readable: true,
         size: size,
     }
+}
+
+// What the words before the image choose, for a program that takes no P3.
+pub fn chosen_device() -> Choice {
+    let mut one = io::buffer();
+    let mut two = io::buffer();
+    let a = os::arg(1, &mut one);
+    let b = os::arg(2, &mut two);
+    device_words(&one[..a], &two[..b])
+}
+
+// What the words before the image choose, for a program that takes P3.
+pub fn chosen_window() -> Choice {
+    let mut one = io::buffer();
+    let mut two = io::buffer();
+    let mut three = io::buffer();
+    let mut four = io::buffer();
+    let a = os::arg(1, &mut one);
+    let b = os::arg(2, &mut two);
+    let c = os::arg(3, &mut three);
+    let d = os::arg(4, &mut four);
+    window_words(&one[..a], &two[..b], &three[..c], &four[..d])
 }

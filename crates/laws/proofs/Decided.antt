@@ -19,6 +19,10 @@ given {b} d = record { test = b; decides = d }
 abbrev pub always : Decision Unit
 always = record { test = true; decides = record { sound = λ t. t; complete = λ u. tt } }
 
+-- that a test passes
+abbrev pub holds : (b : Bool) → Decision (T b)
+holds b = record { test = b; decides = record { sound = λ t. t; complete = λ t. t } }
+
 abbrev pub less : (n k : ℕ) → Decision (n < k)
 less n k = record {
   test = ltb n k;

@@ -1,18 +1,25 @@
-// lister IMAGE [ADDRESS [COUNT]]: the rows of an image, one a line, in the sheet's notation.
-// The words are judged from the left: the image, the address, the number of lines, and that there are no more.
+// lister [--device NAME [--p3 N]] IMAGE [ADDRESS [COUNT]]: the rows of an image, one a line, in the sheet's notation, seen through the window of P3.
+// The words are judged from the left: the device and P3, the image, whether P3 may stand, the address, the number of lines, and that there are no more.
+use device::image_size;
+use device::is_banked;
+use device_words::Choice;
+use device_words::Chosen;
+use image_file::chosen_window;
 use image_file::read_image;
 use libc::STDERR_FILENO;
 use libc::STDOUT_FILENO;
-use numbers::IMAGE_BYTES;
 use text_words::Address;
 use text_words::Number;
 ghost use mathlib.Core.Path.{_≡_};
-ghost use Prim.Native.Nat.{_≤_};
+ghost use Prim.Native.Nat.{_+_, _*_, _%_, _≤_};
 ghost use lib.ListN.{length};
-ghost use Rattle.numbers.specs.Sizes.{addresses, imageBytes};
+ghost use Rattle.numbers.specs.Sizes.{addresses};
 
 fn usage() {
-    io::write_all(STDERR_FILENO, b"usage: lister IMAGE [ADDRESS [COUNT]]\n");
+    io::write_all(
+        STDERR_FILENO,
+        b"usage: lister [--device NAME [--p3 N]] IMAGE [ADDRESS [COUNT]]\n",
+    );
 }
 
 // Room for the lines of a whole image, of 37 characters each, and three more.
@@ -22,62 +29,77 @@ fn room() -> [u8; 303107]
     [0; 303107]
 }
 
-fn list(image: &[u8], at: u16, count: u32)
-    requires { ⌜ (length (now image) ≡ imageBytes) × (count ≤ addresses) ⌝ }
+fn list(image: &[u8], p3: u8, at: u16, count: u32)
+    requires { ⌜ (8192 + 4096 * (p3 % 4) ≤ length (now image)) × (count ≤ addresses) ⌝ }
 {
     let mut out = room();
-    let n = text_lister::line::listing(&mut out, image, at, count);
+    let n = text_lister::line::listing(&mut out, image, p3, at, count);
     io::write_all(STDOUT_FILENO, &out[..n]);
 }
 
-fn list_from(image: &[u8], at: u16)
-    requires { ⌜ length (now image) ≡ imageBytes ⌝ }
+fn list_from(image: &[u8], p3: u8, before: u8, at: u16)
+    requires { ⌜ 8192 + 4096 * (p3 % 4) ≤ length (now image) ⌝ }
 {
-    if os::arg_count() < 4 {
-        list(image, at, 8192);
+    let word_at = before as usize + 3;
+    if os::arg_count() <= word_at {
+        list(image, p3, at, 8192);
         return;
     }
     let mut word = io::buffer();
-    let n = os::arg(3, &mut word);
+    let n = os::arg(word_at, &mut word);
     let Number::Value(count) = text_words::read_number(&word[..n], 10) else {
         usage();
         return;
     };
-    if 4 < os::arg_count() {
+    if word_at + 1 < os::arg_count() {
         usage();
         return;
     }
-    list(image, at, count);
+    list(image, p3, at, count);
 }
 
-fn list_image(image: &[u8])
-    requires { ⌜ length (now image) ≡ imageBytes ⌝ }
+fn list_image(image: &[u8], p3: u8, before: u8)
+    requires { ⌜ 8192 + 4096 * (p3 % 4) ≤ length (now image) ⌝ }
 {
-    if os::arg_count() < 3 {
-        list(image, 0, 8192);
+    let word_at = before as usize + 2;
+    if os::arg_count() <= word_at {
+        list(image, p3, 0, 8192);
         return;
     }
     let mut word = io::buffer();
-    let n = os::arg(2, &mut word);
+    let n = os::arg(word_at, &mut word);
     let Address::At(at) = text_words::read_address(&word[..n]) else {
         io::write_all(STDOUT_FILENO, b"refused 20\n");
         return;
     };
-    list_from(image, at);
+    list_from(image, p3, before, at);
 }
 
-fn main() {
-    let mut image = [0u8; IMAGE_BYTES + 1];
-    let file = read_image(1, &mut image);
+fn list_chosen(c: Chosen) {
+    let d = c.device;
+    let mut image = [0u8; 16385];
+    let file = read_image(c.before as usize + 1, &mut image);
     if !file.readable {
         io::write_all(STDOUT_FILENO, b"refused 01\n");
         usage();
         return;
     }
     let size = file.size;
-    if size != IMAGE_BYTES {
+    if size != image_size(d) {
         io::write_all(STDOUT_FILENO, b"refused 01\n");
         return;
     }
-    list_image(&image[..size]);
+    if !is_banked(d, c.p3) {
+        io::write_all(STDOUT_FILENO, b"refused 02\n");
+        return;
+    }
+    list_image(&image[..size], c.p3 as u8, c.before);
+}
+
+fn main() {
+    let Choice::Made(c) = chosen_window() else {
+        usage();
+        return;
+    };
+    list_chosen(c);
 }

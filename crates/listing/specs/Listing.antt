@@ -4,10 +4,11 @@ use mathlib.Core.Bool.{Bool, true, false, not}
 use mathlib.Core.List.{List, [], _∷_, _++_}
 use lib.Dec.{eqb}
 use lib.ListN.{length}
-use Rattle.numbers.specs.Sizes.{imageBytes}
 use Rattle.laws.specs.Choice.{pick}
-use Rattle.numbers.specs.ComesBack.{image-is-not-8192-bytes, no-frame}
-use Rattle.sheet.specs.Reading.{romOf}
+use Rattle.numbers.specs.ComesBack.{image-of-another-size, no-frame}
+use Rattle.device.specs.Device.{imageSize, romOf}
+use Rattle.device.specs.declared.Device.{Device}
+use Rattle.device.specs.declared.Options.{Options}
 use Rattle.frame.specs.Frame.{frameOf}
 use Rattle.frame.specs.declared.Frame.{Frame}
 use Rattle.frame.specs.declared.Frame.the-variants.{Seen, NoFrame}
@@ -15,13 +16,12 @@ use Rattle.machine_start.specs.Start.{freshMachine}
 use Rattle.machine.specs.declared.Machine.{Machine}
 use Rattle.row.specs.Rows.{Done}
 use Rattle.step.specs.Step.{stepOf}
-use Rattle.step.specs.declared.Options.{Options}
 use Rattle.text_runner.specs.Lines.{header, stepLine, refusedLine}
 use Rattle.text_script.specs.Script.{linesOf}
 
 -- "all wake pins enabled, SOUND off"
-abbrev pub options : Options
-options = record { wake = 0xFF; sound = false }
+abbrev pub options : Device → Options
+options d = record { device = d; wake = 0xFF; sound = false }
 
 -- what one line of the script gives: what is printed, the record after it, and whether it is the last line
 pub record Answer : Type 0 where
@@ -37,22 +37,22 @@ stepAnswer x = record { text = stepLine (x .machine .core) (x .cycles) (x .stop)
 abbrev pub badAnswer : Machine → Answer
 badAnswer m = record { text = refusedLine no-frame; machine = m; ends = true }
 
-abbrev pub frameAnswer : (ℕ → ℕ) → Machine → Frame → Answer
-frameAnswer rom m (Seen pins) = stepAnswer (stepOf rom options m pins)
-frameAnswer rom m NoFrame = badAnswer m
+abbrev pub frameAnswer : Device → (ℕ → ℕ → ℕ) → Machine → Frame → Answer
+frameAnswer d rom m (Seen pins) = stepAnswer (stepOf rom (options d) m pins)
+frameAnswer d rom m NoFrame = badAnswer m
 
-unfoldable pub answerOf : (ℕ → ℕ) → Machine → List ℕ → Answer
-answerOf rom m line = frameAnswer rom m (frameOf line)
+unfoldable pub answerOf : Device → (ℕ → ℕ → ℕ) → Machine → List ℕ → Answer
+answerOf d rom m line = frameAnswer d rom m (frameOf d line)
 
 -- "one step a line, any number of lines", "Lines after a stop are not read."
-abbrev pub toldOver : (ℕ → ℕ) → Machine → List (List ℕ) → List ℕ
-toldOver rom m [] = []
-toldOver rom m (l ∷ ls) =
-    let a : Answer = answerOf rom m l in a .text ++ pick (a .ends) [] (toldOver rom (a .machine) ls)
+abbrev pub toldOver : Device → (ℕ → ℕ → ℕ) → Machine → List (List ℕ) → List ℕ
+toldOver d rom m [] = []
+toldOver d rom m (l ∷ ls) =
+    let a : Answer = answerOf d rom m l in a .text ++ pick (a .ends) [] (toldOver d rom (a .machine) ls)
 
 -- "It starts from the fresh record"; "A bad or unreadable image .. prints "refused 01" .. and ends; 01 comes before the header"
-unfoldable pub listingOf : List ℕ → List ℕ → List ℕ
-listingOf image script =
-    pick (eqb (length image) imageBytes)
-    (header ++ toldOver (romOf image) freshMachine (linesOf script))
-    (refusedLine image-is-not-8192-bytes)
+unfoldable pub listingOf : Device → List ℕ → List ℕ → List ℕ
+listingOf d image script =
+    pick (eqb (length image) (imageSize d))
+    (header ++ toldOver d (romOf image) (freshMachine d) (linesOf script))
+    (refusedLine image-of-another-size)

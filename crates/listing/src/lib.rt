@@ -1,16 +1,16 @@
 // The runner's listing: one line of a script answered, and the lines of a part of a script.
+use device::Device;
+use device::Options;
 use frame::Frame;
 use frame::frame_of;
 use machine::Core;
 use machine::Ram;
-use step::Options;
 use step::advance;
 use text_script::line_end;
 ghost use mathlib.Core.Path.{_≡_};
 ghost use Prim.Native.Nat.{_+_, _≤_};
 ghost use lib.ListN.{length};
-ghost use Rattle.numbers.specs.Sizes.{imageBytes};
-ghost use Rattle.sheet.specs.Reading.{romOf};
+ghost use Rattle.device.specs.Device.{imageSize, romOf};
 ghost use Rattle.machine.specs.Valid.{ValidCore, Nibbles};
 ghost use Rattle.listing.specs.Listing.{answerOf};
 ghost use Rattle.listing.specs.Tells.{Tells, Feeds};
@@ -31,11 +31,19 @@ pub struct Fed {
 }
 
 // A line of the script, without its LF: its step on the RAM that is lent, or a refusal, and its text.
-pub fn tell(image: &[u8], m: Core, ram: &mut Ram, text: &[u8], out: &mut [u8], from: usize) -> Told
-    requires { ⌜ (length (now image) ≡ imageBytes) × (ValidCore m) × (Nibbles (now ram)) × (from + 26 ≤ length (now out)) ⌝ }
-    ensures { λ r. ⌜ Tells (answerOf (romOf (now (image .entry))) (record { core = m; ram = now (ram .entry) }) (now (text .entry))) (now (out .entry)) (now (out .exit)) from (now (ram .exit)) r ⌝ }
+pub fn tell(
+    d: Device,
+    image: &[u8],
+    m: Core,
+    ram: &mut Ram,
+    text: &[u8],
+    out: &mut [u8],
+    from: usize,
+) -> Told
+    requires { ⌜ (length (now image) ≡ imageSize d) × (ValidCore d m) × (Nibbles (now ram)) × (from + 26 ≤ length (now out)) ⌝ }
+    ensures { λ r. ⌜ Tells d (answerOf d (romOf (now (image .entry))) (record { core = m; ram = now (ram .entry) }) (now (text .entry))) (now (out .entry)) (now (out .exit)) from (now (ram .exit)) r ⌝ }
 {
-    let Frame::Seen(pins) = frame_of(text) else {
+    let Frame::Seen(pins) = frame_of(d, text) else {
         let end = text_runner::refused(out, from, 3);
         return Told {
             core: m,
@@ -44,6 +52,7 @@ pub fn tell(image: &[u8], m: Core, ram: &mut Ram, text: &[u8], out: &mut [u8], f
         };
     };
     let options = Options {
+        device: d,
         wake: 255,
         sound: false,
     };
@@ -69,9 +78,17 @@ fn so_far(core: Core, ended: bool, used: usize, at: usize) -> Fed
 }
 
 // The whole lines of a part of the script, up to the last of the listing, or as many as there is room for.
-pub fn feed(image: &[u8], m: Core, ram: &mut Ram, part: &[u8], out: &mut [u8], from: usize) -> Fed
-    requires { ⌜ (length (now image) ≡ imageBytes) × (ValidCore m) × (Nibbles (now ram)) × (from ≤ length (now out)) ⌝ }
-    ensures { λ r. ⌜ Feeds (romOf (now (image .entry))) (record { core = m; ram = now (ram .entry) }) (now (part .entry)) (now (out .entry)) (now (out .exit)) from (now (ram .exit)) r ⌝ }
+pub fn feed(
+    d: Device,
+    image: &[u8],
+    m: Core,
+    ram: &mut Ram,
+    part: &[u8],
+    out: &mut [u8],
+    from: usize,
+) -> Fed
+    requires { ⌜ (length (now image) ≡ imageSize d) × (ValidCore d m) × (Nibbles (now ram)) × (from ≤ length (now out)) ⌝ }
+    ensures { λ r. ⌜ Feeds d (romOf (now (image .entry))) (record { core = m; ram = now (ram .entry) }) (now (part .entry)) (now (out .entry)) (now (out .exit)) from (now (ram .exit)) r ⌝ }
 {
     let mut core = m;
     let mut used = 0;
@@ -81,7 +98,7 @@ pub fn feed(image: &[u8], m: Core, ram: &mut Ram, part: &[u8], out: &mut [u8], f
         if end == part.len() {
             return so_far(core, false, used, at);
         }
-        let told = tell(image, core, ram, &part[used..end], out, at);
+        let told = tell(d, image, core, ram, &part[used..end], out, at);
         core = told.core;
         used = end + 1;
         at = told.at;

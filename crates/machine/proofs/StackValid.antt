@@ -7,6 +7,7 @@ use borrow.Author.Tests.{eq-eqb}
 use Rattle.bits.specs.Bits.{withoutBit}
 use Rattle.bits.proofs.Laws.{without-le}
 use Rattle.laws.proofs.Computed.{below, implies, at, modus, true→T}
+use Rattle.device.specs.declared.Device.{Device}
 use Rattle.machine.specs.Valid.{ValidRegisters, ValidInterrupts, ValidCore, Valid}
 use Rattle.machine.specs.Stack.{CanPush, CanPop, level, topOf, topAt, keptTop, moved, pushed, popped, called, accepted, interruptEntry, flagsReturned}
 use Rattle.machine.specs.declared.Registers.{Registers}
@@ -18,22 +19,22 @@ use Rattle.machine.proofs.WithValid.{with-regs, with-pc, with-ptrs, wit
 use Rattle.machine.proofs.Levels.{stored-nibbles, pc-at-lt, top-lt, kept-lt}
 
 -- other registers, PC, SP and interrupt bits in a valid record
-pub moved-valid : {m : Core} {r : Registers} {pc sp : ℕ} {i : Interrupts} → ValidCore m → ValidRegisters r → pc < 8192 → sp < 16 → ValidInterrupts i → ValidCore (moved m r pc sp i)
+pub moved-valid : {d : Device} {m : Core} {r : Registers} {pc sp : ℕ} {i : Interrupts} → ValidCore d m → ValidRegisters r → pc < 8192 → sp < 16 → ValidInterrupts i → ValidCore d (moved m r pc sp i)
 moved-valid v hr hp hs hi = with-ints (with-ptrs (with-pc (with-regs v hr) hp) (record { sp = hs; dp = v .ptrs .dp })) hi
 
-pub pushed-valid : (m : Machine) (ret top : ℕ) → Valid m → CanPush (m .core) → top < 16 → Valid (pushed m ret top)
+pub pushed-valid : {d : Device} (m : Machine) (ret top : ℕ) → Valid d m → CanPush (m .core) → top < 16 → Valid d (pushed m ret top)
 pushed-valid m ret top v c h = record {
   core = moved-valid (v .core) (v .core .regs) (v .core .pc) (omega arith) (v .core .ints);
   ram = stored-nibbles (m .ram) (m .core .ptrs .sp - 1) ret top (v .ram) h;
 }
 
-pub popped-valid : (m : Machine) → Valid m → CanPop (m .core) → Valid (popped m)
+pub popped-valid : {d : Device} (m : Machine) → Valid d m → CanPop (m .core) → Valid d (popped m)
 popped-valid m v c = record {
   core = moved-valid (v .core) (v .core .regs) (pc-at-lt (m .ram) (m .core .ptrs .sp) (v .ram) (c .below)) (omega arith) (v .core .ints);
   ram = v .ram;
 }
 
-pub called-valid : (m : Machine) (ret target : ℕ) → Valid m → CanPush (m .core) → ret < 8192 → target < 8192 → Valid (called m ret target)
+pub called-valid : {d : Device} (m : Machine) (ret target : ℕ) → Valid d m → CanPush (m .core) → ret < 8192 → target < 8192 → Valid d (called m ret target)
 unfolding called
 called-valid m ret target v c hr ht =
     let old = v .ram .each (level (m .core .ptrs .sp - 1) + 3) (omega arith) in
@@ -54,7 +55,7 @@ still-clear il latch h e l =
     (at (λ n. below 6 (λ l. implies (eqb (n / 16 % 2) 0) (eqb (withoutBit n (2 ^ l) / 16 % 2) 0))) 64 tt il h) latch l)
     (true→T (eq-eqb (il / 16 % 2) 0 e)))
 
-pub accepted-valid : (m : Machine) (latch : ℕ) → Valid m → CanPush (m .core) → latch < 6 → Valid (accepted m latch)
+pub accepted-valid : {d : Device} (m : Machine) (latch : ℕ) → Valid d m → CanPush (m .core) → latch < 6 → Valid d (accepted m latch)
 unfolding accepted
 accepted-valid m latch v c h =
     let i = v .core .ints in
@@ -67,7 +68,7 @@ accepted-valid m latch v c h =
       ram = n .ram;
     }
 
-pub flags-returned-valid : (m : Machine) → Valid m → CanPop (m .core) → Valid (flagsReturned m)
+pub flags-returned-valid : {d : Device} (m : Machine) → Valid d m → CanPop (m .core) → Valid d (flagsReturned m)
 unfolding flagsReturned
 flags-returned-valid m v c =
     let n = popped-valid m v c in

@@ -4,6 +4,8 @@ use mathlib.Core.Path.{_≡_}
 use mathlib.Core.List.{List}
 use lib.ListN.{length, getD}
 use Rattle.numbers.specs.Sizes.{addresses, ramNibbles}
+use Rattle.device.specs.Device.{alsoBelow, Banked}
+use Rattle.device.specs.declared.Device.{Device}
 use Rattle.frame.specs.Frame.{PinsInRange}
 use Rattle.due.specs.Due.{dueNumber}
 use Rattle.machine.specs.declared.Registers.{Registers}
@@ -39,8 +41,16 @@ pub record ValidTimers (t : Timers) : Type 0 where
   pub ta : t .ta < 4096
   pub tb : t .tb < 4096
 
+-- Q-6: P3 as the window may have it, and P5, P6 and P17; of a port that the device does not have the latch holds 0
+pub record ValidAlso (d : Device) (p : Ports) : Type 0 where
+  pub p3 : Banked d (p .p3)
+  pub p5 : p .p5 < alsoBelow d 5
+  pub p6 : p .p6 < alsoBelow d 6
+  pub p17 : p .p17 < alsoBelow d 17
+
 -- "P25 and P27 never hold 10xx."
-pub record ValidPorts (p : Ports) : Type 0 where
+pub record ValidPorts (d : Device) (p : Ports) : Type 0 where
+  pub also : ValidAlso d p
   pub p4 : p .p4 < 16
   pub p8 : p .p8 < 16
   pub p9 : p .p9 < 16
@@ -62,14 +72,14 @@ ModeFits Mode.Sleep p16 = (p16 / 4 % 2 ≡ 1) × (p16 % 4 ≡ 3 → ⊥)
 ModeFits Mode.Hold p16 = (p16 / 4 % 2 ≡ 1) × (p16 % 4 ≡ 3)
 
 -- "PC 0 to 8191." "Last frame seen." The mark is a truth value
-pub record ValidCore (m : Core) : Type 0 where
+pub record ValidCore (d : Device) (m : Core) : Type 0 where
   pub regs : ValidRegisters (m .regs)
   pub pc : m .pc < addresses
   pub ptrs : ValidPointers (m .ptrs)
   pub ints : ValidInterrupts (m .ints)
   pub timers : ValidTimers (m .timers)
-  pub ports : ValidPorts (m .ports)
-  pub pins : PinsInRange (m .pins)
+  pub ports : ValidPorts d (m .ports)
+  pub pins : PinsInRange d (m .pins)
   pub mode : ModeFits (m .mode) (m .ports .p16)
 
 -- "RAM: 372 nibbles": so many, and each is 0 to 15
@@ -77,6 +87,6 @@ pub record Nibbles (ram : List ℕ) : Type 0 where
   pub size : length ram ≡ ramNibbles
   pub each : (i : ℕ) → i < ramNibbles → getD ram i 0 < 16
 
-pub record Valid (m : Machine) : Type 0 where
-  pub core : ValidCore (m .core)
+pub record Valid (d : Device) (m : Machine) : Type 0 where
+  pub core : ValidCore d (m .core)
   pub ram : Nibbles (m .ram)

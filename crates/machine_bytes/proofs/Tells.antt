@@ -33,10 +33,14 @@ machineFrom l = record {
     timers = record { base = twoAt l 29 + 65536 * twoAt l 31; ta = twoAt l 20; tb = twoAt l 22 };
     ports =
         record {
+          p3 = getD l 39 0;
           p4 = getD l 5 0;
+          p5 = getD l 40 0;
+          p6 = getD l 41 0;
           p8 = getD l 6 0;
           p9 = getD l 7 0;
           p16 = getD l 8 0;
+          p17 = getD l 42 0;
           p23 = getD l 9 0;
           p24 = getD l 10 0;
           p25 = getD l 11 0;
@@ -45,11 +49,11 @@ machineFrom l = record {
           p29 = getD l 14 0;
           p30 = getD l 15 0;
         };
-    pins = record { p0 = getD l 33 0; p8 = getD l 34 0; p4 = getD l 35 0 };
+    pins = record { p0 = getD l 33 0; p8 = getD l 34 0; p4 = getD l 35 0; speech = getD l 43 0 };
     mode = modeFrom (getD l 36 0);
     mark = flagAt l 37;
   };
-  ram = drop 39 l;
+  ram = drop 44 l;
 }
 
 two-back : (n : ℕ) → n % 256 + 256 * (n / 256) ≡ n
@@ -90,7 +94,7 @@ mode-lt Mode.Sleep = omega arith
 mode-lt Mode.Hold = omega arith
 
 -- what a record's bytes meet, whatever the record
-pub flags-of : (m : Machine) → FlagsFit (take 39 (recordBytes m))
+pub flags-of : (m : Machine) → FlagsFit (take 44 (recordBytes m))
 unfolding nibblesOf othersOf latchBytes two four
 flags-of m =
     record { cf = bit-lt (m .core .regs .cf); zf = bit-lt (m .core .regs .zf); sf = bit-lt (m .core .regs .sf); ei = bit-lt (m .core .ints .ei); mode = mode-lt (m .core .mode); mark = bit-lt (m .core .mark) }

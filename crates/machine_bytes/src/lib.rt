@@ -1,6 +1,7 @@
-// The record as 411 bytes, and back. The layout loses nothing: proofs/Tells.antt, `one-record`.
+// The record as 416 bytes, and back. The layout loses nothing: proofs/Tells.antt, `one-record`.
 use bits::bit_of;
 use bytes::copy;
+use device::Device;
 use frame::Pins;
 use laws::both;
 use machine::Core;
@@ -22,14 +23,14 @@ ghost use lib.ListN.{length, take, drop};
 ghost use Rattle.laws.specs.Decides.{Decides};
 ghost use Rattle.laws.specs.Writing.{Wrote};
 ghost use Rattle.bits.specs.Bits.{bitOf};
-ghost use Rattle.machine_bytes.specs.Layout.{headSize, recordSize, two, four, modeNumber, latchBytes, nibblesOf, othersOf, headOf, Holds};
-ghost use Rattle.machine_bytes.specs.Unpacked.{FlagsFit, RegistersAt, InterruptsAt, TimersAt, Unpacks};
+ghost use Rattle.machine_bytes.specs.Layout.{headSize, recordSize, two, four, modeNumber, nibblesOf, othersOf, headOf, Holds};
+ghost use Rattle.machine_bytes.specs.Unpacked.{FlagsFit, RegistersAt, InterruptsAt, TimersAt, PortsAt, Unpacks};
 
 // How many bytes a record takes.
-pub const RECORD_BYTES: usize = 411;
+pub const RECORD_BYTES: usize = 416;
 
 // How many of them come before RAM.
-const HEAD_BYTES: usize = 39;
+const HEAD_BYTES: usize = 44;
 
 // Whether a buffer holds a record, and that record; where it holds none, the fresh one.
 pub struct Unpacked {
@@ -83,8 +84,8 @@ fn nibbles_of(m: Core) -> [u8; 16]
     ]
 }
 
-// Bytes 16 to 38.
-fn others_of(m: Core) -> [u8; 23]
+// Bytes 16 to 43.
+fn others_of(m: Core) -> [u8; 28]
     ensures { λ r. ⌜ r ≡ othersOf m ⌝ }
 {
     let mode = m.mode;
@@ -114,6 +115,11 @@ fn others_of(m: Core) -> [u8; 23]
         mode_number(mode),
         bit_of(m.mark),
         m.ints.due,
+        m.ports.p3,
+        m.ports.p5,
+        m.ports.p6,
+        m.ports.p17,
+        m.pins.speech,
     ]
 }
 
@@ -179,13 +185,17 @@ fn flags_fit(head: &[u8; HEAD_BYTES]) -> bool
 
 fn ports_of(head: &[u8; HEAD_BYTES]) -> Ports
     requires { ⌜ length (now head) ≡ headSize ⌝ }
-    ensures { λ r. ⌜ latchBytes r ≡ take 11 (drop 5 (now (head .entry))) ⌝ }
+    ensures { λ r. ⌜ PortsAt (now (head .entry)) r ⌝ }
 {
     Ports {
+        p3: head[39],
         p4: head[5],
+        p5: head[40],
+        p6: head[41],
         p8: head[6],
         p9: head[7],
         p16: head[8],
+        p17: head[42],
         p23: head[9],
         p24: head[10],
         p25: head[11],
@@ -245,6 +255,7 @@ fn core_of(head: &[u8; HEAD_BYTES]) -> Core
         p0: head[33],
         p8: head[34],
         p4: head[35],
+        speech: head[43],
     };
     Core {
         regs: registers_of(head),
@@ -264,7 +275,7 @@ fn no_record() -> Unpacked
 {
     Unpacked {
         held: false,
-        machine: fresh(),
+        machine: fresh(Device::Em73862),
     }
 }
 

@@ -1,1 +1,2 @@
+mod Alike
 pub mod Starting

@@ -1,4 +1,7 @@
 // The fresh record, and reset.
+use device::Device;
+use device::fresh_p4;
+use device::reset_p17;
 use frame::Pins;
 use machine::Core;
 use machine::Machine;
@@ -20,8 +23,8 @@ pub struct AfterReset {
     pub machine: Machine,
 }
 
-fn fresh_core(regs: Registers, ptrs: Pointers) -> Core
-    ensures { λ r. ⌜ r ≡ freshCore regs ptrs ⌝ }
+fn fresh_core(d: Device, regs: Registers, ptrs: Pointers) -> Core
+    ensures { λ r. ⌜ r ≡ freshCore d regs ptrs ⌝ }
 {
     Core {
         regs: regs,
@@ -34,10 +37,14 @@ fn fresh_core(regs: Registers, ptrs: Pointers) -> Core
             tb: 0,
         },
         ports: Ports {
+            p3: 0,
             p4: 15,
+            p5: 0,
+            p6: 0,
             p8: 15,
             p9: 0,
             p16: 0,
+            p17: reset_p17(d),
             p23: 15,
             p24: 15,
             p25: 0,
@@ -49,15 +56,16 @@ fn fresh_core(regs: Registers, ptrs: Pointers) -> Core
         pins: Pins {
             p0: 15,
             p8: 15,
-            p4: 1,
+            p4: fresh_p4(d),
+            speech: 0,
         },
         mode: Mode::Running,
         mark: false,
     }
 }
 
-pub fn fresh() -> Machine
-    ensures { λ r. ⌜ r ≡ freshMachine ⌝ }
+pub fn fresh(d: Device) -> Machine
+    ensures { λ r. ⌜ r ≡ freshMachine d ⌝ }
 {
     let regs = Registers {
         acc: 0,
@@ -67,7 +75,7 @@ pub fn fresh() -> Machine
         zf: false,
         sf: true,
     };
-    let core = fresh_core(regs, Pointers { sp: 0, dp: 0 });
+    let core = fresh_core(d, regs, Pointers { sp: 0, dp: 0 });
     let ram = [0u8; RAM_NIBBLES];
     Machine {
         core: core,
@@ -75,21 +83,21 @@ pub fn fresh() -> Machine
     }
 }
 
-fn reset_core(m: Core) -> Core
-    ensures { λ r. ⌜ r ≡ resetCore m ⌝ }
+fn reset_core(d: Device, m: Core) -> Core
+    ensures { λ r. ⌜ r ≡ resetCore d m ⌝ }
 {
     let mut regs = m.regs;
     regs.sf = true;
     let ptrs = m.ptrs;
-    fresh_core(regs, ptrs)
+    fresh_core(d, regs, ptrs)
 }
 
 // Reset, or refusal 2 and the record as it was.
-pub fn reset(m: Machine) -> AfterReset
-    ensures { λ r. ⌜ ResetOf m r ⌝ }
+pub fn reset(d: Device, m: Machine) -> AfterReset
+    ensures { λ r. ⌜ ResetOf d m r ⌝ }
 {
-    if is_valid(m) {
-        let core = reset_core(m.core);
+    if is_valid(d, m) {
+        let core = reset_core(d, m.core);
         let mut machine = m;
         machine.core = core;
         return AfterReset {

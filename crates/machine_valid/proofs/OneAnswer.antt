@@ -2,6 +2,7 @@
 use mathlib.Core.Bool.{Bool, true, false}
 use mathlib.Core.Path.{_≡_, refl}
 use Rattle.laws.specs.Decides.{Decides}
+use Rattle.device.specs.declared.Device.{Device}
 use Rattle.machine.specs.Valid.{Valid}
 use Rattle.machine.specs.declared.Machine.{Machine}
 
@@ -11,5 +12,5 @@ one-decision false false d e = refl
 one-decision true false d e = absurd (e .complete (d .sound tt))
 one-decision false true d e = absurd (d .complete (e .sound tt))
 
-pub one-answer : (m : Machine) (a b : Bool) → Decides a (Valid m) → Decides b (Valid m) → a ≡ b
-one-answer m = one-decision
+pub one-answer : (d : Device) (m : Machine) (a b : Bool) → Decides a (Valid d m) → Decides b (Valid d m) → a ≡ b
+one-answer d m = one-decision

@@ -1,4 +1,9 @@
 // Whether a record is within its ranges.
+use device::Device;
+use device::also_below;
+use device::is_banked;
+use device::p4_limit;
+use device::speech_limit;
 use due::due_number;
 use frame::Pins;
 use laws::both;
@@ -19,7 +24,7 @@ ghost use Rattle.laws.specs.Decides.{Decides};
 ghost use Rattle.frame.specs.Frame.{PinsInRange};
 ghost use lib.ListN.{length};
 ghost use Rattle.numbers.specs.Sizes.{ramNibbles};
-ghost use Rattle.machine.specs.Valid.{ValidRegisters, ValidPointers, ValidInterrupts, ValidTimers, ValidPorts, ModeFits, ValidCore, Nibbles, Valid};
+ghost use Rattle.machine.specs.Valid.{ValidRegisters, ValidPointers, ValidInterrupts, ValidTimers, ValidAlso, ValidPorts, ModeFits, ValidCore, Nibbles, Valid};
 
 fn registers_valid(r: Registers) -> bool
     ensures { λ x. ⌜ Decides x (ValidRegisters r) ⌝ }
@@ -52,20 +57,36 @@ fn timers_valid(t: Timers) -> bool
     )
 }
 
-fn ports_valid(p: Ports) -> bool
-    ensures { λ x. ⌜ Decides x (ValidPorts p) ⌝ }
+// P3, P5, P6 and P17.
+fn also_valid(d: Device, p: Ports) -> bool
+    ensures { λ x. ⌜ Decides x (ValidAlso d p) ⌝ }
 {
+    let p3 = is_banked(d, p.p3 as u32);
+    let p5 = p.p5 < also_below(d, 5);
+    let p6 = p.p6 < also_below(d, 6);
+    let p17 = p.p17 < also_below(d, 17);
+    both(p3, both(p5, both(p6, p17)))
+}
+
+fn ports_valid(d: Device, p: Ports) -> bool
+    ensures { λ x. ⌜ Decides x (ValidPorts d p) ⌝ }
+{
+    let also = also_valid(d, p);
     let p4_to_16 = both(p.p4 < 16, both(p.p8 < 16, both(p.p9 < 16, p.p16 < 16)));
     let p23_to_27 = both(p.p23 < 16, both(p.p24 < 16, both(p.p25 < 16, p.p27 < 16)));
     let p28_to_30 = both(p.p28 < 16, both(p.p29 < 16, p.p30 < 16));
     let never = both(p.p25 / 4 != 2, p.p27 / 4 != 2);
-    both(p4_to_16, both(p23_to_27, both(p28_to_30, never)))
+    both(
+        also,
+        both(p4_to_16, both(p23_to_27, both(p28_to_30, never))),
+    )
 }
 
-fn pins_valid(p: Pins) -> bool
-    ensures { λ x. ⌜ Decides x (PinsInRange p) ⌝ }
+fn pins_valid(d: Device, p: Pins) -> bool
+    ensures { λ x. ⌜ Decides x (PinsInRange d p) ⌝ }
 {
-    both(p.p0 < 16, both(p.p8 < 16, p.p4 < 2))
+    let ports = both(p.p0 < 16, p.p8 < 16);
+    both(ports, both(p.p4 < p4_limit(d), p.speech < speech_limit(d)))
 }
 
 fn mode_fits(mode: Mode, p16: u8) -> bool
@@ -78,8 +99,8 @@ fn mode_fits(mode: Mode, p16: u8) -> bool
     }
 }
 
-fn core_is_valid(m: Core) -> bool
-    ensures { λ x. ⌜ Decides x (ValidCore m) ⌝ }
+fn core_is_valid(d: Device, m: Core) -> bool
+    ensures { λ x. ⌜ Decides x (ValidCore d m) ⌝ }
 {
     let mode = m.mode;
     let registers = both(
@@ -88,8 +109,8 @@ fn core_is_valid(m: Core) -> bool
     );
     let clocks = both(interrupts_valid(m.ints), timers_valid(m.timers));
     let outside = both(
-        ports_valid(m.ports),
-        both(pins_valid(m.pins), mode_fits(mode, m.ports.p16)),
+        ports_valid(d, m.ports),
+        both(pins_valid(d, m.pins), mode_fits(mode, m.ports.p16)),
     );
     both(registers, both(clocks, outside))
 }
@@ -108,10 +129,10 @@ fn are_nibbles(ram: &Ram) -> bool
     true
 }
 
-pub fn is_valid(m: Machine) -> bool
-    ensures { λ x. ⌜ Decides x (Valid m) ⌝ }
+pub fn is_valid(d: Device, m: Machine) -> bool
+    ensures { λ x. ⌜ Decides x (Valid d m) ⌝ }
 {
     let core = m.core;
     let ram = m.ram;
-    both(core_is_valid(core), are_nibbles(&ram))
+    both(core_is_valid(d, core), are_nibbles(&ram))
 }

@@ -24,8 +24,8 @@ abbrev pub refusedWith : ℕ → ℕ → Paper
 refusedWith n value = record { number = n; values = value ∷ [] }
 
 -- the table's numbers, with its words
-abbrev pub image-is-not-8192-bytes : ℕ
-image-is-not-8192-bytes = 1
+abbrev pub image-of-another-size : ℕ
+image-of-another-size = 1
 
 abbrev pub record-outside-the-ranges : ℕ
 record-outside-the-ranges = 2
@@ -66,8 +66,8 @@ stack-level = 32
 abbrev pub absent-port : ℕ
 absent-port = 33
 
-abbrev pub reserved-10xx : ℕ
-reserved-10xx = 34
+abbrev pub reserved-value : ℕ
+reserved-value = 34
 
 -- Q-8: "Refusals: 35, a stop in a step", of "an instruction whose bytes pass the end of the image"
 abbrev pub past-end : ℕ

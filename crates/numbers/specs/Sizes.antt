@@ -16,7 +16,3 @@ lastAddress = 8191
 -- "RAM: 372 nibbles"
 abbrev pub ramNibbles : ℕ
 ramNibbles = 372
-
--- "more bytes than 65,536 frames take", each of three characters
-abbrev pub mostFrameBytes : ℕ
-mostFrameBytes = 196608

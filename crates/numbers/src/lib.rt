@@ -12,11 +12,8 @@ pub const LAST_ADDRESS: u32 = 8191;
 // "RAM: 372 nibbles"
 pub const RAM_NIBBLES: usize = 372;
 
-// "more bytes than 65,536 frames take", each of three characters
-pub const MOST_FRAME_BYTES: usize = 196608;
-
 // The table "What comes back", in its order.
-pub const IMAGE_IS_NOT_8192_BYTES: u8 = 1;
+pub const IMAGE_OF_ANOTHER_SIZE: u8 = 1;
 
 pub const RECORD_OUTSIDE_THE_RANGES: u8 = 2;
 
@@ -44,7 +41,7 @@ pub const STACK_LEVEL: u8 = 32;
 
 pub const ABSENT_PORT: u8 = 33;
 
-pub const RESERVED_10XX: u8 = 34;
+pub const RESERVED_VALUE: u8 = 34;
 
 // "35, a stop in a step": Q-8
 pub const PAST_END: u8 = 35;

@@ -1,137 +1,13 @@
-// The pane's calls on numbers and byte buffers, for C and for whatever calls C: include/em73862_pane.h declares them. They know an image and an address, and no record.
-// Two answers of a call to the same inputs are equal, for each of the five: proofs/OneAnswer.antt.
-use bound::bound;
-use bytes::copy;
-use numbers::ADDRESS_OVER_8191;
-use numbers::IMAGE_IS_NOT_8192_BYTES;
-use numbers::PAST_END;
-use numbers::UNASSIGNED_CODE;
-use reader::Answer;
-use reader::read;
-use sheet::Insn;
-use sheet::rows;
-use text_notation::goes_to;
-ghost use mathlib.Core.Path.{_≡_};
-ghost use Prim.Native.Nat.{_<_};
-ghost use Rattle.numbers.specs.ComesBack.{refused};
-ghost use Rattle.reader.specs.Answer.{paperOf};
-ghost use Rattle.pane.specs.Numbers.{OfRead};
-ghost use Rattle.pane.specs.Operands.{Fits, beginsInB, operandAt, goesSomewhere, goesFrom};
-ghost use Rattle.pane.specs.Pane.{ReadCall, LengthCall, RowCall, NotationCall, BoundCall};
-
-// A row has at most 16 characters; text_notation::row asks for room.
-const TEXT_ROOM: usize = 24;
-
-// "8192 if neither"
-const NOWHERE: u16 = 8192;
-
-// What the reader answers, as numbers.
-pub struct ReadNumbers {
-    pub number: u8,
-    pub insn: Insn,
-    pub bytes: u8,
-    pub cycles: u8,
-}
-
-// The operands of a row in its mnemonic's order.
-pub struct Operands {
-    pub first: u16,
-    pub second: u16,
-}
-
-fn no_row(number: u8) -> ReadNumbers
-    ensures { λ r. ⌜ OfRead (refused number) r ⌝ }
-{
-    ReadNumbers {
-        number: number,
-        insn: Insn { row: 0, a: 0, b: 0 },
-        bytes: 0,
-        cycles: 0,
-    }
-}
-
-fn read_numbers(answer: Answer) -> ReadNumbers
-    ensures { λ r. ⌜ OfRead (paperOf answer) r ⌝ }
-{
-    match answer {
-        Answer::Row(d) => {
-            let insn = d.insn;
-            ReadNumbers {
-                number: 0,
-                insn: insn,
-                bytes: d.bytes,
-                cycles: d.cycles,
-            }
-        }
-        Answer::Unassigned => no_row(UNASSIGNED_CODE),
-        Answer::PastEnd => no_row(PAST_END),
-        Answer::ImageSize => no_row(IMAGE_IS_NOT_8192_BYTES),
-        Answer::AddressRange => no_row(ADDRESS_OVER_8191),
-    }
-}
-
-// Whether the first operand in a row's mnemonic is y or p.
-fn begins_in_b(row: u8) -> bool
-    ensures { λ r. ⌜ r ≡ beginsInB row ⌝ }
-{
-    match row {
-        rows::CLP => true,
-        rows::CLR => true,
-        rows::SEP => true,
-        rows::SET => true,
-        rows::TF => true,
-        rows::TFP => true,
-        rows::TT => true,
-        rows::TTP => true,
-        rows::INA => true,
-        rows::INM => true,
-        rows::OUTA => true,
-        rows::OUTM => true,
-        _ => false,
-    }
-}
-
-// An operand that the row has not is 0.
-fn in_order(insn: Insn) -> Operands
-    requires { ⌜ Fits insn ⌝ }
-    ensures { λ r. ⌜ (r .first ≡ operandAt insn 0) × (r .second ≡ operandAt insn 1) ⌝ }
-{
-    let b = insn.b as u16;
-    if begins_in_b(insn.row) {
-        return Operands {
-            first: b,
-            second: insn.a,
-        };
-    }
-    Operands {
-        first: insn.a,
-        second: b,
-    }
-}
-
-fn is_branch_or_call(row: u8) -> bool
-    ensures { λ r. ⌜ r ≡ goesSomewhere row ⌝ }
-{
-    match row {
-        rows::SBR => true,
-        rows::LBR => true,
-        rows::SLBR => true,
-        rows::LCALL => true,
-        rows::SCALL => true,
-        _ => false,
-    }
-}
-
-// Where a row that stands at an address goes.
-fn target(at: u16, insn: Insn) -> u16
-    requires { ⌜ (at < 8192) × (insn .a < 8192) ⌝ }
-    ensures { λ r. ⌜ r ≡ goesFrom at insn ⌝ }
-{
-    if is_branch_or_call(insn.row) {
-        return goes_to(at, insn) as u16;
-    }
-    NOWHERE
-}
+// The pane's calls of the EM73862, for C and for whatever calls C: include/em73862_pane.h declares them. They know an image and an address, and no record.
+// Two answers of a call to the same inputs are equal, for each of the five: crates/pane_device/proofs/OneAnswer.antt.
+use device::Device;
+use pane_device::bound_call;
+use pane_device::length_call;
+use pane_device::notation_call;
+use pane_device::read_call;
+use pane_device::row_call;
+ghost use Rattle.device.specs.declared.Device.the-variants.{Em73862};
+ghost use Rattle.pane_device.specs.Pane.{ReadCall, LengthCall, RowCall, NotationCall, BoundCall};
 
 #[no_mangle]
 pub extern "C" fn em73862_read(
@@ -141,23 +17,16 @@ pub extern "C" fn em73862_read(
     a: &mut u16,
     b: &mut u8,
 ) -> u8
-    ensures { λ r. ⌜ ReadCall (now (image .entry)) address r (now (row .exit)) (now (a .exit)) (now (b .exit)) ⌝ }
+    ensures { λ r. ⌜ ReadCall Em73862 (now (image .entry)) 0 address r (now (row .exit)) (now (a .exit)) (now (b .exit)) ⌝ }
 {
-    let n = read_numbers(read(image, address));
-    *row = n.insn.row;
-    *a = n.insn.a;
-    *b = n.insn.b;
-    n.number
+    read_call(Device::Em73862, image, 0, address, row, a, b)
 }
 
 #[no_mangle]
 pub extern "C" fn em73862_length(image: &[u8], address: u32, bytes: &mut u8, cycles: &mut u8) -> u8
-    ensures { λ r. ⌜ LengthCall (now (image .entry)) address r (now (bytes .exit)) (now (cycles .exit)) ⌝ }
+    ensures { λ r. ⌜ LengthCall Em73862 (now (image .entry)) 0 address r (now (bytes .exit)) (now (cycles .exit)) ⌝ }
 {
-    let n = read_numbers(read(image, address));
-    *bytes = n.bytes;
-    *cycles = n.cycles;
-    n.number
+    length_call(Device::Em73862, image, 0, address, bytes, cycles)
 }
 
 #[no_mangle]
@@ -171,22 +40,20 @@ pub extern "C" fn em73862_row(
     bytes: &mut u8,
     cycles: &mut u8,
 ) -> u8
-    ensures { λ r. ⌜ RowCall (now (image .entry)) address r (now (row .exit)) (now (first .exit)) (now (second .exit)) (now (goes .exit)) (now (bytes .exit)) (now (cycles .exit)) ⌝ }
+    ensures { λ r. ⌜ RowCall Em73862 (now (image .entry)) 0 address r (now (row .exit)) (now (first .exit)) (now (second .exit)) (now (goes .exit)) (now (bytes .exit)) (now (cycles .exit)) ⌝ }
 {
-    let n = read_numbers(read(image, address));
-    let insn = n.insn;
-    let o = in_order(insn);
-    *row = insn.row;
-    *first = o.first;
-    *second = o.second;
-    *bytes = n.bytes;
-    *cycles = n.cycles;
-    if n.number != 0 {
-        *goes = 0;
-        return n.number;
-    }
-    *goes = target(address as u16, insn);
-    0
+    row_call(
+        Device::Em73862,
+        image,
+        0,
+        address,
+        row,
+        first,
+        second,
+        goes,
+        bytes,
+        cycles,
+    )
 }
 
 #[no_mangle]
@@ -196,28 +63,14 @@ pub extern "C" fn em73862_notation(
     text: &mut [u8],
     length: &mut u32,
 ) -> u8
-    ensures { λ r. ⌜ NotationCall (now (image .entry)) address (now (text .entry)) r (now (length .exit)) (now (text .exit)) ⌝ }
+    ensures { λ r. ⌜ NotationCall Em73862 (now (image .entry)) 0 address (now (text .entry)) r (now (length .exit)) (now (text .exit)) ⌝ }
 {
-    let n = read_numbers(read(image, address));
-    if n.number != 0 {
-        *length = 0;
-        return n.number;
-    }
-    let insn = n.insn;
-    let mut room = [0u8; TEXT_ROOM];
-    let end = text_notation::row(&mut room, 0, address as u16, insn);
-    *length = end as u32;
-    if end <= text.len() {
-        copy(&room[..end], text);
-    }
-    0
+    notation_call(Device::Em73862, image, 0, address, text, length)
 }
 
 #[no_mangle]
 pub extern "C" fn em73862_bound(image: &[u8], address: u32, path: &mut [u8], value: &mut u32) -> u8
-    ensures { λ r. ⌜ BoundCall (now (image .entry)) address (now (path .entry)) r (now (value .exit)) (now (path .exit)) ⌝ }
+    ensures { λ r. ⌜ BoundCall Em73862 (now (image .entry)) 0 address (now (path .entry)) r (now (value .exit)) (now (path .exit)) ⌝ }
 {
-    let n = bound::numbers_of(bound(image, address, path));
-    *value = n.value as u32;
-    n.number
+    bound_call(Device::Em73862, image, 0, address, path, value)
 }

@@ -1,41 +1,43 @@
--- A port that has no latch.
-use mathlib.Core.Path.{_≡_}
-use mathlib.Core.Bool.{false}
+-- A port that is none of those that a `match` names.
+use mathlib.Core.Path.{_≡_, refl}
+use mathlib.Core.Bool.{true, false}
 use mathlib.Core.List.{List, [], _∷_}
 use Prim.Native.Nat.{ℕ}
 use lib.Dec.{eqb}
 use borrow.Author.Tests.{ne-eqb}
+use Rattle.laws.specs.Among.{among}
+use Rattle.laws.proofs.Among.{Each, end, _by_&_, at-each}
 use Rattle.laws.proofs.Computed.{NoKey}
-use Rattle.ports.specs.Ports.{latchOf, withLatch, writeStop}
+use Rattle.device.specs.Device.{alsoWritable}
+use Rattle.device.specs.declared.Device.{Device}
+use Rattle.ports.specs.Ports.{latchOf, withLatch, isWritable}
 use Rattle.ports.specs.declared.Ports.{Ports}
 
-abbrev pub latches : List ℕ
-latches = 30 ∷ 29 ∷ 28 ∷ 27 ∷ 25 ∷ 24 ∷ 23 ∷ 16 ∷ 9 ∷ 8 ∷ 4 ∷ []
+-- the keys, the last first
+abbrev latches : List ℕ
+latches = 30 ∷ 29 ∷ 28 ∷ 27 ∷ 25 ∷ 24 ∷ 23 ∷ 17 ∷ 16 ∷ 9 ∷ 8 ∷ 6 ∷ 5 ∷ 4 ∷ 3 ∷ []
 
-pub record Other (n : ℕ) : Type 0 where
-  pub e4 : eqb n 4 ≡ false
-  pub e8 : eqb n 8 ≡ false
-  pub e9 : eqb n 9 ≡ false
-  pub e16 : eqb n 16 ≡ false
-  pub e23 : eqb n 23 ≡ false
-  pub e24 : eqb n 24 ≡ false
-  pub e25 : eqb n 25 ≡ false
-  pub e27 : eqb n 27 ≡ false
-  pub e28 : eqb n 28 ≡ false
-  pub e29 : eqb n 29 ≡ false
-  pub e30 : eqb n 30 ≡ false
+abbrev written : List ℕ
+written = 30 ∷ 29 ∷ 28 ∷ 27 ∷ 25 ∷ 24 ∷ 23 ∷ 16 ∷ 9 ∷ 8 ∷ 4 ∷ []
 
-pub other : (n : ℕ) → NoKey n latches → Other n
-other n r = record { e4 = ne-eqb n 4 (r .0 .0 .0 .0 .0 .0 .0 .0 .0 .0 .1); e8 = ne-eqb n 8 (r .0 .0 .0 .0 .0 .0 .0 .0 .0 .1); e9 = ne-eqb n 9 (r .0 .0 .0 .0 .0 .0 .0 .0 .1); e16 = ne-eqb n 16 (r .0 .0 .0 .0 .0 .0 .0 .1); e23 = ne-eqb n 23 (r .0 .0 .0 .0 .0 .0 .1); e24 = ne-eqb n 24 (r .0 .0 .0 .0 .0 .1); e25 = ne-eqb n 25 (r .0 .0 .0 .0 .1); e27 = ne-eqb n 27 (r .0 .0 .0 .1); e28 = ne-eqb n 28 (r .0 .0 .1); e29 = ne-eqb n 29 (r .0 .1); e30 = ne-eqb n 30 (r .1) }
+each-apart : (ks : List ℕ) (n : ℕ) → NoKey n ks → Each (λ (k : ℕ). eqb n k ≡ false) ks
+each-apart [] n r = end
+each-apart (k ∷ ks) n r = k by ne-eqb n k (r .1) & each-apart ks n (r .0)
 
-pub no-latch : (p : Ports) (n : ℕ) → Other n → 0 ≡ latchOf p n
-unfolding latchOf
-no-latch p n o = rw (o .e4, o .e8, o .e9, o .e16, o .e23, o .e24, o .e25, o .e27, o .e28, o .e29, o .e30)
+apart : (ks : List ℕ) (n : ℕ) → NoKey n ks → (k : ℕ) → among ks k ≡ true → eqb n k ≡ false
+apart ks n r k m = at-each (λ (k : ℕ). eqb n k ≡ false) ks (each-apart ks n r) k m
 
-pub same-latches : (p : Ports) (n v : ℕ) → Other n → p ≡ withLatch p n v
-unfolding withLatch
-same-latches p n v o = rw (o .e4, o .e8, o .e9, o .e16, o .e23, o .e24, o .e25, o .e27, o .e28, o .e29, o .e30)
+module _ (n : ℕ) (r : NoKey n latches) where
+  no : (k : ℕ) → among latches k ≡ true → eqb n k ≡ false
+  no = apart latches n r
 
-pub not-written : (n v : ℕ) → Other n → 33 ≡ writeStop n v
-unfolding writeStop
-not-written n v o = rw (o .e4, o .e8, o .e9, o .e16, o .e23, o .e24, o .e25, o .e27, o .e28, o .e29, o .e30)
+  pub no-latch : (p : Ports) → 0 ≡ latchOf p n
+  unfolding latchOf
+  no-latch p = rw (no 3 refl, no 4 refl, no 5 refl, no 6 refl, no 8 refl, no 9 refl, no 16 refl, no 17 refl, no 23 refl, no 24 refl, no 25 refl, no 27 refl, no 28 refl, no 29 refl, no 30 refl)
+
+  pub same-latches : (p : Ports) (v : ℕ) → p ≡ withLatch p n v
+  unfolding withLatch
+  same-latches p v = rw (no 3 refl, no 4 refl, no 5 refl, no 6 refl, no 8 refl, no 9 refl, no 16 refl, no 17 refl, no 23 refl, no 24 refl, no 25 refl, no 27 refl, no 28 refl, no 29 refl, no 30 refl)
+
+pub also : (d : Device) (n : ℕ) → NoKey n written → among (alsoWritable d) n ≡ isWritable d n
+also d n r = let no : (k : ℕ) → among written k ≡ true → eqb n k ≡ false = apart written n r in rw (no 4 refl, no 8 refl, no 9 refl, no 16 refl, no 23 refl, no 24 refl, no 25 refl, no 27 refl, no 28 refl, no 29 refl, no 30 refl)

@@ -1,19 +1,28 @@
 // The ports: what reading one gives, what writing one leaves in its latch, and what writing P16 does to the mode.
 use bits::has_bit;
+use device::Device;
+use device::also_writable;
+use device::p4_pins;
+use device::reserved;
 use frame::Pins;
 use laws::both;
 use numbers::ABSENT_PORT;
-use numbers::RESERVED_10XX;
+use numbers::RESERVED_VALUE;
 ghost use mathlib.Core.Path.{_≡_};
 ghost use Prim.Native.Nat.{_<_};
-ghost use Rattle.ports.specs.Ports.{enters, latchOf, withLatch, p4Pins, readAs, readPort, reservedStop, writeStop, p27After, writePort, modeAfter};
+ghost use Rattle.device.specs.Device.{limitOf};
+ghost use Rattle.ports.specs.Ports.{enters, latchOf, withLatch, isWritable, readAs, readPort, writeStop, p27After, writePort, modeAfter};
 
-// The latches. P0 has none.
+// The latches. P0 has none, and that of a port that the device does not have holds 0.
 pub struct Ports {
+    pub p3: u8,
     pub p4: u8,
+    pub p5: u8,
+    pub p6: u8,
     pub p8: u8,
     pub p9: u8,
     pub p16: u8,
+    pub p17: u8,
     pub p23: u8,
     pub p24: u8,
     pub p25: u8,
@@ -48,10 +57,14 @@ pub fn latch(p: Ports, n: u8) -> u8
     ensures { λ r. ⌜ r ≡ latchOf p n ⌝ }
 {
     match n {
+        3 => p.p3,
         4 => p.p4,
+        5 => p.p5,
+        6 => p.p6,
         8 => p.p8,
         9 => p.p9,
         16 => p.p16,
+        17 => p.p17,
         23 => p.p23,
         24 => p.p24,
         25 => p.p25,
@@ -70,8 +83,20 @@ fn with_latch(p: Ports, n: u8, v: u8) -> Ports
 {
     let mut next = p;
     match n {
+        3 => {
+            next.p3 = v;
+            next
+        }
         4 => {
             next.p4 = v;
+            next
+        }
+        5 => {
+            next.p5 = v;
+            next
+        }
+        6 => {
+            next.p6 = v;
             next
         }
         8 => {
@@ -84,6 +109,10 @@ fn with_latch(p: Ports, n: u8, v: u8) -> Ports
         }
         16 => {
             next.p16 = v;
+            next
+        }
+        17 => {
+            next.p17 = v;
             next
         }
         23 => {
@@ -118,17 +147,6 @@ fn with_latch(p: Ports, n: u8, v: u8) -> Ports
     }
 }
 
-// What P4 reads: 1110 and P4.0, or 15 with SOUND enabled.
-fn p4_pins(sound: bool, p4: u8) -> u8
-    requires { ⌜ p4 < 2 ⌝ }
-    ensures { λ r. ⌜ r ≡ p4Pins sound p4 ⌝ }
-{
-    if sound {
-        return 15;
-    }
-    14 + p4
-}
-
 fn read_as(value: u8, ports: Ports) -> PortRead
     ensures { λ r. ⌜ r ≡ readAs value ports ⌝ }
 {
@@ -140,13 +158,13 @@ fn read_as(value: u8, ports: Ports) -> PortRead
 }
 
 // Reading or testing a port.
-pub fn read_port(sound: bool, pins: Pins, p: Ports, n: u8) -> PortRead
-    requires { ⌜ (n < 32) × (pins .p4 < 2) ⌝ }
-    ensures { λ r. ⌜ r ≡ readPort sound pins p n ⌝ }
+pub fn read_port(d: Device, sound: bool, pins: Pins, p: Ports, n: u8) -> PortRead
+    requires { ⌜ (n < 32) × (pins .p4 < limitOf d 2) ⌝ }
+    ensures { λ r. ⌜ r ≡ readPort d sound pins p n ⌝ }
 {
     match n {
         0 => read_as(pins.p0, p),
-        4 => read_as(p4_pins(sound, pins.p4), with_latch(p, 4, 15)),
+        4 => read_as(p4_pins(d, sound, pins.p4), with_latch(p, 4, 15)),
         8 => read_as(pins.p8, with_latch(p, 8, 15)),
         9 => read_as(p.p9, p),
         _ => PortRead {
@@ -157,34 +175,37 @@ pub fn read_port(sound: bool, pins: Pins, p: Ports, n: u8) -> PortRead
     }
 }
 
-// 10xx is reserved.
-fn reserved_stop(v: u8) -> u8
-    ensures { λ r. ⌜ r ≡ reservedStop v ⌝ }
-{
-    if v / 4 == 2 {
-        return RESERVED_10XX;
-    }
-    0
-}
-
-fn write_stop(n: u8, v: u8) -> u8
+fn is_writable(d: Device, n: u8) -> bool
     requires { ⌜ n < 32 ⌝ }
-    ensures { λ r. ⌜ r ≡ writeStop n v ⌝ }
+    ensures { λ r. ⌜ r ≡ isWritable d n ⌝ }
 {
     match n {
-        4 => 0,
-        8 => 0,
-        9 => 0,
-        16 => 0,
-        23 => 0,
-        24 => 0,
-        25 => reserved_stop(v),
-        27 => reserved_stop(v),
-        28 => 0,
-        29 => 0,
-        30 => 0,
-        _ => ABSENT_PORT,
+        4 => true,
+        8 => true,
+        9 => true,
+        16 => true,
+        23 => true,
+        24 => true,
+        25 => true,
+        27 => true,
+        28 => true,
+        29 => true,
+        30 => true,
+        _ => also_writable(d, n),
     }
+}
+
+fn write_stop(d: Device, n: u8, v: u8) -> u8
+    requires { ⌜ n < 32 ⌝ }
+    ensures { λ r. ⌜ r ≡ writeStop d n v ⌝ }
+{
+    if !is_writable(d, n) {
+        return ABSENT_PORT;
+    }
+    if reserved(d, n, v) {
+        return RESERVED_VALUE;
+    }
+    0
 }
 
 // "Writing P16 with bit 2 set enters hold .. or sleep"
@@ -208,11 +229,11 @@ fn p27_after(p27: u8, n: u8, v: u8) -> u8
 }
 
 // Writing a port.
-pub fn write_port(p: Ports, n: u8, v: u8) -> PortWrite
+pub fn write_port(d: Device, p: Ports, n: u8, v: u8) -> PortWrite
     requires { ⌜ n < 32 ⌝ }
-    ensures { λ r. ⌜ r ≡ writePort p n v ⌝ }
+    ensures { λ r. ⌜ r ≡ writePort d p n v ⌝ }
 {
-    let stop = write_stop(n, v);
+    let stop = write_stop(d, n, v);
     if stop == 0 {
         let mut awake = p;
         awake.p27 = p27_after(p.p27, n, v);

@@ -1,10 +1,12 @@
 -- What is read at an address is an instruction of the sheet, its first byte gives the row's bytes and cycles, and its bytes stand before the end.
-use mathlib.Core.Path.{_≡_}
+use mathlib.Core.Path.{_≡_, refl, ap, subst}
 use mathlib.Core.List.{List, [], _∷_}
 use Prim.Native.Nat.{ℕ, zero, suc, _+_, _-_, _<_, _≤_, min}
 use native.Mathlib.Omega.{arith}
-use lib.ListN.{length, take, length-take}
+use lib.ListN.{length, getD, take, length-take}
 use lib.Seq.{take-nil, take-all}
+use Rattle.device.specs.Device.{inImage, romOf}
+use Rattle.device.proofs.Laws.{in-bank-0, window-next}
 use Rattle.sheet.specs.Code.{digits}
 use Rattle.sheet.specs.Fields.{InFields}
 use Rattle.sheet.specs.Reading.{readBytes, readLeft, left, readAt, bytesOf}
@@ -61,3 +63,21 @@ module _ (rom : ℕ → ℕ) (at : ℕ) where
 
   pub one-left : at ≡ 8191 → readLeft (rom at ∷ []) ≡ readAt rom at
   one-left e = let k : 8192 - at ≡ 1 = omega arith in rw k
+
+-- three bytes in a row in the image are those of an address and the two behind it, where its window does not begin among them
+module _ (image : List ℕ) (p3 at : ℕ) where
+  abbrev byte : ℕ → ℕ
+  byte i = getD image i 0
+
+  as-row : (i : ℕ) → i ≡ inImage p3 at → i + 1 ≡ inImage p3 (at + 1) → i + 2 ≡ inImage p3 (at + 2) → byte i < 256 → at < 8190 → readBytes (byte i ∷ byte (i + 1) ∷ byte (i + 2) ∷ []) ≡ readAt (romOf image p3) at
+  as-row i e f g h k =
+      let a : byte i ≡ romOf image p3 at = ap byte e in
+      let b : byte (i + 1) ≡ romOf image p3 (at + 1) = ap byte f in
+      let c : byte (i + 2) ≡ romOf image p3 (at + 2) = ap byte g in
+      rw (a, b, c) (three-left (romOf image p3) at (subst (λ (j : ℕ). byte j < 256) e h) k)
+
+  pub row-in-bank-0 : byte at < 256 → at < 4094 → readBytes (byte at ∷ byte (at + 1) ∷ byte (at + 2) ∷ []) ≡ readAt (romOf image p3) at
+  row-in-bank-0 h k = as-row at (in-bank-0 p3 at (omega arith)) (in-bank-0 p3 (at + 1) (omega arith)) (in-bank-0 p3 (at + 2) (omega arith)) h (omega arith)
+
+  pub row-in-window : byte (inImage p3 at) < 256 → 4096 ≤ at → at < 8190 → readBytes (byte (inImage p3 at) ∷ byte (inImage p3 at + 1) ∷ byte (inImage p3 at + 2) ∷ []) ≡ readAt (romOf image p3) at
+  row-in-window h l k = as-row (inImage p3 at) refl (window-next p3 at 1 l) (window-next p3 at 2 l) h k

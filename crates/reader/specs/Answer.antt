@@ -1,12 +1,14 @@
--- The public reader's promise: "The reader answers 30 with no record"; refusals in document 01's order, 1, 20, 30, and 35 with 30.
+-- The public reader's promise: "The reader answers 30 with no record"; refusals in document 01's order, 1, 2, 20, 30, and 35 with 30. Q-6: "Refusals: 1 by device size .. 2 for such a P3, or one over 15, in record or input".
 use Prim.Native.Nat.{ℕ}
 use mathlib.Core.List.{List, [], _∷_}
 use lib.Dec.{eqb, ltb}
 use lib.ListN.{length}
-use Rattle.numbers.specs.Sizes.{addresses, imageBytes}
+use Rattle.numbers.specs.Sizes.{addresses}
 use Rattle.laws.specs.Choice.{pick}
-use Rattle.numbers.specs.ComesBack.{Paper, answered, refused, image-is-not-8192-bytes, address-over-8191, unassigned-code, past-end}
-use Rattle.sheet.specs.Reading.{readAt, romOf, bytesOf, cyclesOf}
+use Rattle.numbers.specs.ComesBack.{Paper, answered, refused, image-of-another-size, record-outside-the-ranges, address-over-8191, unassigned-code, past-end}
+use Rattle.device.specs.Device.{imageSize, isBanked, romOf}
+use Rattle.device.specs.declared.Device.{Device}
+use Rattle.sheet.specs.Reading.{readAt, bytesOf, cyclesOf}
 use Rattle.sheet.specs.declared.Insn.{Insn}
 use Rattle.sheet.specs.declared.Read.{Read}
 use Rattle.sheet.specs.declared.Read.the-variants.{Row, Unassigned, PastEnd}
@@ -22,7 +24,8 @@ abbrev pub paperOf : Answer → Paper
 paperOf (answer.Row d) = answered (valuesOf (d .insn) (d .bytes) (d .cycles))
 paperOf answer.Unassigned = refused unassigned-code
 paperOf answer.PastEnd = refused past-end
-paperOf answer.ImageSize = refused image-is-not-8192-bytes
+paperOf answer.ImageSize = refused image-of-another-size
+paperOf answer.P3Range = refused record-outside-the-ranges
 paperOf answer.AddressRange = refused address-over-8191
 
 -- the number of what is no row, a refusal of the reader and a stop in a step; 0 for a row
@@ -36,9 +39,11 @@ paperOfCode (Row i) = answered (valuesOf i (bytesOf (i .row)) (cyclesOf (i .row)
 paperOfCode Unassigned = refused (stopOf Unassigned)
 paperOfCode PastEnd = refused (stopOf PastEnd)
 
--- what has to come back of an image and an address
-abbrev pub readPaper : List ℕ → ℕ → Paper
-readPaper image at =
-    pick (eqb (length image) imageBytes)
-    (pick (ltb at addresses) (paperOfCode (readAt (romOf image) at)) (refused address-over-8191))
-    (refused image-is-not-8192-bytes)
+-- what has to come back of a device's image, P3 and an address
+abbrev pub readPaper : Device → List ℕ → ℕ → ℕ → Paper
+readPaper d image p3 at =
+    pick (eqb (length image) (imageSize d))
+    (pick (isBanked d p3)
+    (pick (ltb at addresses) (paperOfCode (readAt (romOf image p3) at)) (refused address-over-8191))
+    (refused record-outside-the-ranges))
+    (refused image-of-another-size)

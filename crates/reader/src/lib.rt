@@ -1,5 +1,8 @@
-// The reader: what a code is, by its bytes and by an image and an address.
-use numbers::IMAGE_BYTES;
+// The reader: what a code is, by its bytes and by an image, P3 and an address.
+use device::Device;
+use device::image_size;
+use device::in_image;
+use device::is_banked;
 use numbers::LAST_ADDRESS;
 use numbers::PAST_END;
 use numbers::UNASSIGNED_CODE;
@@ -9,9 +12,10 @@ use sheet_rows::found;
 ghost use mathlib.Core.Path.{_≡_};
 ghost use mathlib.Core.List.{[], _∷_};
 ghost use lib.ListN.{length};
-ghost use Prim.Native.Nat.{_<_};
-ghost use Rattle.numbers.specs.Sizes.{addresses, imageBytes};
-ghost use Rattle.sheet.specs.Reading.{readBytes, readLeft, readAt, romOf};
+ghost use Prim.Native.Nat.{_+_, _*_, _%_, _<_, _≤_};
+ghost use Rattle.numbers.specs.Sizes.{addresses};
+ghost use Rattle.device.specs.Device.{romOf};
+ghost use Rattle.sheet.specs.Reading.{readBytes, readLeft, readAt};
 ghost use Rattle.reader.specs.Answer.{stopOf, paperOf, readPaper};
 
 // What is read at an address: the instruction, its bytes and its cycles.
@@ -26,6 +30,7 @@ pub enum Answer {
     Unassigned,
     PastEnd,
     ImageSize,
+    P3Range,
     AddressRange,
 }
 
@@ -65,19 +70,45 @@ fn last_two(b0: u8, b1: u8) -> Read
     Read::Unassigned
 }
 
-// What stands at an address of an image; before the last two there are always three bytes.
-pub fn read_at(image: &[u8], at: u16) -> Read
-    requires { ⌜ (length (now image) ≡ imageBytes) × (at < addresses) ⌝ }
-    ensures { λ r. ⌜ r ≡ readAt (romOf (now (image .entry))) at ⌝ }
+// What stands at an address that has two behind it, wherever the window begins: a code may begin in bank 0 and go on in it.
+fn across(image: &[u8], p3: u8, at: u16) -> Read
+    requires { ⌜ (8192 + 4096 * (p3 % 4) ≤ length (now image)) × (at < 8190) ⌝ }
+    ensures { λ r. ⌜ r ≡ readAt (romOf (now (image .entry)) p3) at ⌝ }
 {
-    let i = at as usize;
-    if i < IMAGE_BYTES - 2 {
+    let i = in_image(p3, at);
+    let j = in_image(p3, at + 1);
+    let k = in_image(p3, at + 2);
+    decode(image[i], image[j], image[k])
+}
+
+// What stands at an address of the window; before the last two there are always three bytes.
+fn in_window(image: &[u8], p3: u8, at: u16) -> Read
+    requires { ⌜ (8192 + 4096 * (p3 % 4) ≤ length (now image)) × (4096 ≤ at) × (at < addresses) ⌝ }
+    ensures { λ r. ⌜ r ≡ readAt (romOf (now (image .entry)) p3) at ⌝ }
+{
+    let i = in_image(p3, at);
+    if at < 8190 {
         return decode(image[i], image[i + 1], image[i + 2]);
     }
-    if i == IMAGE_BYTES - 2 {
+    if at == 8190 {
         return last_two(image[i], image[i + 1]);
     }
     last_one(image[i])
+}
+
+// What stands at an address of an image, seen through the window of P3.
+pub fn read_at(image: &[u8], p3: u8, at: u16) -> Read
+    requires { ⌜ (8192 + 4096 * (p3 % 4) ≤ length (now image)) × (at < addresses) ⌝ }
+    ensures { λ r. ⌜ r ≡ readAt (romOf (now (image .entry)) p3) at ⌝ }
+{
+    if at < 4094 {
+        let i = at as usize;
+        return decode(image[i], image[i + 1], image[i + 2]);
+    }
+    if at < 4096 {
+        return across(image, p3, at);
+    }
+    in_window(image, p3, at)
 }
 
 // The number of what is no row, a refusal here and a stop in a step; 0 for a row.
@@ -92,18 +123,23 @@ pub fn stop_of(read: Read) -> u8
 }
 
 // The public reader.
-pub fn read(image: &[u8], address: u32) -> Answer
-    ensures { λ r. ⌜ paperOf r ≡ readPaper (now (image .entry)) address ⌝ }
+pub fn read(d: Device, image: &[u8], p3: u32, address: u32) -> Answer
+    ensures { λ r. ⌜ paperOf r ≡ readPaper d (now (image .entry)) p3 address ⌝ }
 {
-    if image.len() != IMAGE_BYTES {
+    if image.len() != image_size(d) {
         return Answer::ImageSize;
+    }
+    if !is_banked(d, p3) {
+        return Answer::P3Range;
     }
     if LAST_ADDRESS < address {
         return Answer::AddressRange;
     }
     let at = address as u16;
-    let cost = sheet::timing(image[at as usize]);
-    match read_at(image, at) {
+    let bank = p3 as u8;
+    let i = in_image(bank, at);
+    let cost = sheet::timing(image[i]);
+    match read_at(image, bank, at) {
         Read::Row(insn) => Answer::Row(Decoded {
             insn: insn,
             bytes: cost.bytes,

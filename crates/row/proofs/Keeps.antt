@@ -7,24 +7,23 @@ use lib.Dec.{eqb}
 use Rattle.laws.proofs.Choices.{picked, neither-left, neither-right}
 use Rattle.sheet.specs.Operation.{Port, Pointer, Place, Step, After}
 use Rattle.sheet.specs.Table.{Line}
-use Rattle.ports.specs.declared.Ports.{Ports}
 use Rattle.machine.specs.declared.Registers.{Registers}
 use Rattle.machine.specs.declared.Pointers.{Pointers}
 use Rattle.machine.specs.declared.Interrupts.{Interrupts}
 use Rattle.machine.specs.declared.Timers.{Timers}
 use Rattle.machine.specs.declared.Machine.{Machine}
-use Rattle.row.specs.Places.{Around, withRegisters, withPc, withPointers, withInterrupts, withTimers, withPorts, withRam, portOf, portWritten, getOf, afterReading, putOf}
+use Rattle.row.specs.Places.{Around, withRegisters, withPc, withPointers, withInterrupts, withTimers, withPorts, withRam, portOf, portRead, portWritten, getOf, afterReading, putOf}
 use Rattle.row.specs.Steps.{putStep, exchangeStep, operationStep}
 use Rattle.row.specs.Rows.{Done, worked, workOf}
 use Rattle.row.specs.Columns.{stepPuts, afterPuts, workPuts}
 
--- reading a place touches the latches at most
-pub reading : (P : Machine → Type 0) (m : Machine) (w : Around) (p : Place) → P m → ((q : Ports) → P (withPorts m q)) → P (afterReading m w p)
+-- reading a place touches at most the latches, as reading a port does
+pub reading : (P : Machine → Type 0) (m : Machine) (w : Around) (p : Place) → P m → ((q : Port) → P (withPorts m (portRead m w q .ports))) → P (afterReading m w p)
 reading P m w (Place.register r) same ports = same
 reading P m w (Place.given g) same ports = same
 reading P m w (Place.cell c) same ports = same
-reading P m w (Place.port Port.pins-p) same ports = ports _
-reading P m w (Place.port Port.pins-l) same ports = ports _
+reading P m w (Place.port Port.pins-p) same ports = ports Port.pins-p
+reading P m w (Place.port Port.pins-l) same ports = ports Port.pins-l
 reading P m w (Place.port Port.latch-p) same ports = same
 reading P m w (Place.port Port.latch-l) same ports = same
 reading P m w (Place.pointer p) same ports = same
@@ -36,7 +35,7 @@ pub record Changes (P : Machine → Type 0) (m : Machine) (w : Around) (p : Plac
   pub same : P m
   pub regs : (r : Registers) → P (withRegisters m r)
   pub ram : (l : List ℕ) → P (withRam m l)
-  pub ports : (q : Port) → p ≡ Place.port q → P (portWritten m (portOf (m .core .regs) (w .insn) q) v)
+  pub ports : (q : Port) → p ≡ Place.port q → P (portWritten (w .options .device) m (portOf (m .core .regs) (w .insn) q) v)
   pub ptrs : (q : Pointers) → P (withPointers m q)
   pub timers : (t : Timers) → P (withTimers m t)
   pub ints : (i : Interrupts) → i .ei ≡ m .core .ints .ei → P (withInterrupts m i)
@@ -67,7 +66,7 @@ module _ (w : Around) (Allowed : Machine → Place → Type 0) where
 
 -- f of the record is kept by a row where it is kept by reading, by a nibble put at the places allowed, and by the row's end
 module _ {A : Type 0} (f : Machine → A) (w : Around)
-    (reads : (m : Machine) (q : Ports) → f (withPorts m q) ≡ f m)
+    (reads : (m : Machine) (q : Port) → f (withPorts m (portRead m w q .ports)) ≡ f m)
     (steps : (m : Machine) (q : Pointers) → f (withPointers m q) ≡ f m)
     (ends : (m : Machine) (r : Registers) (pc : ℕ) → f (withPc (withRegisters m r) pc) ≡ f m) where
   module _ (Allowed : Machine → Place → Type 0) (puts : (m : Machine) (p : Place) (v : ℕ) → Allowed m p → f (putOf m w p v .machine) ≡ f m) where

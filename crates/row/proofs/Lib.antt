@@ -8,4 +8,5 @@ pub mod RowsValid
 pub mod RowStops
 pub mod RowMode
 pub mod RowMark
+pub mod RowBank
 pub mod Turns

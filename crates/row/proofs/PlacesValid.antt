@@ -1,17 +1,21 @@
 -- What stands at a place of a valid record is a nibble, and a nibble put there leaves the record valid.
 use Prim.Native.Nat.{ℕ, _+_, _/_, _%_, _^_, _<_}
 use mathlib.Core.Bool.{Bool, true, false}
+use native.Mathlib.Nat.{lt-of-lt-of-le}
 use native.Mathlib.Omega.{arith}
 use lib.Dec.{T, eqb, ltb, ltb→lt}
 use lib.ListN.{getD}
 use Rattle.laws.specs.Choice.{pick}
 use Rattle.laws.proofs.Computed.{at}
 use Rattle.bits.specs.Bits.{bitOf}
+use Rattle.device.specs.Device.{p4Pins}
+use Rattle.device.specs.declared.Device.{Device}
+use Rattle.device.proofs.Laws.{p4-pins-lt, also-nibble, banked}
 use Rattle.frame.specs.declared.Pins.{Pins}
 use Rattle.frame.specs.Frame.{PinsInRange}
 use Rattle.sheet.specs.Operation.{Register, Given, Port, Part, Pointer, Half, Place}
 use Rattle.sheet.specs.declared.Insn.{Insn}
-use Rattle.ports.specs.Ports.{latchOf, p4Pins, portPins, readPort, isReadable}
+use Rattle.ports.specs.Ports.{latchOf, portPins, readPort, isReadable}
 use Rattle.ports.specs.declared.Ports.{Ports}
 use Rattle.ports.specs.declared.PortRead.{PortRead}
 use Rattle.machine.specs.Valid.{ValidPorts, Valid}
@@ -54,37 +58,38 @@ half-low : (h : Half) (b : ℕ) → b < 256 → halfOf h b < 16
 half-low Half.low-half b l = omega arith
 half-low Half.high-half b l = omega arith
 
-pub latch-low : (p : Ports) (n : ℕ) → ValidPorts p → latchOf p n < 16
+pub latch-low : {d : Device} (p : Ports) (n : ℕ) → ValidPorts d p → latchOf p n < 16
 unfolding latchOf
-latch-low p n h =
-    chosen-lt (eqb n 4) (p .p4) _ (h .p4)
+latch-low {d} p n h =
+    chosen-lt (eqb n 3) (p .p3) _ (lt-of-lt-of-le (banked d (p .p3) .sound (h .also .p3) .0) (also-nibble d 3))
+    (chosen-lt (eqb n 4) (p .p4) _ (h .p4)
+    (chosen-lt (eqb n 5) (p .p5) _ (lt-of-lt-of-le (h .also .p5) (also-nibble d 5))
+    (chosen-lt (eqb n 6) (p .p6) _ (lt-of-lt-of-le (h .also .p6) (also-nibble d 6))
     (chosen-lt (eqb n 8) (p .p8) _ (h .p8)
     (chosen-lt (eqb n 9) (p .p9) _ (h .p9)
     (chosen-lt (eqb n 16) (p .p16) _ (h .p16)
+    (chosen-lt (eqb n 17) (p .p17) _ (lt-of-lt-of-le (h .also .p17) (also-nibble d 17))
     (chosen-lt (eqb n 23) (p .p23) _ (h .p23)
     (chosen-lt (eqb n 24) (p .p24) _ (h .p24)
     (chosen-lt (eqb n 25) (p .p25) _ (h .p25)
     (chosen-lt (eqb n 27) (p .p27) _ (h .p27)
-    (chosen-lt (eqb n 28) (p .p28) _ (h .p28) (chosen-lt (eqb n 29) (p .p29) _ (h .p29) (chosen-lt (eqb n 30) (p .p30) 0 (h .p30) (omega arith)))))))))))
-
-p4-low : (sound : Bool) (p4 : ℕ) → p4 < 2 → p4Pins sound p4 < 16
-p4-low sound p4 h = chosen-lt sound 15 (14 + p4) (omega arith) (omega arith)
+    (chosen-lt (eqb n 28) (p .p28) _ (h .p28) (chosen-lt (eqb n 29) (p .p29) _ (h .p29) (chosen-lt (eqb n 30) (p .p30) 0 (h .p30) (omega arith)))))))))))))))
 
 read-value : (t : Bool) (v : ℕ) (p q : Ports) → v < 16 → pick {A = PortRead} t (record { stop = 0; value = v; ports = p }) (record { stop = 33; value = 0; ports = q }) .value < 16
 read-value true v p q h = h
 read-value false v p q h = omega arith
 
-read-low : (sound : Bool) (pins : Pins) (p : Ports) (n : ℕ) → PinsInRange pins → ValidPorts p → readPort sound pins p n .value < 16
+read-low : (d : Device) (sound : Bool) (pins : Pins) (p : Ports) (n : ℕ) → PinsInRange d pins → ValidPorts d p → readPort d sound pins p n .value < 16
 unfolding readPort
-read-low sound pins p n f h =
-    read-value (isReadable n) (portPins sound pins p n) _ p
-    (chosen-lt (eqb n 0) (pins .p0) _ (f .p0) (chosen-lt (eqb n 4) (p4Pins sound (pins .p4)) _ (p4-low sound (pins .p4) (f .p4)) (chosen-lt (eqb n 8) (pins .p8) (p .p9) (f .p8) (h .p9))))
+read-low d sound pins p n f h =
+    read-value (isReadable n) (portPins d sound pins p n) _ p
+    (chosen-lt (eqb n 0) (pins .p0) _ (f .p0) (chosen-lt (eqb n 4) (p4Pins d sound (pins .p4)) _ (p4-pins-lt d sound (pins .p4) (f .p4)) (chosen-lt (eqb n 8) (pins .p8) (p .p9) (f .p8) (h .p9))))
 
 got-low : (t : Bool) (v n : ℕ) → (T t → v < 16) → pick t (found v) (gotStop n) .value < 16
 got-low true v n h = h tt
 got-low false v n h = omega arith
 
-module _ (m : Machine) (w : Around) (valid : Valid m) (bytes : (at : ℕ) → (w .rom) at < 256) where
+module _ (m : Machine) (w : Around) (valid : Valid (w .options .device) m) (bytes : (at : ℕ) → (w .rom) at < 256) where
   given-low : (g : Given) → LowGiven g (w .insn) → givenOf (m .core .regs) (w .insn) g < 16
   given-low Given.nothing h = omega arith
   given-low Given.operand-k h = h
@@ -101,8 +106,8 @@ module _ (m : Machine) (w : Around) (valid : Valid m) (bytes : (at : ℕ) → (w
   get-low (Place.register Register.lr) h = valid .core .regs .lr
   get-low (Place.given g) h = given-low g h
   get-low (Place.cell c) h = got-low (ltb (cellOf (m .core) (w .insn) c) 372) (getD (m .ram) (cellOf (m .core) (w .insn) c) 0) 31 (λ t. valid .ram .each (cellOf (m .core) (w .insn) c) (ltb→lt _ 372 t))
-  get-low (Place.port Port.pins-p) h = read-low (w .sound) (m .core .pins) (m .core .ports) (w .insn .b) (valid .core .pins) (valid .core .ports)
-  get-low (Place.port Port.pins-l) h = read-low (w .sound) (m .core .pins) (m .core .ports) (m .core .regs .lr / 4 + 4) (valid .core .pins) (valid .core .ports)
+  get-low (Place.port Port.pins-p) h = read-low (w .options .device) (w .options .sound) (m .core .pins) (m .core .ports) (w .insn .b) (valid .core .pins) (valid .core .ports)
+  get-low (Place.port Port.pins-l) h = read-low (w .options .device) (w .options .sound) (m .core .pins) (m .core .ports) (m .core .regs .lr / 4 + 4) (valid .core .pins) (valid .core .ports)
   get-low (Place.port Port.latch-p) h = latch-low (m .core .ports) (w .insn .b) (valid .core .ports)
   get-low (Place.port Port.latch-l) h = latch-low (m .core .ports) (m .core .regs .lr / 4 + 4) (valid .core .ports)
   get-low (Place.pointer Pointer.sp) h = got-low (eqb (m .core .ports .p9 / 8 % 2) 0) (m .core .ptrs .sp) 31 (λ t. valid .core .ptrs .sp)

@@ -26,11 +26,11 @@ port-not-16 r i Port.latch-p n h e = n e
 port-not-16 r i Port.latch-l n h e = omega arith
 
 -- a port is put to only in a record whose LR is a nibble: an exchange names no port, nor does a second step
-abbrev LowLr : Machine → Place → Type 0
+abbrev pub LowLr : Machine → Place → Type 0
 LowLr m p = T (isPort p) → m .core .regs .lr < 16
 
 module _ (w : Around) (n : ℕ) where
-  low-in : (m : Machine) (s : Step) → T (fitsStep n s) → (T (usesPort s) → m .core .regs .lr < 16) → AllowedIn w LowLr m s
+  pub low-in : (m : Machine) (s : Step) → T (fitsStep n s) → (T (usesPort s) → m .core .regs .lr < 16) → AllowedIn w LowLr m s
   low-in m (Step.put d o x y) f h = λ t. reading (λ k. k .core .regs .lr < 16) m w x (h (either-left (isPort d) (isPort x) t)) (λ q. h (either-left (isPort d) (isPort x) t))
   low-in m (Step.exchange d x) f h =
       let apart = both-right (both (lowPlace n d) (lowPlace n x)) (not (either (isPort d) (isPort x))) f in
@@ -40,7 +40,7 @@ module _ (w : Around) (n : ℕ) where
   low-second : (m : Machine) (s : Step) → T (both (fitsStep n s) (not (usesPort s))) → AllowedIn w LowLr m s
   low-second m s f = low-in m s (both-left (fitsStep n s) (not (usesPort s)) f) (λ t. absurd (refuted (usesPort s) (both-right (fitsStep n s) (not (usesPort s)) f) t))
 
-  low-after : (m : Machine) (s : Step) (a : After) → T (fitsAfter n a) → AllowedAfter w LowLr m s a
+  pub low-after : (m : Machine) (s : Step) (a : After) → T (fitsAfter n a) → AllowedAfter w LowLr m s a
   low-after m s After.alone f = tt
   low-after m s (After.flags-of t) f = low-second _ t f
   low-after m s (After.flags-before t) f = low-second _ t f
@@ -51,5 +51,5 @@ module _ (w : Around) (n : ℕ) where
       (λ k p v low. putting {P = λ j. j .core .mode ≡ k .core .mode} p (record { same = refl; regs = λ r. refl; ram = λ r. refl; ports = λ q is. written k q v (low (rw is tt)); ptrs = λ q. refl; timers = λ t. refl; ints = λ i e. refl }))
       m l s a (low-in m s (both-left (fitsStep n s) (fitsAfter n a) f) (λ t. h)) (low-after m s a (both-right (fitsStep n s) (fitsAfter n a) f))
     where
-      written : (k : Machine) (q : Port) (v : ℕ) → k .core .regs .lr < 16 → portWritten k (portOf (k .core .regs) (w .insn) q) v .core .mode ≡ k .core .mode
+      written : (k : Machine) (q : Port) (v : ℕ) → k .core .regs .lr < 16 → portWritten (w .options .device) k (portOf (k .core .regs) (w .insn) q) v .core .mode ≡ k .core .mode
       written k q v low = rw (ne-eqb (portOf (k .core .regs) (w .insn) q) 16 (port-not-16 (k .core .regs) (w .insn) q not-16 low))

@@ -1,13 +1,15 @@
 -- What stops a row is "a named stop", 31 to 34: one proof over the shapes of the operation column.
 use mathlib.Core.Path.{_≡_, refl}
-use mathlib.Core.Logic.{_⊎_, inl, inr}
 use mathlib.Core.Bool.{Bool}
+use mathlib.Core.Logic.{_⊎_, inl, inr}
 use Prim.Native.Nat.{ℕ, _/_, _+_, _≤_}
 use native.Mathlib.Omega.{arith}
 use lib.Dec.{eqb, leb, ltb}
 use borrow.Author.Tests.{eq-eqb, ne-eqb}
 use Rattle.laws.specs.Choice.{both, either}
 use Rattle.laws.proofs.Choices.{picked}
+use Rattle.device.specs.Device.{reserved}
+use Rattle.device.specs.declared.Device.{Device}
 use Rattle.sheet.specs.Operation.{Port, Place, Step, After, Operation}
 use Rattle.sheet.specs.Table.{Line}
 use Rattle.frame.specs.declared.Pins.{Pins}
@@ -42,8 +44,8 @@ level = inr (omega arith)
 no-port : NoneOrNamed 33
 no-port = inr (omega arith)
 
-reserved : NoneOrNamed 34
-reserved = inr (omega arith)
+not-to-be-written : NoneOrNamed 34
+not-to-be-written = inr (omega arith)
 
 -- of two stops the first
 first-stop : (s t : ℕ) → NoneOrNamed s → NoneOrNamed t → NoneOrNamed (firstOf s t)
@@ -51,24 +53,24 @@ first-stop s t (inl e) k = rw (eq-eqb s 0 e) k
 first-stop s t (inr h) (inl e) = rw (ne-eqb s 0 (omega arith), eq-eqb t 0 e) (inr h)
 first-stop s t (inr h) (inr k) = rw (ne-eqb s 0 (omega arith), ne-eqb t 0 (omega arith)) (inr (omega arith))
 
--- a port is absent, or 10xx is not to be written to it
-read-stop : (sound : Bool) (pins : Pins) (p : Ports) (n : ℕ) → NoneOrNamed (readPort sound pins p n .stop)
+-- a port is absent, or a value is not to be written to it
+read-stop : (d : Device) (sound : Bool) (pins : Pins) (p : Ports) (n : ℕ) → NoneOrNamed (readPort d sound pins p n .stop)
 unfolding readPort
-read-stop sound pins p n = picked (λ (r : PortRead). NoneOrNamed (r .stop)) (isReadable n) _ _ none no-port
+read-stop d sound pins p n = picked (λ (r : PortRead). NoneOrNamed (r .stop)) (isReadable n) _ _ none no-port
 
-write-stop : (p : Ports) (n v : ℕ) → NoneOrNamed (writePort p n v .stop)
+write-stop : (d : Device) (p : Ports) (n v : ℕ) → NoneOrNamed (writePort d p n v .stop)
 unfolding writePort writeStop
-write-stop p n v =
-    picked (λ (r : PortWrite). NoneOrNamed (r .stop)) (eqb (writeStop n v) 0) _ _ none
-    (picked NoneOrNamed (isWritable n) _ 33 (picked NoneOrNamed (either (eqb n 25) (eqb n 27)) _ 0 (picked NoneOrNamed (eqb (v / 4) 2) 34 0 reserved none) none) no-port)
+write-stop d p n v =
+    picked (λ (r : PortWrite). NoneOrNamed (r .stop)) (eqb (writeStop d n v) 0) _ _ none
+    (picked NoneOrNamed (isWritable d n) _ 33 (picked NoneOrNamed (reserved d n v) 34 0 not-to-be-written none) no-port)
 
 module _ (w : Around) where
   get-stop : (m : Machine) (p : Place) → NoneOrNamed (getOf m w p .stop)
   get-stop m (Place.register r) = none
   get-stop m (Place.given g) = none
   get-stop m (Place.cell c) = picked (λ (g : Got). NoneOrNamed (g .stop)) (ltb (cellOf (m .core) (w .insn) c) 372) _ _ none absent-ram
-  get-stop m (Place.port Port.pins-p) = read-stop (w .sound) (m .core .pins) (m .core .ports) (w .insn .b)
-  get-stop m (Place.port Port.pins-l) = read-stop (w .sound) (m .core .pins) (m .core .ports) (m .core .regs .lr / 4 + 4)
+  get-stop m (Place.port Port.pins-p) = read-stop (w .options .device) (w .options .sound) (m .core .pins) (m .core .ports) (w .insn .b)
+  get-stop m (Place.port Port.pins-l) = read-stop (w .options .device) (w .options .sound) (m .core .pins) (m .core .ports) (m .core .regs .lr / 4 + 4)
   get-stop m (Place.port Port.latch-p) = none
   get-stop m (Place.port Port.latch-l) = none
   get-stop m (Place.pointer p) = picked (λ (g : Got). NoneOrNamed (g .stop)) (eqb (bankOf (m .core)) 0) _ _ none absent-ram
@@ -79,7 +81,7 @@ module _ (w : Around) where
   put-stop m (Place.register r) v = none
   put-stop m (Place.given g) v = none
   put-stop m (Place.cell c) v = picked NoneOrNamed (ltb (cellOf (m .core) (w .insn) c) 372) 0 31 none absent-ram
-  put-stop m (Place.port p) v = write-stop (m .core .ports) (portOf (m .core .regs) (w .insn) p) v
+  put-stop m (Place.port p) v = write-stop (w .options .device) (m .core .ports) (portOf (m .core .regs) (w .insn) p) v
   put-stop m (Place.pointer p) v = picked NoneOrNamed (eqb (bankOf (m .core)) 0) 0 31 none absent-ram
   put-stop m (Place.rom h) v = none
   put-stop m Place.mask v = none

@@ -9,6 +9,7 @@ use borrow.Author.Tests.{eq-eqb}
 use Rattle.numbers.specs.ComesBack.{stack-level}
 use Rattle.laws.specs.Choice.{pick, both}
 use Rattle.laws.proofs.Computed.{below, implies, at, modus, true→T, both-left, both-right}
+use Rattle.device.specs.declared.Device.{Device}
 use Rattle.sheet.specs.Operation.{Step, After, Target, Entry, Enable, Operation}
 use Rattle.sheet.specs.Table.{Line, lineAt}
 use Rattle.sheet.specs.Fields.{fieldA}
@@ -72,18 +73,18 @@ latches-clear il r h k e =
     (at (λ il. below 64 (λ r. implies (eqb (il / 16 % 2) 0) (eqb (bitAnd il r / 16 % 2) 0))) 64 tt il h) r k)
     (true→T (eq-eqb (il / 16 % 2) 0 e)))
 
-flags-valid : (m : Machine) (l : Line) (x : Made) → Valid m → Valid (withMarks m l x)
+flags-valid : {d : Device} (m : Machine) (l : Line) (x : Made) → Valid d m → Valid d (withMarks m l x)
 flags-valid m l x h = regs-valid h (record { acc = h .core .regs .acc; hr = h .core .regs .hr; lr = h .core .regs .lr })
 
-picked-valid : (t : Bool) (c s : ℕ) (n m : Machine) → (T t → Valid n) → Valid m → Valid (pick t (spent c n) (stops s m) .machine)
+picked-valid : {d : Device} (t : Bool) (c s : ℕ) (n m : Machine) → (T t → Valid d n) → Valid d m → Valid d (pick t (spent c n) (stops s m) .machine)
 picked-valid true c s n m h k = h tt
 picked-valid false c s n m h k = k
 
-module _ (w : Around) (m : Machine) (valid : Valid m) (running : m .core .mode ≡ Running) (bytes : (at : ℕ) → (w .rom) at < 256) where
-  past-valid : (l : Line) (x : Machine) (y : Made) → Valid x → Valid (withPc (withMarks x l y) (pcPast m l))
+module _ (w : Around) (m : Machine) (valid : Valid (w .options .device) m) (running : m .core .mode ≡ Running) (bytes : (at : ℕ) → (w .rom) at < 256) where
+  past-valid : (l : Line) (x : Machine) (y : Made) → Valid (w .options .device) x → Valid (w .options .device) (withPc (withMarks x l y) (pcPast m l))
   past-valid l x y h = pc-valid (flags-valid x l y h) (omega arith)
 
-  latches-valid : (l : Line) (e : Enable) → w .insn .a < 64 → Valid (latchesOf m w l e .machine)
+  latches-valid : (l : Line) (e : Enable) → w .insn .a < 64 → Valid (w .options .device) (latchesOf m w l e .machine)
   unfolding latchesOf
   latches-valid l e h =
       let i = valid .core .ints in
@@ -102,29 +103,29 @@ module _ (w : Around) (m : Machine) (valid : Valid m) (running : m .core .mode �
         ram = f .ram;
       }
 
-  work-valid : (n : ℕ) (l : Line) (s : Step) (a : After) → w .insn .a < n → T (both (fitsStep n s) (fitsAfter n a)) → Valid (workOf m w l s a .machine)
+  work-valid : (n : ℕ) (l : Line) (s : Step) (a : After) → w .insn .a < n → T (both (fitsStep n s) (fitsAfter n a)) → Valid (w .options .device) (workOf m w l s a .machine)
   unfolding workOf
   work-valid n l s a h t =
       picked-valid (eqb (worked m w s a .stop) 0) (l .cycles) (worked m w s a .stop) _ m
       (λ q. past-valid l (worked m w s a .machine) (worked m w s a .made) (worked-valid w bytes n h m s a valid running t)) valid
 
-  branch-valid : (n : ℕ) (l : Line) (t : Target) → w .insn .a < n → T (fitsTarget n t) → Valid (branchOf m w l t .machine)
+  branch-valid : (n : ℕ) (l : Line) (t : Target) → w .insn .a < n → T (fitsTarget n t) → Valid (w .options .device) (branchOf m w l t .machine)
   unfolding branchOf
   branch-valid n l t h f =
       pc-valid (flags-valid m l (valueAndCarry 0 false) valid)
       (chosen-lt (m .core .regs .sf) (targetOf t (m .core .pc) (w .insn .a)) (pcPast m l) (target-lt n t (m .core .pc) (w .insn .a) (valid .core .pc) h f) (omega arith))
 
-  call-valid : (n : ℕ) (l : Line) (e : Entry) → w .insn .a < n → T (fitsEntry n e) → Valid (callOf m w l e .machine)
+  call-valid : (n : ℕ) (l : Line) (e : Entry) → w .insn .a < n → T (fitsEntry n e) → Valid (w .options .device) (callOf m w l e .machine)
   unfolding callOf
   call-valid n l e h f =
       let sp = m .core .ptrs .sp in
       picked-valid (both (leb 1 sp) (leb sp 13)) (l .cycles) stack-level _ m
       (λ q. called-valid m (pcPast m l) (callEntry e (w .insn .a)) valid (record { above = leb→le 1 sp (both-left (leb 1 sp) (leb sp 13) q); below = leb→le sp 13 (both-right (leb 1 sp) (leb sp 13) q) }) (omega arith) (entry-lt n e (w .insn .a) h f)) valid
 
-  returned-valid : (l : Line) (n : Machine) → (CanPop (m .core) → Valid n) → Valid (returned m l n .machine)
+  returned-valid : (l : Line) (n : Machine) → (CanPop (m .core) → Valid (w .options .device) n) → Valid (w .options .device) (returned m l n .machine)
   returned-valid l n h = picked-valid (leb (m .core .ptrs .sp) 12) (l .cycles) stack-level n m (λ q. h (record { below = leb→le (m .core .ptrs .sp) 12 q })) valid
 
-  performed-valid : (n : ℕ) (l : Line) (o : Operation) → w .insn .a < n → T (fitsOperation n o) → Valid (performed m w l o .machine)
+  performed-valid : (n : ℕ) (l : Line) (o : Operation) → w .insn .a < n → T (fitsOperation n o) → Valid (w .options .device) (performed m w l o .machine)
   performed-valid n l (Operation.work s a) h t = work-valid n l s a h t
   performed-valid n l (Operation.branch t) h f = branch-valid n l t h f
   performed-valid n l (Operation.call e) h t = call-valid n l e h t
@@ -134,5 +135,5 @@ module _ (w : Around) (m : Machine) (valid : Valid m) (running : m .core .mode �
   performed-valid n l Operation.no-operation h t = past-valid l m (valueAndCarry 0 false) valid
 
   -- a row with its operand in its field
-  pub executed-valid : w .insn .row < 108 → w .insn .a < fieldA (lineAt (w .insn .row) .codes) → Valid (executed w m .machine)
+  pub executed-valid : w .insn .row < 108 → w .insn .a < fieldA (lineAt (w .insn .row) .codes) → Valid (w .options .device) (executed w m .machine)
   executed-valid r h = performed-valid (fieldA (lineAt (w .insn .row) .codes)) (lineAt (w .insn .row)) (lineAt (w .insn .row) .operation) h (line-fits (w .insn .row) r)

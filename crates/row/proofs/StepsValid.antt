@@ -139,10 +139,10 @@ module _ (w : Around) (bytes : (at : ℕ) → (w .rom) at < 256) (n : ℕ) (fiel
   second m RotateRight y t = tt
 
   -- a port is read only while the record is running, so that no mode is tied to P16
-  read-ports : (m : Machine) (p : Port) → Valid m → m .core .mode ≡ Running → Valid (withPorts m (portRead m w p .ports))
-  read-ports m p h e = record { core = with-ports-and-mode (h .core) (read-valid (w .sound) (m .core .pins) (m .core .ports) (portOf (m .core .regs) (w .insn) p) (h .core .ports)) (rw e tt); ram = h .ram }
+  read-ports : (m : Machine) (p : Port) → Valid (w .options .device) m → m .core .mode ≡ Running → Valid (w .options .device) (withPorts m (portRead m w p .ports))
+  read-ports m p h e = record { core = with-ports-and-mode (h .core) (read-valid (w .options .device) (w .options .sound) (m .core .pins) (m .core .ports) (portOf (m .core .regs) (w .insn) p) (h .core .ports)) (rw e tt); ram = h .ram }
 
-  touched-valid : (m : Machine) (p : Place) → Valid m → (T (isPort p) → m .core .mode ≡ Running) → Valid (afterReading m w p)
+  touched-valid : (m : Machine) (p : Place) → Valid (w .options .device) m → (T (isPort p) → m .core .mode ≡ Running) → Valid (w .options .device) (afterReading m w p)
   touched-valid m (Place.register r) h e = h
   touched-valid m (Place.given g) h e = h
   touched-valid m (Place.cell c) h e = h
@@ -154,10 +154,10 @@ module _ (w : Around) (bytes : (at : ℕ) → (w .rom) at < 256) (n : ℕ) (fiel
   touched-valid m (Place.rom g) h e = h
   touched-valid m Place.mask h e = h
 
-  nibble : (m : Machine) → Valid m → (p : Place) → T (lowPlace n p) → getOf m w p .value < 16
+  nibble : (m : Machine) → Valid (w .options .device) m → (p : Place) → T (lowPlace n p) → getOf m w p .value < 16
   nibble m h p t = get-low m w h bytes p (low-place n p (w .insn) field t)
 
-  put-step : (m : Machine) (d : Place) (o : Op) (x y : Place) → Valid m → (T (either (isPort d) (isPort x)) → m .core .mode ≡ Running) → T (fitsStep n (Step.put d o x y)) → Valid (putStep m w d o x y .machine)
+  put-step : (m : Machine) (d : Place) (o : Op) (x y : Place) → Valid (w .options .device) m → (T (either (isPort d) (isPort x)) → m .core .mode ≡ Running) → T (fitsStep n (Step.put d o x y)) → Valid (w .options .device) (putStep m w d o x y .machine)
   unfolding putStep
   put-step m d o x y h e t =
       let x-fits = both-left (lowPlace n x) (both (lowPlace n y) (secondFits o y)) t in
@@ -167,7 +167,7 @@ module _ (w : Around) (bytes : (at : ℕ) → (w .rom) at < 256) (n : ℕ) (fiel
       let v = made-low (getOf m w x .value) (getOf m w y .value) (m .core .regs .cf) a b o (second m o y (both-right (lowPlace n y) (secondFits o y) rest)) in
       put-valid (afterReading m w x) w d _ (touched-valid m x h (λ q. e (either-right (isPort d) (isPort x) q))) (λ q. reading (λ n. n .core .mode ≡ Running) m w x (e (either-left (isPort d) (isPort x) q)) (λ k. e (either-left (isPort d) (isPort x) q))) v
 
-  exchange-step : (m : Machine) (d x : Place) → Valid m → T (fitsStep n (Step.exchange d x)) → Valid (exchangeStep m w d x .machine)
+  exchange-step : (m : Machine) (d x : Place) → Valid (w .options .device) m → T (fitsStep n (Step.exchange d x)) → Valid (w .options .device) (exchangeStep m w d x .machine)
   unfolding exchangeStep
   exchange-step m d x h t =
       let lows = both-left (both (lowPlace n d) (lowPlace n x)) (not (either (isPort d) (isPort x))) t in
@@ -177,17 +177,17 @@ module _ (w : Around) (bytes : (at : ℕ) → (w .rom) at < 256) (n : ℕ) (fiel
       let first = put-valid m w d (getOf m w x .value) h (λ q. absurd (not-left (isPort d) (isPort x) none q)) b in
       put-valid (putOf m w d (getOf m w x .value) .machine) w x (getOf m w d .value) first (λ q. absurd (not-right (isPort d) (isPort x) none q)) a
 
-  step-valid : (m : Machine) (s : Step) → Valid m → (T (usesPort s) → m .core .mode ≡ Running) → T (fitsStep n s) → Valid (operationStep m w s .machine)
+  step-valid : (m : Machine) (s : Step) → Valid (w .options .device) m → (T (usesPort s) → m .core .mode ≡ Running) → T (fitsStep n s) → Valid (w .options .device) (operationStep m w s .machine)
   step-valid m (Step.put d o x y) h e t = put-step m d o x y h e t
   step-valid m (Step.exchange d x) h e t = exchange-step m d x h t
   step-valid m Step.DP+1 h e t = pointers-valid h (record { sp = h .core .ptrs .sp; dp = omega arith })
 
-  twice-valid : (m : Machine) (s t : Step) → Valid m → m .core .mode ≡ Running → T (fitsStep n s) → T (both (fitsStep n t) (not (usesPort t))) → Valid (operationStep (operationStep m w s .machine) w t .machine)
+  twice-valid : (m : Machine) (s t : Step) → Valid (w .options .device) m → m .core .mode ≡ Running → T (fitsStep n s) → T (both (fitsStep n t) (not (usesPort t))) → Valid (w .options .device) (operationStep (operationStep m w s .machine) w t .machine)
   twice-valid m s t h e f g =
       step-valid (operationStep m w s .machine) t (step-valid m s h (λ q. e) f)
       (λ q. absurd (refuted (usesPort t) (both-right (fitsStep n t) (not (usesPort t)) g) q)) (both-left (fitsStep n t) (not (usesPort t)) g)
 
-  pub worked-valid : (m : Machine) (s : Step) (a : After) → Valid m → m .core .mode ≡ Running → T (both (fitsStep n s) (fitsAfter n a)) → Valid (worked m w s a .machine)
+  pub worked-valid : (m : Machine) (s : Step) (a : After) → Valid (w .options .device) m → m .core .mode ≡ Running → T (both (fitsStep n s) (fitsAfter n a)) → Valid (w .options .device) (worked m w s a .machine)
   worked-valid m s After.alone h e f = step-valid m s h (λ q. e) (both-left (fitsStep n s) true f)
   worked-valid m s (After.flags-of t) h e f = twice-valid m s t h e (both-left (fitsStep n s) _ f) (both-right (fitsStep n s) _ f)
   worked-valid m s (After.flags-before t) h e f = twice-valid m s t h e (both-left (fitsStep n s) _ f) (both-right (fitsStep n s) _ f)

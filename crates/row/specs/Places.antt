@@ -1,12 +1,13 @@
 -- What stands at a place that the operation column names, what reading it does besides, and what putting a nibble there does.
 use Prim.Native.Nat.{ℕ, _+_, _*_, _/_, _%_, _^_}
-use mathlib.Core.Bool.{Bool}
 use mathlib.Core.List.{List}
 use lib.Dec.{eqb, ltb}
 use lib.ListN.{getD, set}
 use Rattle.numbers.specs.Sizes.{ramNibbles}
 use Rattle.laws.specs.Choice.{pick}
 use Rattle.numbers.specs.ComesBack.{absent-ram-address}
+use Rattle.device.specs.declared.Device.{Device}
+use Rattle.device.specs.declared.Options.{Options}
 use Rattle.sheet.specs.Operation.{Register, Given, Cell, Port, Part, Pointer, Half, Place}
 use Rattle.sheet.specs.declared.Insn.{Insn}
 use Rattle.bits.specs.Bits.{bitOf}
@@ -44,10 +45,10 @@ withPorts m p = assembled (coreWithPorts (m .core) p) (m .ram)
 abbrev pub withRam : Machine → List ℕ → Machine
 withRam m l = assembled (m .core) l
 
--- what is around a row: the ROM by address, the option SOUND, and the instruction with its operands
+-- what is around a row: the ROM by address, the options, and the instruction with its operands
 pub record Around : Type 0 where
   pub rom : ℕ → ℕ
-  pub sound : Bool
+  pub options : Options
   pub insn : Insn
 
 -- a stop of document 01's table or 0, and the nibble; a stop or 0, and the record
@@ -120,7 +121,7 @@ halfOf Half.high-half b = b / 16
 
 -- what reading a port does, and what it gives: its pins, or its latch
 abbrev pub portRead : Machine → Around → Port → PortRead
-portRead m w p = readPort (w .sound) (m .core .pins) (m .core .ports) (portOf (m .core .regs) (w .insn) p)
+portRead m w p = readPort (w .options .device) (w .options .sound) (m .core .pins) (m .core .ports) (portOf (m .core .regs) (w .insn) p)
 
 abbrev pub pinsGot : PortRead → Got
 pinsGot r = record { stop = r .stop; value = r .value }
@@ -180,16 +181,16 @@ baseAfter base n v = pick (enters n v) 0 base
 abbrev pub timersAfter : Timers → ℕ → ℕ → Timers
 timersAfter t n v = record { base = baseAfter (t .base) n v; ta = t .ta; tb = t .tb }
 
-abbrev pub portWritten : Machine → ℕ → ℕ → Machine
-portWritten m n v =
+abbrev pub portWritten : Device → Machine → ℕ → ℕ → Machine
+portWritten d m n v =
     let timed = coreWithTimers (m .core) (timersAfter (m .core .timers) n v) in
-    assembled (coreWithMode (coreWithPorts timed (writePort (m .core .ports) n v .ports)) (modeAfter (m .core .mode) n v)) (m .ram)
+    assembled (coreWithMode (coreWithPorts timed (writePort d (m .core .ports) n v .ports)) (modeAfter (m .core .mode) n v)) (m .ram)
 
 abbrev pub putOf : Machine → Around → Place → ℕ → Put
 putOf m w (Place.register r) v = there (withRegisters m (registerPut (m .core .regs) r v))
 putOf m w (Place.given g) v = there m
 putOf m w (Place.cell c) v = record { stop = pick (ltb (cellOf (m .core) (w .insn) c) ramNibbles) 0 absent-ram-address; machine = withRam m (set (m .ram) (cellOf (m .core) (w .insn) c) v) }
-putOf m w (Place.port p) v = record { stop = writePort (m .core .ports) (portOf (m .core .regs) (w .insn) p) v .stop; machine = portWritten m (portOf (m .core .regs) (w .insn) p) v }
+putOf m w (Place.port p) v = record { stop = writePort (w .options .device) (m .core .ports) (portOf (m .core .regs) (w .insn) p) v .stop; machine = portWritten (w .options .device) m (portOf (m .core .regs) (w .insn) p) v }
 putOf m w (Place.pointer p) v = record { stop = inBank0 (m .core) 0 absent-ram-address; machine = pointerPut m p v }
 putOf m w (Place.rom h) v = there m
 putOf m w Place.mask v = there (withInterrupts m (interruptsOf (m .core .ints .ei) (m .core .ints .il) v))

@@ -13,16 +13,16 @@ use Rattle.row_control.specs.Turns.{Keeps}
 module _ (m : Core) (r : ℕ) where
   pub cil : Keeps m 82 r (latchesLeft m (m .ints .ei) r)
   unfolding lineAt lines latchesOf flagAfter
-  cil = record { turns = λ l. record { same = λ rom sound b. refl } }
+  cil = record { turns = λ l. record { same = λ rom options b. refl } }
 
   pub dicil : Keeps m 83 r (latchesLeft m false r)
   unfolding lineAt lines latchesOf flagAfter
-  dicil = record { turns = λ l. record { same = λ rom sound b. refl } }
+  dicil = record { turns = λ l. record { same = λ rom options b. refl } }
 
   pub eicil : Keeps m 84 r (latchesLeft m true r)
   unfolding lineAt lines latchesOf flagAfter
-  eicil = record { turns = λ l. record { same = λ rom sound b. refl } }
+  eicil = record { turns = λ l. record { same = λ rom options b. refl } }
 
   pub exae : Keeps m 85 r (exchanged m)
   unfolding lineAt lines workOf exchangeStep flagAfter
-  exae = record { turns = λ l. record { same = λ rom sound b. refl } }
+  exae = record { turns = λ l. record { same = λ rom options b. refl } }

@@ -1,8 +1,8 @@
 -- What a row that moves the scalars and perhaps RAM gives, held against the table's definition.
 use Prim.Native.Nat.{ℕ}
-use mathlib.Core.Bool.{Bool}
 use mathlib.Core.List.{List}
 use mathlib.Core.Path.{_≡_}
+use Rattle.device.specs.declared.Options.{Options}
 use Rattle.sheet.specs.Reading.{insn}
 use Rattle.machine.specs.declared.Core.{Core}
 use Rattle.row.specs.Rows.{executed}
@@ -10,9 +10,9 @@ use Rattle.row.specs.Turns.{doneAs}
 use Rattle.machine.specs.With.{assembled}
 use Rattle.row.specs.declared.Turn.{Turn}
 
--- the row with its operand takes RAM from l to k and gives what x says, whatever ROM, SOUND and the other operand are
+-- the row with its operand takes RAM from l to k and gives what x says, whatever ROM, the options and the other operand are
 pub record Turns (m : Core) (row a : ℕ) (l k : List ℕ) (x : Turn) : Type 0 where
-  pub same : (rom : ℕ → ℕ) (sound : Bool) (b : ℕ) → doneAs x k ≡ executed (record { rom = rom; sound = sound; insn = insn row a b }) (assembled m l)
+  pub same : (rom : ℕ → ℕ) (options : Options) (b : ℕ) → doneAs x k ≡ executed (record { rom = rom; options = options; insn = insn row a b }) (assembled m l)
 
 -- the row leaves RAM as it was, whatever it is
 pub record Keeps (m : Core) (row a : ℕ) (x : Turn) : Type 0 where

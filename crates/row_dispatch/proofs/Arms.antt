@@ -1,9 +1,11 @@
 -- What a group's function asks follows from validity and the group; what it gives is what the definition says.
 use mathlib.Core.Path.{_≡_, refl, subst}
-use mathlib.Core.Bool.{Bool, true}
+use mathlib.Core.Bool.{true}
 use mathlib.Core.List.{List}
 use Prim.Native.Nat.{ℕ, _+_, _<_}
 use Rattle.laws.specs.Among.{among}
+use Rattle.device.specs.declared.Device.{Device}
+use Rattle.device.specs.declared.Options.{Options}
 use Rattle.sheet.specs.declared.Insn.{Insn}
 use Rattle.machine.specs.Valid.{ValidCore, Nibbles}
 use Rattle.machine.specs.declared.Core.{Core}
@@ -19,7 +21,7 @@ use Rattle.row_ports.specs.Ported.{Ported}
 use Rattle.row_dispatch.specs.Groups.{rowsOf, limitA, InGroup}
 use Rattle.row_dispatch.specs.Performs.{Performs, Shifts, Settles, Points, turnOf}
 
-module _ {m : Core} {i : Insn} {g : ℕ} (v : ValidCore m) (h : InGroup g i) (n : ℕ) (e : g ≡ n) where
+module _ {d : Device} {m : Core} {i : Insn} {g : ℕ} (v : ValidCore d m) (h : InGroup g i) (n : ℕ) (e : g ≡ n) where
   pub regrouped : InGroup n i
   regrouped = subst (λ (g : ℕ). InGroup g i) e h
 
@@ -34,27 +36,27 @@ module _ {m : Core} {i : Insn} {g : ℕ} (v : ValidCore m) (h : InGroup g i) (n 
 
 module _ (m : Core) (i : Insn) where
   -- a row of the ports
-  pub ported : (sound : Bool) (l k : List ℕ) (x : Turn) → Ported sound m (i .row) (i .a) (i .b) l k x → Shifts sound m i l k x
-  ported sound l k x q = record { performs = λ rom. record { same = q .same rom } }
+  pub ported : (options : Options) (l k : List ℕ) (x : Turn) → Ported options m (i .row) (i .a) (i .b) l k x → Shifts options m i l k x
+  ported options l k x q = record { performs = λ rom. record { same = q .same rom } }
 
-  pub ported-by : (row : ℕ) (sound : Bool) (l k : List ℕ) (x : Turn) → i .row ≡ row → Ported sound m row (i .a) (i .b) l k x → Shifts sound m i l k x
-  ported-by row sound l k x e q = ported sound l k x (rw e q)
+  pub ported-by : (row : ℕ) (options : Options) (l k : List ℕ) (x : Turn) → i .row ≡ row → Ported options m row (i .a) (i .b) l k x → Shifts options m i l k x
+  ported-by row options l k x e q = ported options l k x (rw e q)
 
   pub settled : (x : Act) → Quiet m (i .row) (i .a) x → Settles m i x
-  settled x q = record { does = λ l. record { same = λ rom sound. q .same rom sound (i .b) l } }
+  settled x q = record { does = λ l. record { same = λ rom options. q .same rom options (i .b) l } }
 
   pub loaded : (x : Act) → Leaves m (i .row) x (m .ptrs) (m .timers) → Settles m i x
-  loaded x q = record { does = λ l. record { same = λ rom sound. q .same rom sound (i .a) (i .b) l } }
+  loaded x q = record { does = λ l. record { same = λ rom options. q .same rom options (i .a) (i .b) l } }
 
   pub rom-read : (rom : ℕ → ℕ) (row : ℕ) (x : Pointed) → i .row ≡ row → FromRom m row (rom (0x1000 + m .ptrs .dp)) x → Points rom m i x
-  rom-read rom row x e q = record { performs = λ sound l. record { same = rw e (q .same rom sound (i .a) (i .b) l refl) } }
+  rom-read rom row x e q = record { performs = λ options l. record { same = rw e (q .same rom options (i .a) (i .b) l refl) } }
 
   pub pointed : (rom : ℕ → ℕ) (x : Pointed) → Leaves m (i .row) (x .act) (x .ptrs) (x .timers) → Points rom m i x
-  pointed rom x q = record { performs = λ sound l. record { same = q .same rom sound (i .a) (i .b) l } }
+  pointed rom x q = record { performs = λ options l. record { same = q .same rom options (i .a) (i .b) l } }
 
-  pub turned : (sound : Bool) (l k : List ℕ) (x : Turn) → Turns m (i .row) (i .a) l k x → Shifts sound m i l k x
-  turned sound l k x q = record { performs = λ rom. record { same = q .same rom sound (i .b) } }
+  pub turned : (options : Options) (l k : List ℕ) (x : Turn) → Turns m (i .row) (i .a) l k x → Shifts options m i l k x
+  turned options l k x q = record { performs = λ rom. record { same = q .same rom options (i .b) } }
 
   -- a row that changes PC and the registers
-  pub acted : (rom : ℕ → ℕ) (sound : Bool) (l k : List ℕ) (x : Act) → Does m (i .row) (i .a) (i .b) l k x → Performs rom sound m i l k (turnOf m x)
-  acted rom sound l k x d = record { same = d .same rom sound }
+  pub acted : (rom : ℕ → ℕ) (options : Options) (l k : List ℕ) (x : Act) → Does m (i .row) (i .a) (i .b) l k x → Performs rom options m i l k (turnOf m x)
+  acted rom options l k x d = record { same = d .same rom options }

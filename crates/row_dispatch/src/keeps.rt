@@ -1,4 +1,5 @@
 // The groups that leave RAM as it was and do not read it.
+use device::in_image;
 use machine::Core;
 use row_ends::Act;
 use row_pointers::Pointed;
@@ -14,17 +15,15 @@ use row_registers::makes::made;
 use row_registers::moves::moved;
 use sheet::Insn;
 ghost use mathlib.Core.Path.{_≡_};
-ghost use Prim.Native.Nat.{_+_, _<_, _≤_};
+ghost use Prim.Native.Nat.{_+_, _*_, _%_, _<_, _≤_};
 ghost use lib.ListN.{length};
-ghost use Rattle.numbers.specs.Sizes.{imageBytes};
-ghost use Rattle.sheet.specs.Reading.{romOf};
-ghost use Rattle.machine.specs.Valid.{ValidCore};
+ghost use Rattle.device.specs.Device.{romOf};
 ghost use Rattle.row_dispatch.specs.Groups.{InGroup};
-ghost use Rattle.row_dispatch.specs.Performs.{Settles, Points};
+ghost use Rattle.row_dispatch.specs.Performs.{InRanges, Settles, Points};
 
 // Registers, flags and PC from the registers, the pointers and the timers.
 pub fn quiet(m: Core, i: Insn, group: u8) -> Act
-    requires { ⌜ (ValidCore m) × (InGroup group i) × (group < 6) ⌝ }
+    requires { ⌜ (InRanges m) × (InGroup group i) × (group < 6) ⌝ }
     ensures { λ x. ⌜ Settles m i x ⌝ }
 {
     match group {
@@ -37,19 +36,19 @@ pub fn quiet(m: Core, i: Insn, group: u8) -> Act
     }
 }
 
-// The byte at 1000h + DP.
+// The byte at 1000h + DP, in the bank that P3 shows.
 fn rom_byte(image: &[u8], m: Core) -> u8
-    requires { ⌜ (length (now image) ≡ imageBytes) × (m .ptrs .dp < 4096) ⌝ }
-    ensures { λ r. ⌜ r ≡ romOf (now (image .entry)) (0x1000 + m .ptrs .dp) ⌝ }
+    requires { ⌜ (8192 + 4096 * (m .ports .p3 % 4) ≤ length (now image)) × (m .ptrs .dp < 4096) ⌝ }
+    ensures { λ r. ⌜ r ≡ romOf (now (image .entry)) (m .ports .p3) (0x1000 + m .ptrs .dp) ⌝ }
 {
-    let at = 0x1000 + m.ptrs.dp as usize;
+    let at = in_image(m.ports.p3, 0x1000 + m.ptrs.dp);
     image[at]
 }
 
 // The rows that leave another pointer or timer.
 pub fn from_pointer(image: &[u8], m: Core, i: Insn, group: u8) -> Pointed
-    requires { ⌜ (ValidCore m) × (InGroup group i) × (length (now image) ≡ imageBytes) × (14 ≤ group) × (group < 18) ⌝ }
-    ensures { λ x. ⌜ Points (romOf (now (image .entry))) m i x ⌝ }
+    requires { ⌜ (InRanges m) × (InGroup group i) × (8192 + 4096 * (m .ports .p3 % 4) ≤ length (now image)) × (14 ≤ group) × (group < 18) ⌝ }
+    ensures { λ x. ⌜ Points (romOf (now (image .entry)) (m .ports .p3)) m i x ⌝ }
 {
     match group {
         14 => store_pointer(m, i.row),

@@ -1,4 +1,5 @@
 // The groups that read or write RAM, which is lent, and those that change more of the scalars.
+use device::Options;
 use machine::Core;
 use machine::Ram;
 use row::Turn;
@@ -23,10 +24,10 @@ ghost use Prim.Native.Nat.{_<_, _≤_};
 ghost use Rattle.machine.specs.Valid.{ValidCore, Nibbles};
 ghost use Rattle.row_ram.specs.Cells.{Does};
 ghost use Rattle.row_dispatch.specs.Groups.{InGroup};
-ghost use Rattle.row_dispatch.specs.Performs.{Shifts};
+ghost use Rattle.row_dispatch.specs.Performs.{InRanges, Shifts};
 
 pub fn read(m: Core, ram: &Ram, i: Insn, group: u8) -> Act
-    requires { ⌜ (ValidCore m) × (Nibbles (now ram)) × (InGroup group i) × (6 ≤ group) × (group < 10) ⌝ }
+    requires { ⌜ (InRanges m) × (Nibbles (now ram)) × (InGroup group i) × (6 ≤ group) × (group < 10) ⌝ }
     ensures { λ x. ⌜ Does m (i .row) (i .a) (i .b) (now (ram .entry)) (now (ram .entry)) x ⌝ }
 {
     match group {
@@ -38,7 +39,7 @@ pub fn read(m: Core, ram: &Ram, i: Insn, group: u8) -> Act
 }
 
 pub fn write(m: Core, ram: &mut Ram, i: Insn, group: u8) -> Act
-    requires { ⌜ (ValidCore m) × (Nibbles (now ram)) × (InGroup group i) × (10 ≤ group) × (group < 14) ⌝ }
+    requires { ⌜ (InRanges m) × (Nibbles (now ram)) × (InGroup group i) × (10 ≤ group) × (group < 14) ⌝ }
     ensures { λ x. ⌜ Does m (i .row) (i .a) (i .b) (now (ram .entry)) (now (ram .exit)) x ⌝ }
 {
     match group {
@@ -49,17 +50,17 @@ pub fn write(m: Core, ram: &mut Ram, i: Insn, group: u8) -> Act
     }
 }
 
-pub fn turn(sound: bool, m: Core, ram: &mut Ram, i: Insn, group: u8) -> Turn
-    requires { ⌜ (ValidCore m) × (Nibbles (now ram)) × (InGroup group i) × (18 ≤ group) × (group < 25) ⌝ }
-    ensures { λ x. ⌜ Shifts sound m i (now (ram .entry)) (now (ram .exit)) x ⌝ }
+pub fn turn(options: Options, m: Core, ram: &mut Ram, i: Insn, group: u8) -> Turn
+    requires { ⌜ (ValidCore (options .device) m) × (Nibbles (now ram)) × (InGroup group i) × (18 ≤ group) × (group < 25) ⌝ }
+    ensures { λ x. ⌜ Shifts options m i (now (ram .entry)) (now (ram .exit)) x ⌝ }
 {
     match group {
         18 => latch(m, i.row, i.a as u8),
         19 => come_back(m, ram, i.row),
         20 => call(m, ram, i.row, i.a),
-        21 => write_row(m, i.row, i.a as u8, i.b),
-        22 => read_row(sound, m, i.row, i.a as u8, i.b),
-        23 => read_to_cell(sound, m, ram, i.b),
-        _ => write_from_cell(m, ram, i.b),
+        21 => write_row(options, m, i.row, i.a as u8, i.b),
+        22 => read_row(options, m, i.row, i.a as u8, i.b),
+        23 => read_to_cell(options, m, ram, i.b),
+        _ => write_from_cell(options, m, ram, i.b),
     }
 }

@@ -2,6 +2,7 @@
 mod keeps;
 mod lends;
 
+use device::Options;
 use keeps::from_pointer;
 use keeps::quiet;
 use lends::read;
@@ -16,9 +17,8 @@ use sheet::Insn;
 ghost use mathlib.Core.Path.{_≡_};
 ghost use lib.ListN.{length};
 ghost use Prim.Native.Nat.{_<_};
-ghost use Rattle.numbers.specs.Sizes.{imageBytes};
 ghost use Rattle.sheet.specs.Fields.{InFields};
-ghost use Rattle.sheet.specs.Reading.{romOf};
+ghost use Rattle.device.specs.Device.{imageSize, romOf};
 ghost use Rattle.row_dispatch.specs.Groups.{InGroup, Packs};
 ghost use Rattle.row_dispatch.specs.Performs.{Ready, Performs, turnOf, turnBy};
 
@@ -87,9 +87,9 @@ fn with_pointed(m: Core, x: Pointed) -> Turn
     }
 }
 
-pub fn perform(image: &[u8], sound: bool, m: Core, ram: &mut Ram, i: Insn) -> Turn
-    requires { ⌜ (Ready m (now ram) i) × (length (now image) ≡ imageBytes) ⌝ }
-    ensures { λ x. ⌜ Performs (romOf (now (image .entry))) sound m i (now (ram .entry)) (now (ram .exit)) x ⌝ }
+pub fn perform(image: &[u8], options: Options, m: Core, ram: &mut Ram, i: Insn) -> Turn
+    requires { ⌜ (Ready (options .device) m (now ram) i) × (length (now image) ≡ imageSize (options .device)) ⌝ }
+    ensures { λ x. ⌜ Performs (romOf (now (image .entry)) (m .ports .p3)) options m i (now (ram .entry)) (now (ram .exit)) x ⌝ }
 {
     let group = group_of(i);
     if group < 6 {
@@ -108,5 +108,5 @@ pub fn perform(image: &[u8], sound: bool, m: Core, ram: &mut Ram, i: Insn) -> Tu
         let pointed = from_pointer(image, m, i, group);
         return with_pointed(m, pointed);
     }
-    turn(sound, m, ram, i, group)
+    turn(options, m, ram, i, group)
 }

@@ -11,8 +11,8 @@ use Rattle.row_pointers.specs.FromRom.{FromRom}
 
 pub ldax : (m : Core) (byte : ℕ) → FromRom m 3 byte (record { act = accLoaded m (byte % 16) 1 2; ptrs = m .ptrs; timers = m .timers })
 unfolding lineAt lines workOf putStep made flagAfter
-ldax m byte = record { same = λ rom sound a b l e. rw (← e) }
+ldax m byte = record { same = λ rom options a b l e. rw (← e) }
 
 pub ldaxi : (m : Core) (byte : ℕ) → FromRom m 4 byte (record { act = accLoaded m (byte / 16) 1 2; ptrs = record { sp = m .ptrs .sp; dp = (m .ptrs .dp + 1) % 4096 }; timers = m .timers })
 unfolding lineAt lines workOf putStep made flagAfter
-ldaxi m byte = record { same = λ rom sound a b l e. rw (← e) }
+ldaxi m byte = record { same = λ rom options a b l e. rw (← e) }

@@ -1,9 +1,10 @@
 -- What a row of a pointer or a timer gives, held against the table's definition.
 use Prim.Native.Nat.{ℕ, _<_}
-use mathlib.Core.Bool.{Bool, true}
+use mathlib.Core.Bool.{true}
 use mathlib.Core.List.{List}
 use mathlib.Core.Path.{_≡_}
 use Rattle.numbers.specs.Sizes.{addresses}
+use Rattle.device.specs.declared.Options.{Options}
 use Rattle.sheet.specs.Reading.{insn}
 use Rattle.machine.specs.Valid.{ValidRegisters, ValidPointers, ValidTimers}
 use Rattle.machine.specs.declared.Core.{Core}
@@ -20,9 +21,9 @@ use Rattle.laws.specs.Among.{among}
 abbrev pub afterPointer : Core → Act → Pointers → Timers → Core
 afterPointer m x p t = coreWithTimers (coreWithPtrs (coreWithPc (coreWithRegs m (x .regs)) (x .pc)) p) t
 
--- the row gives what x says and leaves these pointers and timers, whatever RAM, ROM, SOUND and the operands are
+-- the row gives what x says and leaves these pointers and timers, whatever RAM, ROM, the options and the operands are
 pub record Leaves (m : Core) (row : ℕ) (x : Act) (p : Pointers) (t : Timers) : Type 0 where
-  pub same : (rom : ℕ → ℕ) (sound : Bool) (a b : ℕ) (l : List ℕ) → record { stop = x .stop; cycles = x .cycles; machine = record { core = afterPointer m x p t; ram = l } } ≡ executed (record { rom = rom; sound = sound; insn = insn row a b }) (record { core = m; ram = l })
+  pub same : (rom : ℕ → ℕ) (options : Options) (a b : ℕ) (l : List ℕ) → record { stop = x .stop; cycles = x .cycles; machine = record { core = afterPointer m x p t; ram = l } } ≡ executed (record { rom = rom; options = options; insn = insn row a b }) (record { core = m; ram = l })
 
 -- what such a row asks of the record
 pub record Asks (rows : List ℕ) (m : Core) (row : ℕ) : Type 0 where

@@ -1,4 +1,5 @@
 // The ends of the rows of ports: a stop, a port written, a port read.
+use device::Device;
 use machine::Core;
 use numbers::ADDRESSES;
 use ports::PortRead;
@@ -27,9 +28,9 @@ fn base_after(base: u32, n: u8, v: u8) -> u32
 }
 
 // v written to port n, which leaves these latches, by a row of so many bytes.
-fn wrote(m: Core, n: u8, v: u8, bytes: u8, ports: Ports) -> Core
-    requires { ⌜ (m .pc < addresses) × (ports ≡ writePort (m .ports) n v .ports) ⌝ }
-    ensures { λ r. ⌜ r ≡ wrote m n v bytes ⌝ }
+fn wrote(d: Device, m: Core, n: u8, v: u8, bytes: u8, ports: Ports) -> Core
+    requires { ⌜ (m .pc < addresses) × (ports ≡ writePort d (m .ports) n v .ports) ⌝ }
+    ensures { λ r. ⌜ r ≡ wrote d m n v bytes ⌝ }
 {
     let mut regs = m.regs;
     regs.sf = true;
@@ -55,12 +56,12 @@ fn wrote(m: Core, n: u8, v: u8, bytes: u8, ports: Ports) -> Core
 }
 
 // - - 1: v to port n, or the port's stop, by a row of so many bytes. Every row of ports takes two cycles.
-pub(crate) fn written(m: Core, n: u8, v: u8, bytes: u8) -> Turn
+pub(crate) fn written(d: Device, m: Core, n: u8, v: u8, bytes: u8) -> Turn
     requires { ⌜ (m .pc < addresses) × (n < 32) ⌝ }
-    ensures { λ x. ⌜ x ≡ written m n v bytes ⌝ }
+    ensures { λ x. ⌜ x ≡ written d m n v bytes ⌝ }
 {
     let before = m.ports;
-    let w = write_port(before, n, v);
+    let w = write_port(d, before, n, v);
     if w.stop != 0 {
         return stopped(m, w.stop);
     }
@@ -68,7 +69,7 @@ pub(crate) fn written(m: Core, n: u8, v: u8, bytes: u8) -> Turn
     Turn {
         stop: 0,
         cycles: 2,
-        core: wrote(m, n, v, bytes, ports),
+        core: wrote(d, m, n, v, bytes, ports),
     }
 }
 

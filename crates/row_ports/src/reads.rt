@@ -2,6 +2,7 @@
 use crate::ends::after_read;
 use alu::Made;
 use bits::has_bit;
+use device::Options;
 use machine::Core;
 use ports::read_port;
 use row::Turn;
@@ -26,25 +27,27 @@ fn answered(one: bool, v: u8, w: u8) -> bool
 }
 
 // - - *, by a row of so many bytes.
-fn port_tested(sound: bool, m: Core, n: u8, w: u8, one: bool, bytes: u8) -> Turn
-    requires { ⌜ (Readable m n) × (0 < w) ⌝ }
-    ensures { λ x. ⌜ x ≡ portTested sound m n w one bytes ⌝ }
+fn port_tested(options: Options, m: Core, n: u8, w: u8, one: bool, bytes: u8) -> Turn
+    requires { ⌜ (Readable (options .device) m n) × (0 < w) ⌝ }
+    ensures { λ x. ⌜ x ≡ portTested options m n w one bytes ⌝ }
 {
+    let d = options.device;
     let pins = m.pins;
     let ports = m.ports;
-    let r = read_port(sound, pins, ports, n);
+    let r = read_port(d, options.sound, pins, ports, n);
     let act = tested(m, answered(one, r.value, w), bytes, 2);
     after_read(m, r, act)
 }
 
 // INA: - Z Z'
-fn port_loaded(sound: bool, m: Core, n: u8) -> Turn
-    requires { ⌜ Readable m n ⌝ }
-    ensures { λ x. ⌜ x ≡ portLoaded sound m n ⌝ }
+fn port_loaded(options: Options, m: Core, n: u8) -> Turn
+    requires { ⌜ Readable (options .device) m n ⌝ }
+    ensures { λ x. ⌜ x ≡ portLoaded options m n ⌝ }
 {
+    let d = options.device;
     let pins = m.pins;
     let ports = m.ports;
-    let r = read_port(sound, pins, ports, n);
+    let r = read_port(d, options.sound, pins, ports, n);
     let moved = Made {
         value: r.value,
         carry: false,
@@ -54,15 +57,15 @@ fn port_loaded(sound: bool, m: Core, n: u8) -> Turn
 }
 
 // TFPL names port LR 3..2 + 4 and bit LR 1..0. The row that is none of those named is INA.
-pub fn read_row(sound: bool, m: Core, row: u8, a: u8, b: u8) -> Turn
-    requires { ⌜ ReadFits m row b ⌝ }
-    ensures { λ x. ⌜ Reads sound m row a b x ⌝ }
+pub fn read_row(options: Options, m: Core, row: u8, a: u8, b: u8) -> Turn
+    requires { ⌜ ReadFits (options .device) m row b ⌝ }
+    ensures { λ x. ⌜ Reads options m row a b x ⌝ }
 {
     let lr = m.regs.lr;
     match row {
-        rows::TFP => port_tested(sound, m, b, weight(a), false, 2),
-        rows::TFPL => port_tested(sound, m, lr / 4 + 4, weight(lr), false, 1),
-        rows::TTP => port_tested(sound, m, b, weight(a), true, 2),
-        _ => port_loaded(sound, m, b),
+        rows::TFP => port_tested(options, m, b, weight(a), false, 2),
+        rows::TFPL => port_tested(options, m, lr / 4 + 4, weight(lr), false, 1),
+        rows::TTP => port_tested(options, m, b, weight(a), true, 2),
+        _ => port_loaded(options, m, b),
     }
 }

@@ -18,7 +18,7 @@ module _ (m : Core) (a : ℕ) where
   -- SBR
   sbr : Quiet m 47 a (jumped m (pick (m .regs .sf) (m .pc / 64 * 64 + a) ((m .pc + 1) % 8192)) 1)
   unfolding lineAt lines branchOf flagAfter
-  sbr = record { same = λ rom sound b l. refl }
+  sbr = record { same = λ rom options b l. refl }
 
   pub sbr-taken : m .regs .sf ≡ true → Quiet m 47 a (jumped m (m .pc / 64 * 64 + a) 1)
   sbr-taken e = by-sf 47 (m .pc / 64 * 64 + a) ((m .pc + 1) % 8192) 1 true e sbr
@@ -29,7 +29,7 @@ module _ (m : Core) (a : ℕ) where
   -- LBR
   lbr : Quiet m 48 a (jumped m (pick (m .regs .sf) (m .pc / 4096 * 4096 + a) ((m .pc + 2) % 8192)) 2)
   unfolding lineAt lines branchOf flagAfter
-  lbr = record { same = λ rom sound b l. refl }
+  lbr = record { same = λ rom options b l. refl }
 
   pub lbr-taken : m .regs .sf ≡ true → Quiet m 48 a (jumped m (m .pc / 4096 * 4096 + a) 2)
   lbr-taken e = by-sf 48 (m .pc / 4096 * 4096 + a) ((m .pc + 2) % 8192) 2 true e lbr
@@ -40,7 +40,7 @@ module _ (m : Core) (a : ℕ) where
   -- SLBR
   slbr : Quiet m 49 a (jumped m (pick (m .regs .sf) a ((m .pc + 3) % 8192)) 3)
   unfolding lineAt lines branchOf flagAfter
-  slbr = record { same = λ rom sound b l. refl }
+  slbr = record { same = λ rom options b l. refl }
 
   pub slbr-taken : m .regs .sf ≡ true → Quiet m 49 a (jumped m a 3)
   slbr-taken e = by-sf 49 a ((m .pc + 3) % 8192) 3 true e slbr

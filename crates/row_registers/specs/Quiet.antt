@@ -1,9 +1,9 @@
 -- What a row that leaves RAM alone gives, held against the table's definition.
 use Prim.Native.Nat.{ℕ, _<_}
-use mathlib.Core.Bool.{Bool}
 use mathlib.Core.List.{List}
 use mathlib.Core.Path.{_≡_}
 use Rattle.numbers.specs.Sizes.{addresses}
+use Rattle.device.specs.declared.Options.{Options}
 use Rattle.sheet.specs.Reading.{insn}
 use Rattle.machine.specs.With.{assembled, coreWithRegs, coreWithPc}
 use Rattle.machine.specs.declared.Core.{Core}
@@ -17,9 +17,9 @@ afterAct m x = coreWithPc (coreWithRegs m (x .regs)) (x .pc)
 abbrev pub doneBy : Core → Act → List ℕ → Done
 doneBy m x l = record { stop = x .stop; cycles = x .cycles; machine = assembled (afterAct m x) l }
 
--- the row with its operand gives what x says, whatever RAM, ROM, SOUND and the other operand are
+-- the row with its operand gives what x says, whatever RAM, ROM, the options and the other operand are
 pub record Quiet (m : Core) (row a : ℕ) (x : Act) : Type 0 where
-  pub same : (rom : ℕ → ℕ) (sound : Bool) (b : ℕ) (l : List ℕ) → doneBy m x l ≡ executed (record { rom = rom; sound = sound; insn = insn row a b }) (assembled m l)
+  pub same : (rom : ℕ → ℕ) (options : Options) (b : ℕ) (l : List ℕ) → doneBy m x l ≡ executed (record { rom = rom; options = options; insn = insn row a b }) (assembled m l)
 
 -- what the rows ask of the registers and the operand
 pub record Low (m : Core) (k : ℕ) : Type 0 where

@@ -8,14 +8,14 @@ use borrow.Author.Tests.{eq-eqb}
 use Rattle.frame.specs.declared.Pins.{Pins}
 use Rattle.machine.specs.declared.Machine.{Machine}
 use Rattle.step.specs.Step.{stepOf}
-use Rattle.step.specs.declared.Options.{Options}
+use Rattle.device.specs.declared.Options.{Options}
 use Rattle.step.proofs.StepValid.{step-unmarked}
 use Rattle.step.proofs.AsBefore.{step-as-before}
 use Rattle.run.specs.Run.{runOver, runOf}
 use Rattle.run.specs.Before.{runOverBefore, runBefore, RunAsBefore}
 use Rattle.run.proofs.Rest.{completes-on}
 
-over-as-before : (rom : ℕ → ℕ) (o : Options) (frames : List Pins) (steps cycles : ℕ) (m : Machine) → m .core .mark ≡ false → runOver rom o frames steps cycles m .number ≡ 0 → runOver rom o frames steps cycles m ≡ runOverBefore rom o frames steps cycles m
+over-as-before : (rom : ℕ → ℕ → ℕ) (o : Options) (frames : List Pins) (steps cycles : ℕ) (m : Machine) → m .core .mark ≡ false → runOver rom o frames steps cycles m .number ≡ 0 → runOver rom o frames steps cycles m ≡ runOverBefore rom o frames steps cycles m
 over-as-before rom o [] steps cycles m free z = refl
 over-as-before rom o (pins ∷ others) steps cycles m free z =
     let d = stepOf rom o m pins in

@@ -13,7 +13,7 @@ use Rattle.laws.specs.Choice.{pick}
 use Rattle.frame.specs.declared.Pins.{Pins}
 use Rattle.machine.specs.declared.Machine.{Machine}
 use Rattle.step.specs.Step.{stepOf}
-use Rattle.step.specs.declared.Options.{Options}
+use Rattle.device.specs.declared.Options.{Options}
 use Rattle.run.specs.Run.{runOver, runOf}
 use Rattle.run.specs.declared.Ran.{Ran}
 
@@ -36,7 +36,7 @@ later-picked : (t : Bool) (number steps cycles : ℕ) (m : Machine) (r q : Ran) 
 later-picked true number steps cycles m r q e = e
 later-picked false number steps cycles m r q e = later-stopped number steps cycles m
 
-module _ (rom : ℕ → ℕ) (o : Options) where
+module _ (rom : ℕ → ℕ → ℕ) (o : Options) where
   run-later : (frames : List Pins) (steps cycles : ℕ) (m : Machine) → runOver rom o frames steps cycles m ≡ later steps cycles (runOver rom o frames 0 0 m)
   run-later [] steps cycles m = later-stopped 0 steps cycles m
   run-later (pins ∷ others) steps cycles m =

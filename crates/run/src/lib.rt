@@ -1,26 +1,28 @@
 // A run: one step a frame, up to a stop. RAM stays in one place over all its steps.
+use device::Options;
+use device::frame_size;
+use device::image_size;
 use frame::are_frames;
 use frame::pins_at;
 use machine::Machine;
 use machine_valid::is_valid;
-use numbers::IMAGE_BYTES;
-use numbers::IMAGE_IS_NOT_8192_BYTES;
+use numbers::IMAGE_OF_ANOTHER_SIZE;
 use numbers::MORE_THAN_65536_FRAMES;
-use numbers::MOST_FRAME_BYTES;
 use numbers::NO_FRAME;
 use numbers::RECORD_OUTSIDE_THE_RANGES;
-use step::Options;
 use step::advance;
 ghost use mathlib.Core.Path.{_≡_};
 ghost use mathlib.Core.Bool.{true};
-ghost use Prim.Native.Nat.{_≤_};
+ghost use Prim.Native.Nat.{_*_, _≤_};
 ghost use lib.ListN.{length};
-ghost use Rattle.numbers.specs.Sizes.{imageBytes, mostFrameBytes};
-ghost use Rattle.sheet.specs.Reading.{romOf};
+ghost use Rattle.device.specs.Device.{imageSize, frameSize, romOf};
 ghost use Rattle.frame.specs.Frame.{areFrames, framesOf};
 ghost use Rattle.machine.specs.Valid.{Valid};
 ghost use Rattle.run.specs.Run.{runOf};
-ghost use Rattle.run.specs.Answers.{RunOf, runRefused};
+ghost use Rattle.run.specs.Answers.{mostFrames, RunOf, runRefused};
+
+// "A run takes at most 65,536 frames"
+const MOST_FRAMES: usize = 65536;
 
 // Document 01's number, a refusal's or a stop's or 0; the steps completed, the cycles spent and the record.
 pub struct Ran {
@@ -43,8 +45,8 @@ fn run_refused(number: u8, m: Machine) -> Ran
 
 // The steps of all frames, or of those up to a stop.
 fn run_frames(image: &[u8], options: Options, m: Machine, frames: &[u8]) -> Ran
-    requires { ⌜ (Valid m) × (length (now image) ≡ imageBytes) × (length (now frames) ≤ mostFrameBytes) × (areFrames (now frames) ≡ true) ⌝ }
-    ensures { λ r. ⌜ r ≡ runOf (romOf (now (image .entry))) options m (framesOf (now (frames .entry))) ⌝ }
+    requires { ⌜ (Valid (options .device) m) × (length (now image) ≡ imageSize (options .device)) × (length (now frames) ≤ mostFrames * frameSize (options .device)) × (areFrames (options .device) (now frames) ≡ true) ⌝ }
+    ensures { λ r. ⌜ r ≡ runOf (romOf (now (image .entry))) options m (framesOf (options .device) (now (frames .entry))) ⌝ }
 {
     let mut core = m.core;
     let mut ram = m.ram;
@@ -52,7 +54,8 @@ fn run_frames(image: &[u8], options: Options, m: Machine, frames: &[u8]) -> Ran
     let mut steps: u32 = 0;
     let mut cycles: u32 = 0;
     while at < frames.len() {
-        let pins = pins_at(frames, at);
+        let d = options.device;
+        let pins = pins_at(d, frames, at);
         let x = advance(image, options, core, &mut ram, pins);
         core = x.core;
         if x.stop != 0 {
@@ -68,7 +71,7 @@ fn run_frames(image: &[u8], options: Options, m: Machine, frames: &[u8]) -> Ran
         }
         cycles += x.cycles as u32;
         steps += 1;
-        at += 3;
+        at += frame_size(d);
     }
     Ran {
         number: 0,
@@ -85,16 +88,17 @@ fn run_frames(image: &[u8], options: Options, m: Machine, frames: &[u8]) -> Ran
 pub fn run(image: &[u8], options: Options, m: Machine, frames: &[u8]) -> Ran
     ensures { λ r. ⌜ RunOf (now (image .entry)) options m (now (frames .entry)) r ⌝ }
 {
-    if image.len() != IMAGE_BYTES {
-        return run_refused(IMAGE_IS_NOT_8192_BYTES, m);
+    let d = options.device;
+    if image.len() != image_size(d) {
+        return run_refused(IMAGE_OF_ANOTHER_SIZE, m);
     }
-    if !is_valid(m) {
+    if !is_valid(d, m) {
         return run_refused(RECORD_OUTSIDE_THE_RANGES, m);
     }
-    if MOST_FRAME_BYTES < frames.len() {
+    if MOST_FRAMES * frame_size(d) < frames.len() {
         return run_refused(MORE_THAN_65536_FRAMES, m);
     }
-    if !are_frames(frames) {
+    if !are_frames(d, frames) {
         return run_refused(NO_FRAME, m);
     }
     run_frames(image, options, m, frames)

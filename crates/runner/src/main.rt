@@ -1,5 +1,11 @@
-// runner IMAGE: the listing of an image for the script on standard input.
-// All that it has to say is written before it reads on, so that a person at a terminal sees each answer. The script is read in parts; of a line that is not whole yet at most three characters are kept.
+// runner [--device NAME] IMAGE: the listing of an image for the script on standard input.
+// All that it has to say is written before it reads on, so that a person at a terminal sees each answer. The script is read in parts; of a line that is not whole yet at most as many characters are kept as a frame has.
+use device::Device;
+use device::frame_size;
+use device::image_size;
+use device_words::Choice;
+use device_words::Chosen;
+use image_file::chosen_device;
 use image_file::read_image;
 use libc::STDERR_FILENO;
 use libc::STDIN_FILENO;
@@ -9,14 +15,13 @@ use listing::tell;
 use machine::Core;
 use machine::Ram;
 use machine_start::fresh;
-use numbers::IMAGE_BYTES;
 use text_runner::header;
 use text_runner::refused;
 ghost use mathlib.Core.Path.{_≡_};
 ghost use mathlib.Core.Bool.{true, false};
 ghost use Prim.Native.Nat.{_+_, _≤_};
 ghost use lib.ListN.{length};
-ghost use Rattle.numbers.specs.Sizes.{imageBytes};
+ghost use Rattle.device.specs.Device.{imageSize};
 ghost use Rattle.machine.specs.Valid.{ValidCore, Nibbles};
 
 // After a turn: the record but for RAM, and which part of the buffer is still to be told.
@@ -28,7 +33,10 @@ struct Rest {
 }
 
 fn usage() {
-    io::write_all(STDERR_FILENO, b"usage: runner IMAGE < SCRIPT\n");
+    io::write_all(
+        STDERR_FILENO,
+        b"usage: runner [--device NAME] IMAGE < SCRIPT\n",
+    );
 }
 
 // The first n characters.
@@ -66,13 +74,13 @@ fn read_behind(part: &mut [u8], kept: usize) -> usize
 }
 
 // What no LF ends: the last line, if there is one, or the beginning of a line that is too long.
-fn tell_last(image: &[u8], m: Core, ram: &mut Ram, line: &[u8], out: &mut [u8])
-    requires { ⌜ (length (now image) ≡ imageBytes) × (ValidCore m) × (Nibbles (now ram)) × (26 ≤ length (now out)) ⌝ }
+fn tell_last(d: Device, image: &[u8], m: Core, ram: &mut Ram, line: &[u8], out: &mut [u8])
+    requires { ⌜ (length (now image) ≡ imageSize d) × (ValidCore d m) × (Nibbles (now ram)) × (26 ≤ length (now out)) ⌝ }
 {
     if line.len() == 0 {
         return;
     }
-    let told = tell(image, m, ram, line, out, 0);
+    let told = tell(d, image, m, ram, line, out, 0);
     show(out, told.at);
 }
 
@@ -88,8 +96,9 @@ fn over(m: Core) -> Rest
     }
 }
 
-// No whole line is left: the rest of the part goes to its front, and more is read behind it. A frame has three characters, so a longer line is bad however it goes on.
+// No whole line is left: the rest of the part goes to its front, and more is read behind it. A line that is longer than a frame is bad however it goes on.
 fn more(
+    d: Device,
     image: &[u8],
     m: Core,
     ram: &mut Ram,
@@ -98,18 +107,18 @@ fn more(
     to: usize,
     out: &mut [u8],
 ) -> Rest
-    requires { ⌜ (length (now image) ≡ imageBytes) × (ValidCore m) × (Nibbles (now ram)) × (from ≤ to) × (to ≤ length (now part)) × (26 ≤ length (now out)) ⌝ }
-    ensures { λ r. ⌜ (r .ended ≡ false → (ValidCore (r .core)) × (Nibbles (now (ram .exit)))) × (r .from ≤ r .to) × (r .to ≤ length (now (part .entry))) ⌝ }
+    requires { ⌜ (length (now image) ≡ imageSize d) × (ValidCore d m) × (Nibbles (now ram)) × (from ≤ to) × (to ≤ length (now part)) × (26 ≤ length (now out)) ⌝ }
+    ensures { λ r. ⌜ (r .ended ≡ false → (ValidCore d (r .core)) × (Nibbles (now (ram .exit)))) × (r .from ≤ r .to) × (r .to ≤ length (now (part .entry))) ⌝ }
 {
     let kept = to - from;
-    if kept > 3 {
-        tell_last(image, m, ram, &part[from..to], out);
+    if kept > frame_size(d) {
+        tell_last(d, image, m, ram, &part[from..to], out);
         return over(m);
     }
     to_front(part, from, kept);
     let n = read_behind(part, kept);
     if n == 0 {
-        tell_last(image, m, ram, &part[..kept], out);
+        tell_last(d, image, m, ram, &part[..kept], out);
         return over(m);
     }
     Rest {
@@ -122,6 +131,7 @@ fn more(
 
 // The whole lines that are there and find room in the output; where there is none, more of the script.
 fn turn(
+    d: Device,
     image: &[u8],
     m: Core,
     ram: &mut Ram,
@@ -130,10 +140,10 @@ fn turn(
     to: usize,
     out: &mut [u8],
 ) -> Rest
-    requires { ⌜ (length (now image) ≡ imageBytes) × (ValidCore m) × (Nibbles (now ram)) × (from ≤ to) × (to ≤ length (now part)) × (26 ≤ length (now out)) ⌝ }
-    ensures { λ r. ⌜ (r .ended ≡ false → (ValidCore (r .core)) × (Nibbles (now (ram .exit)))) × (r .from ≤ r .to) × (r .to ≤ length (now (part .entry))) ⌝ }
+    requires { ⌜ (length (now image) ≡ imageSize d) × (ValidCore d m) × (Nibbles (now ram)) × (from ≤ to) × (to ≤ length (now part)) × (26 ≤ length (now out)) ⌝ }
+    ensures { λ r. ⌜ (r .ended ≡ false → (ValidCore d (r .core)) × (Nibbles (now (ram .exit)))) × (r .from ≤ r .to) × (r .to ≤ length (now (part .entry))) ⌝ }
 {
-    let fed = feed(image, m, ram, &part[from..to], out, 0);
+    let fed = feed(d, image, m, ram, &part[from..to], out, 0);
     show(out, fed.at);
     let core = fed.core;
     let next = from + fed.used;
@@ -146,7 +156,7 @@ fn turn(
         };
     }
     if next == from {
-        return more(image, core, ram, part, from, to, out);
+        return more(d, image, core, ram, part, from, to, out);
     }
     Rest {
         core: core,
@@ -157,15 +167,15 @@ fn turn(
 }
 
 // A proved loop has to end, and nothing says that a script does: no run uses up the turns.
-fn session(image: &[u8], m: Core, ram: &mut Ram, part: &mut [u8], out: &mut [u8])
-    requires { ⌜ (length (now image) ≡ imageBytes) × (ValidCore m) × (Nibbles (now ram)) × (26 ≤ length (now out)) ⌝ }
+fn session(d: Device, image: &[u8], m: Core, ram: &mut Ram, part: &mut [u8], out: &mut [u8])
+    requires { ⌜ (length (now image) ≡ imageSize d) × (ValidCore d m) × (Nibbles (now ram)) × (26 ≤ length (now out)) ⌝ }
 {
     let mut core = m;
     let mut from = 0;
     let mut to = 0;
     let mut turns = u64::MAX;
     while turns > 0 {
-        let rest = turn(image, core, ram, part, from, to, out);
+        let rest = turn(d, image, core, ram, part, from, to, out);
         if rest.ended {
             return;
         }
@@ -176,35 +186,46 @@ fn session(image: &[u8], m: Core, ram: &mut Ram, part: &mut [u8], out: &mut [u8]
     }
 }
 
-fn run(image: &[u8])
-    requires { ⌜ length (now image) ≡ imageBytes ⌝ }
+fn run(d: Device, image: &[u8])
+    requires { ⌜ length (now image) ≡ imageSize d ⌝ }
 {
     let mut part = io::large_buffer();
     let mut out = io::large_buffer();
     let n = header(&mut out, 0);
     show(&out, n);
-    let m = fresh();
+    let m = fresh(d);
     let core = m.core;
     let mut ram = m.ram;
-    session(image, core, &mut ram, &mut part, &mut out);
+    session(d, image, core, &mut ram, &mut part, &mut out);
 }
 
-fn main() {
-    let mut image = [0u8; IMAGE_BYTES + 1];
-    let file = read_image(1, &mut image);
+// The buffer has a byte more than the largest image, so that a file that is too long shows.
+fn run_chosen(c: Chosen) {
+    let d = c.device;
+    let word = c.before as usize + 1;
+    let mut image = [0u8; 16385];
+    let file = read_image(word, &mut image);
     if !file.readable {
         refuse_image();
         usage();
         return;
     }
     let size = file.size;
-    if size != IMAGE_BYTES {
+    if size != image_size(d) {
         refuse_image();
         return;
     }
-    if 2 < os::arg_count() {
+    if word + 1 < os::arg_count() {
         usage();
         return;
     }
-    run(&image[..size]);
+    run(d, &image[..size]);
+}
+
+fn main() {
+    let Choice::Made(c) = chosen_device() else {
+        usage();
+        return;
+    };
+    run_chosen(c);
 }

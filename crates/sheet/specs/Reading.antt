@@ -3,7 +3,7 @@ use Prim.Native.Nat.{ℕ, zero, suc, _+_, _-_, _%_}
 use mathlib.Core.List.{List, [], _∷_}
 use mathlib.Core.Bool.{Bool, true, false}
 use lib.Dec.{eqb, ltb}
-use lib.ListN.{getD, take}
+use lib.ListN.{take}
 use Rattle.numbers.specs.Sizes.{addresses}
 use Rattle.laws.specs.Choice.{pick, both, either}
 use Rattle.sheet.specs.Code.{Group, hasDigit, fits, fixedBits, absent, valueOf, operandFrom, digits}
@@ -106,9 +106,6 @@ readAt rom at = readLeft (left rom at)
 -- PC wraps at 8192: "a one-byte instruction at the last address still moves PC to 0"
 abbrev pub wrapped : ℕ → ℕ → ℕ
 wrapped at n = (at + n) % addresses
-
-abbrev pub romOf : List ℕ → ℕ → ℕ
-romOf image at = getD image at 0
 
 -- columns of a row
 abbrev pub bytesOf : ℕ → ℕ

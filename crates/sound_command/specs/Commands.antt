@@ -6,15 +6,10 @@ use mathlib.Core.List.{List, [], _∷_}
 use lib.Dec.{eqb, leb}
 use Rattle.laws.specs.Choice.{pick, both, either}
 use Rattle.text_digits.specs.Digits.{characters}
+use Rattle.text_words.specs.Same.{sameText}
 use Rattle.text_words.specs.Words.{isNumber, wordValue}
 use Rattle.sound_command.specs.declared.Command.{Command}
 use Rattle.sound_command.specs.declared.Command.the-variants.{P30, P24, P23, Sleep, Wake, Reset, Advance, Nothing}
-
-abbrev pub sameText : List ℕ → List ℕ → Bool
-sameText [] [] = true
-sameText [] (d ∷ ds) = false
-sameText (c ∷ cs) [] = false
-sameText (c ∷ cs) (d ∷ ds) = both (eqb c d) (sameText cs ds)
 
 -- a line's word is what stands before its first blank, its number what stands after it
 abbrev pub isBlank : ℕ → Bool

@@ -8,8 +8,8 @@ use lib.Dec.{T}
 use lib.ListN.{length}
 use Rattle.laws.specs.Choice.{pick}
 use Rattle.laws.proofs.Computed.{true→T}
-use Rattle.sheet.specs.Reading.{romOf}
-use Rattle.frame.specs.Frame.{em73862Digits, isFrame, frameOf, pinsOf, PinsInRange}
+use Rattle.device.specs.Device.{imageSize, digitsOf, romOf}
+use Rattle.frame.specs.Frame.{isFrame, frameOf, pinsOf, PinsInRange}
 use Rattle.frame.specs.declared.Pins.{Pins}
 use Rattle.frame.specs.declared.Frame.{Frame}
 use Rattle.frame.proofs.Characters.{in-range}
@@ -20,7 +20,8 @@ use Rattle.machine.specs.With.{assembled}
 use Rattle.step.specs.Step.{stepOf}
 use Rattle.step.specs.Answers.{stepRefused, stepped, StepOf}
 use Rattle.row.specs.Turns.{Gives}
-use Rattle.step.specs.declared.Options.{Options}
+use Rattle.device.specs.declared.Device.{Device}
+use Rattle.device.specs.declared.Options.{Options}
 use Rattle.row.specs.declared.Turn.{Turn}
 use Rattle.step.specs.declared.Stepped.{Stepped}
 
@@ -48,25 +49,25 @@ not-both {p = p} e n = true→T (ap isSeen (sym (sym e ∙ n)))
 pub same-pins : {f : Frame} {p q : Pins} → f ≡ Frame.Seen p → f ≡ Frame.Seen q → p ≡ q
 same-pins {p = p} e n = ap (shownBy p) (sym e ∙ n)
 
-range-of : (cs : List ℕ) (p : Pins) (t : Bool) → isFrame em73862Digits cs ≡ t → pick t (Frame.Seen (pinsOf cs)) Frame.NoFrame ≡ Frame.Seen p → PinsInRange p
-range-of cs p true t e = subst PinsInRange (same-pins refl e) (in-range cs t)
-range-of cs p false t e = absurd (not-both e refl)
+range-of : (d : Device) (cs : List ℕ) (p : Pins) (t : Bool) → isFrame (digitsOf d) cs ≡ t → pick t (Frame.Seen (pinsOf cs)) Frame.NoFrame ≡ Frame.Seen p → PinsInRange d p
+range-of d cs p true t e = subst (PinsInRange d) (same-pins refl e) (in-range d cs t)
+range-of d cs p false t e = absurd (not-both e refl)
 
-pub seen-in-range : (cs : List ℕ) (p : Pins) → frameOf cs ≡ Frame.Seen p → PinsInRange p
+pub seen-in-range : (d : Device) (cs : List ℕ) (p : Pins) → frameOf d cs ≡ Frame.Seen p → PinsInRange d p
 unfolding frameOf
-seen-in-range cs p e = range-of cs p (isFrame em73862Digits cs) refl e
+seen-in-range d cs p e = range-of d cs p (isFrame (digitsOf d) cs) refl e
 
 module _ (image : List ℕ) (o : Options) (m : Machine) (frame : List ℕ) (r : Stepped) where
-  pub step-refused-1 : (length image ≡ 8192 → ⊥) → r ≡ stepRefused 1 m → StepOf image o m frame r
+  pub step-refused-1 : (length image ≡ imageSize (o .device) → ⊥) → r ≡ stepRefused 1 m → StepOf image o m frame r
   step-refused-1 n e = record { refused-1 = λ _. e; refused-2 = λ s. absurd (n s); refused-3 = λ s. absurd (n s); steps = λ s. absurd (n s) }
 
-  pub step-refused-2 : length image ≡ 8192 → (Valid m → ⊥) → r ≡ stepRefused 2 m → StepOf image o m frame r
+  pub step-refused-2 : length image ≡ imageSize (o .device) → (Valid (o .device) m → ⊥) → r ≡ stepRefused 2 m → StepOf image o m frame r
   step-refused-2 s n e = record { refused-1 = λ q. absurd (q s); refused-2 = λ _ _. e; refused-3 = λ _ v. absurd (n v); steps = λ _ v. absurd (n v) }
 
-  pub step-refused-3 : length image ≡ 8192 → Valid m → frameOf frame ≡ Frame.NoFrame → r ≡ stepRefused 3 m → StepOf image o m frame r
+  pub step-refused-3 : length image ≡ imageSize (o .device) → Valid (o .device) m → frameOf (o .device) frame ≡ Frame.NoFrame → r ≡ stepRefused 3 m → StepOf image o m frame r
   step-refused-3 s v n e = record { refused-1 = λ q. absurd (q s); refused-2 = λ _ q. absurd (q v); refused-3 = λ _ _ _. e; steps = λ _ _ p q. absurd (not-both q n) }
 
-pub step-made : (image : List ℕ) (o : Options) (m : Machine) (frame : List ℕ) (pins : Pins) (k : List ℕ) (x : Turn) → length image ≡ 8192 → Valid m → frameOf frame ≡ Frame.Seen pins → Gives (stepOf (romOf image) o m pins) k x → StepOf image o m frame (record { number = x .stop; cycles = x .cycles; machine = assembled (x .core) k })
+pub step-made : (image : List ℕ) (o : Options) (m : Machine) (frame : List ℕ) (pins : Pins) (k : List ℕ) (x : Turn) → length image ≡ imageSize (o .device) → Valid (o .device) m → frameOf (o .device) frame ≡ Frame.Seen pins → Gives (stepOf (romOf image) o m pins) k x → StepOf image o m frame (record { number = x .stop; cycles = x .cycles; machine = assembled (x .core) k })
 step-made image o m frame pins k x s v f g =
     record {
       refused-1 = λ q. absurd (q s);
@@ -76,11 +77,11 @@ step-made image o m frame pins k x s v f g =
     }
 
 -- what is found decides the answer
-answer-by : (image : List ℕ) (o : Options) (m : Machine) (frame : List ℕ) (r s : Stepped) → StepOf image o m frame r → StepOf image o m frame s → Dec (length image ≡ 8192) → Dec (Valid m) → (f : Frame) → frameOf frame ≡ f → r ≡ s
+answer-by : (image : List ℕ) (o : Options) (m : Machine) (frame : List ℕ) (r s : Stepped) → StepOf image o m frame r → StepOf image o m frame s → Dec (length image ≡ imageSize (o .device)) → Dec (Valid (o .device) m) → (f : Frame) → frameOf (o .device) frame ≡ f → r ≡ s
 answer-by image o m frame r s a b (no n) v f e = a .refused-1 n ∙ sym (b .refused-1 n)
 answer-by image o m frame r s a b (yes l) (no n) f e = a .refused-2 l n ∙ sym (b .refused-2 l n)
 answer-by image o m frame r s a b (yes l) (yes v) Frame.NoFrame e = a .refused-3 l v e ∙ sym (b .refused-3 l v e)
 answer-by image o m frame r s a b (yes l) (yes v) (Frame.Seen p) e = a .steps l v p e ∙ sym (b .steps l v p e)
 
 pub one-answer : (image : List ℕ) (o : Options) (m : Machine) (frame : List ℕ) (r s : Stepped) → StepOf image o m frame r → StepOf image o m frame s → r ≡ s
-one-answer image o m frame r s a b = answer-by image o m frame r s a b (ℕ-discrete (length image) 8192) (valid? m) (frameOf frame) refl
+one-answer image o m frame r s a b = answer-by image o m frame r s a b (ℕ-discrete (length image) (imageSize (o .device))) (valid? (o .device) m) (frameOf (o .device) frame) refl

@@ -10,11 +10,11 @@ use Rattle.step_look.specs.Look.{isRunning, waited, looked}
 use Rattle.step_act.specs.Act.{actOf}
 use Rattle.step.specs.Step.{unmarked, stepOf}
 use Rattle.step.specs.Before.{undone, stepBefore, StepAsBefore}
-use Rattle.step.specs.declared.Options.{Options}
+use Rattle.device.specs.declared.Options.{Options}
 use Rattle.step.proofs.Stepping.{sighted, asleep, step-runs, step-waits}
 
-module _ (rom : ℕ → ℕ) (o : Options) (m : Machine) (pins : Pins) (free : m .core .mark ≡ false) where
-  before-runs : isRunning (m .core .mode) ≡ true → stepBefore rom o m pins ≡ undone m (actOf rom (o .sound) (sighted rom o m pins))
+module _ (rom : ℕ → ℕ → ℕ) (o : Options) (m : Machine) (pins : Pins) (free : m .core .mark ≡ false) where
+  before-runs : isRunning (m .core .mode) ≡ true → stepBefore rom o m pins ≡ undone m (actOf rom o (sighted rom o m pins))
   unfolding stepBefore looked
   before-runs t = rw (t, free)
 
@@ -25,8 +25,8 @@ module _ (rom : ℕ → ℕ) (o : Options) (m : Machine) (pins : Pins) (free : m
   as-by : (t : Bool) → isRunning (m .core .mode) ≡ t → stepOf rom o m pins .stop ≡ 0 → stepOf rom o m pins ≡ stepBefore rom o m pins
   as-by true t z =
       let e = step-runs rom o m pins t in
-      let done : undone m (actOf rom (o .sound) (sighted rom o m pins)) ≡ actOf rom (o .sound) (sighted rom o m pins) =
-      rw (eq-eqb (actOf rom (o .sound) (sighted rom o m pins) .stop) 0 (sym (ap (λ (d : Done). d .stop) e) ∙ z)) in
+      let done : undone m (actOf rom o (sighted rom o m pins)) ≡ actOf rom o (sighted rom o m pins) =
+      rw (eq-eqb (actOf rom o (sighted rom o m pins) .stop) 0 (sym (ap (λ (d : Done). d .stop) e) ∙ z)) in
       e ∙ sym (before-runs t ∙ done)
   as-by false t z = step-waits rom o m pins t ∙ sym (before-waits t)
 

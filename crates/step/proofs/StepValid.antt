@@ -17,30 +17,30 @@ use Rattle.step_act.specs.Act.{actOf}
 use Rattle.step_act.proofs.ActValid.{act-valid}
 use Rattle.step_act.proofs.Stops.{act-keeps, act-marked}
 use Rattle.step.specs.Step.{lookStep, unmarked, actStep, stepOf}
-use Rattle.step.specs.declared.Options.{Options}
+use Rattle.device.specs.declared.Options.{Options}
 use Rattle.step.proofs.Stepping.{sighted, look-runs, step-runs, step-waits}
 
-pub look-valid : (o : Options) (m : Machine) (pins : Pins) → Valid m → PinsInRange pins → Valid (lookStep o m pins .machine)
+pub look-valid : (o : Options) (m : Machine) (pins : Pins) → Valid (o .device) m → PinsInRange (o .device) pins → Valid (o .device) (lookStep o m pins .machine)
 unfolding lookStep
-look-valid o m pins h p = record { core = looked-valid (o .wake) (m .core) pins (h .core) p; ram = h .ram }
+look-valid o m pins h p = record { core = looked-valid o (m .core) pins (h .core) p; ram = h .ram }
 
-pub act-step-valid : (rom : ℕ → ℕ) (o : Options) (m : Machine) → Valid m → ((at : ℕ) → rom at < 256) → Valid (actStep rom o m .machine)
+pub act-step-valid : (rom : ℕ → ℕ → ℕ) (o : Options) (m : Machine) → Valid (o .device) m → ((p3 at : ℕ) → rom p3 at < 256) → Valid (o .device) (actStep rom o m .machine)
 unfolding actStep
 act-step-valid rom o m h bytes =
     let runs = isRunning (m .core .mode) in
     let free = not (m .core .mark) in
-    picked-by (λ (d : Done). Valid (d .machine)) (both runs free) (actOf rom (o .sound) m) (spent 0 (unmarked m))
-    (λ t. act-valid rom (o .sound) m h (running-is (m .core .mode) (T→true runs (both-left runs free t))) bytes) (record { core = with-mark (h .core); ram = h .ram })
+    picked-by (λ (x : Done). Valid (o .device) (x .machine)) (both runs free) (actOf rom o m) (spent 0 (unmarked m))
+    (λ t. act-valid rom o m h (running-is (m .core .mode) (T→true runs (both-left runs free t))) bytes) (record { core = with-mark (h .core); ram = h .ram })
 
-module _ (rom : ℕ → ℕ) (o : Options) (m : Machine) (pins : Pins) where
-  pub step-valid : Valid m → PinsInRange pins → ((at : ℕ) → rom at < 256) → Valid (stepOf rom o m pins .machine)
+module _ (rom : ℕ → ℕ → ℕ) (o : Options) (m : Machine) (pins : Pins) where
+  pub step-valid : Valid (o .device) m → PinsInRange (o .device) pins → ((p3 at : ℕ) → rom p3 at < 256) → Valid (o .device) (stepOf rom o m pins .machine)
   unfolding stepOf
   step-valid h p bytes = act-step-valid rom o (lookStep o m pins .machine) (look-valid o m pins h p) bytes
 
   stop-by : (t : Bool) → isRunning (m .core .mode) ≡ t → (stepOf rom o m pins .stop ≡ 0 → ⊥) → stepOf rom o m pins ≡ stops (stepOf rom o m pins .stop) (lookStep o m pins .machine)
   stop-by true t z =
       let e = step-runs rom o m pins t in
-      rw (look-runs rom o m pins t, e) (act-keeps rom (o .sound) (sighted rom o m pins) refl (λ q. z (ap (λ (d : Done). d .stop) e ∙ q)))
+      rw (look-runs rom o m pins t, e) (act-keeps rom o (sighted rom o m pins) refl (λ q. z (ap (λ (d : Done). d .stop) e ∙ q)))
   stop-by false t z = absurd (z (ap (λ (d : Done). d .stop) (step-waits rom o m pins t)))
 
   -- "A stop now leaves the record as the first call left it", and spends nothing
@@ -48,7 +48,7 @@ module _ (rom : ℕ → ℕ) (o : Options) (m : Machine) (pins : Pins) where
   stop-leaves z = stop-by (isRunning (m .core .mode)) refl z
 
   mark-by : (t : Bool) → isRunning (m .core .mode) ≡ t → stepOf rom o m pins .machine .core .mark ≡ false
-  mark-by true t = ap (λ (d : Done). d .machine .core .mark) (step-runs rom o m pins t) ∙ act-marked rom (o .sound) (sighted rom o m pins)
+  mark-by true t = ap (λ (d : Done). d .machine .core .mark) (step-runs rom o m pins t) ∙ act-marked rom o (sighted rom o m pins)
   mark-by false t = ap (λ (d : Done). d .machine .core .mark) (step-waits rom o m pins t)
 
   pub step-unmarked : stepOf rom o m pins .machine .core .mark ≡ false

@@ -3,9 +3,8 @@ use Prim.Native.Nat.{ℕ}
 use mathlib.Core.List.{List}
 use mathlib.Core.Path.{_≡_}
 use lib.ListN.{length}
-use Rattle.numbers.specs.Sizes.{imageBytes}
-use Rattle.numbers.specs.ComesBack.{image-is-not-8192-bytes, record-outside-the-ranges, no-frame}
-use Rattle.sheet.specs.Reading.{romOf}
+use Rattle.numbers.specs.ComesBack.{image-of-another-size, record-outside-the-ranges, no-frame}
+use Rattle.device.specs.Device.{imageSize, romOf}
 use Rattle.frame.specs.Frame.{frameOf}
 use Rattle.frame.specs.declared.Pins.{Pins}
 use Rattle.frame.specs.declared.Frame.{Frame}
@@ -13,7 +12,7 @@ use Rattle.machine.specs.Valid.{Valid}
 use Rattle.machine.specs.declared.Machine.{Machine}
 use Rattle.row.specs.Rows.{Done}
 use Rattle.step.specs.Step.{stepOf}
-use Rattle.step.specs.declared.Options.{Options}
+use Rattle.device.specs.declared.Options.{Options}
 use Rattle.step.specs.declared.Stepped.{Stepped}
 
 -- a refusal gives nothing else: the record is the one that was handed in
@@ -25,7 +24,7 @@ stepped x = record { number = x .stop; cycles = x .cycles; machine = x .machine 
 
 -- "Only inputs a call has can refuse it; the order is the table's". "All are given exactly then."
 pub record StepOf (image : List ℕ) (o : Options) (m : Machine) (frame : List ℕ) (r : Stepped) : Type 0 where
-  pub refused-1 : (length image ≡ imageBytes → ⊥) → r ≡ stepRefused image-is-not-8192-bytes m
-  pub refused-2 : length image ≡ imageBytes → (Valid m → ⊥) → r ≡ stepRefused record-outside-the-ranges m
-  pub refused-3 : length image ≡ imageBytes → Valid m → frameOf frame ≡ Frame.NoFrame → r ≡ stepRefused no-frame m
-  pub steps : length image ≡ imageBytes → Valid m → (pins : Pins) → frameOf frame ≡ Frame.Seen pins → r ≡ stepped (stepOf (romOf image) o m pins)
+  pub refused-1 : (length image ≡ imageSize (o .device) → ⊥) → r ≡ stepRefused image-of-another-size m
+  pub refused-2 : length image ≡ imageSize (o .device) → (Valid (o .device) m → ⊥) → r ≡ stepRefused record-outside-the-ranges m
+  pub refused-3 : length image ≡ imageSize (o .device) → Valid (o .device) m → frameOf (o .device) frame ≡ Frame.NoFrame → r ≡ stepRefused no-frame m
+  pub steps : length image ≡ imageSize (o .device) → Valid (o .device) m → (pins : Pins) → frameOf (o .device) frame ≡ Frame.Seen pins → r ≡ stepped (stepOf (romOf image) o m pins)

@@ -1,4 +1,6 @@
 // One step: for any image, options, record and frame the record, the stop and the cycles that document 01 says, or a refusal by number that changes nothing.
+use device::Options;
+use device::image_size;
 use frame::Frame;
 use frame::Pins;
 use frame::frame_of;
@@ -6,8 +8,7 @@ use machine::Core;
 use machine::Machine;
 use machine::Ram;
 use machine_valid::is_valid;
-use numbers::IMAGE_BYTES;
-use numbers::IMAGE_IS_NOT_8192_BYTES;
+use numbers::IMAGE_OF_ANOTHER_SIZE;
 use numbers::NO_FRAME;
 use numbers::RECORD_OUTSIDE_THE_RANGES;
 use row::Turn;
@@ -17,19 +18,12 @@ use step_look::seen;
 use step_look::waited;
 ghost use mathlib.Core.Path.{_≡_};
 ghost use lib.ListN.{length};
-ghost use Rattle.numbers.specs.Sizes.{imageBytes};
-ghost use Rattle.sheet.specs.Reading.{romOf};
+ghost use Rattle.device.specs.Device.{imageSize, romOf};
 ghost use Rattle.frame.specs.Frame.{PinsInRange};
 ghost use Rattle.machine.specs.Valid.{ValidCore, Nibbles};
 ghost use Rattle.step.specs.Step.{stepOf};
 ghost use Rattle.row.specs.Turns.{Gives};
 ghost use Rattle.step.specs.Answers.{StepOf, stepRefused};
-
-// wake has the enable bits of P0.0 to P0.3 and P8.0 to P8.3, from bit 0 up.
-pub struct Options {
-    pub wake: u8,
-    pub sound: bool,
-}
 
 // Document 01's number, a refusal's or a stop's or 0; the cycles and the record.
 pub struct Stepped {
@@ -40,13 +34,14 @@ pub struct Stepped {
 
 // A step on the RAM that is lent: the record looks at the frame and then, where it ran before, acts.
 pub fn advance(image: &[u8], options: Options, m: Core, ram: &mut Ram, pins: Pins) -> Turn
-    requires { ⌜ (ValidCore m) × (Nibbles (now ram)) × (length (now image) ≡ imageBytes) × (PinsInRange pins) ⌝ }
+    requires { ⌜ (ValidCore (options .device) m) × (Nibbles (now ram)) × (length (now image) ≡ imageSize (options .device)) × (PinsInRange (options .device) pins) ⌝ }
     ensures { λ x. ⌜ Gives (stepOf (romOf (now (image .entry))) options (record { core = m; ram = now (ram .entry) }) pins) (now (ram .exit)) x ⌝ }
 {
     let mode = m.mode;
     if is_running(mode) {
-        let core = seen(m, pins);
-        return act(image, options.sound, core, ram);
+        let d = options.device;
+        let core = seen(d, m, pins);
+        return act(image, options, core, ram);
     }
     let asleep = waited(options.wake, m, pins);
     let mut core = asleep.core;
@@ -72,13 +67,14 @@ pub fn step_refused(number: u8, m: Machine) -> Stepped
 pub fn step(image: &[u8], options: Options, m: Machine, frame: &[u8]) -> Stepped
     ensures { λ r. ⌜ StepOf (now (image .entry)) options m (now (frame .entry)) r ⌝ }
 {
-    if image.len() != IMAGE_BYTES {
-        return step_refused(IMAGE_IS_NOT_8192_BYTES, m);
+    let d = options.device;
+    if image.len() != image_size(d) {
+        return step_refused(IMAGE_OF_ANOTHER_SIZE, m);
     }
-    if !is_valid(m) {
+    if !is_valid(d, m) {
         return step_refused(RECORD_OUTSIDE_THE_RANGES, m);
     }
-    let Frame::Seen(pins) = frame_of(frame) else {
+    let Frame::Seen(pins) = frame_of(d, frame) else {
         return step_refused(NO_FRAME, m);
     };
     let core = m.core;

@@ -1,11 +1,12 @@
 -- Acting makes a valid record of a valid one that runs.
 use mathlib.Core.Path.{_≡_, refl}
-use mathlib.Core.Bool.{Bool}
 use Prim.Native.Nat.{ℕ, _<_}
 use lib.Dec.{ltb, ltb→lt}
 use Rattle.laws.proofs.Computed.{T→true}
 use Rattle.laws.proofs.Choices.{picked-by}
 use Rattle.numbers.specs.ComesBack.{stack-level}
+use Rattle.device.specs.declared.Device.{Device}
+use Rattle.device.specs.declared.Options.{Options}
 use Rattle.sheet.specs.Reading.{readAt}
 use Rattle.sheet.specs.declared.Read.{Read}
 use Rattle.reader.proofs.Rows.{read-in-fields}
@@ -14,7 +15,7 @@ use Rattle.clock.proofs.Ranges.{passed-in-range}
 use Rattle.ports.specs.declared.Mode.{Mode}
 use Rattle.ports.specs.declared.Mode.the-variants.{Running}
 use Rattle.machine.specs.Stack.{canPush, accepted}
-use Rattle.machine.specs.Valid.{ValidCore, Valid}
+use Rattle.machine.specs.Valid.{ValidInterrupts, ValidTimers, ValidCore, Valid}
 use Rattle.machine.specs.declared.Core.{Core}
 use Rattle.machine.specs.declared.Machine.{Machine}
 use Rattle.machine.proofs.Range.{can-push}
@@ -24,55 +25,48 @@ use Rattle.row.proofs.RowsValid.{executed-valid}
 use Rattle.step_look.specs.Look.{timeOf}
 use Rattle.step_look.proofs.LookValid.{with-time-valid}
 use Rattle.step_look.proofs.Ranges.{clear}
-use Rattle.step_act.specs.Act.{sourceOf, acceptOf, runRead, runOne, acceptOrRun, ratesOf, timed, coreIn, coreAfter, actOf}
+use Rattle.step_act.specs.Act.{sourceOf, acceptOf, runRead, shown, runOne, acceptOrRun, ratesOf, timed, coreIn, coreAfter, actOf}
 
-pub time-in-range : (m : Core) → ValidCore m → InRange (timeOf m)
-time-in-range m v =
-    record {
-      base = v .timers .base;
-      eights = v .timers .eights;
-      ta = v .timers .ta;
-      tb = v .timers .tb;
-      il = v .ints .il;
-      il4 = clear (m .ints .il) (v .ints .il4);
-    }
+pub time-in-range : (m : Core) → ValidInterrupts (m .ints) → ValidTimers (m .timers) → InRange (timeOf m)
+time-in-range m i t =
+    record { base = t .base; eights = t .eights; ta = t .ta; tb = t .tb; il = i .il; il4 = clear (m .ints .il) (i .il4) }
 
-timed-valid : (n : ℕ) (m : Core) → ValidCore m → ValidCore (timed n m)
-timed-valid n m v = with-time-valid m _ v (passed-in-range n (ratesOf m) (timeOf m) (time-in-range m v))
+timed-valid : {d : Device} (n : ℕ) (m : Core) → ValidCore d m → ValidCore d (timed n m)
+timed-valid n m v = with-time-valid m _ v (passed-in-range n (ratesOf m) (timeOf m) (time-in-range m (v .ints) (v .timers)))
 
-in-mode-valid : (mode : Mode) (n : ℕ) (m : Core) → ValidCore m → ValidCore (coreIn mode n m)
+in-mode-valid : {d : Device} (mode : Mode) (n : ℕ) (m : Core) → ValidCore d m → ValidCore d (coreIn mode n m)
 in-mode-valid Mode.Running n m v = timed-valid n m v
 in-mode-valid Mode.Sleep n m v = v
 in-mode-valid Mode.Hold n m v = v
 
-pub after-valid : (n : ℕ) (m : Core) → ValidCore m → ValidCore (coreAfter n m)
+pub after-valid : {d : Device} (n : ℕ) (m : Core) → ValidCore d m → ValidCore d (coreAfter n m)
 unfolding coreAfter
 after-valid n m v = in-mode-valid (m .mode) n m v
 
-module _ (rom : ℕ → ℕ) (sound : Bool) (m : Machine) (valid : Valid m) (running : m .core .mode ≡ Running) (bytes : (at : ℕ) → rom at < 256) where
-  accept-valid : (source : ℕ) → source < 6 → Valid (acceptOf m source .machine)
+module _ (rom : ℕ → ℕ → ℕ) (options : Options) (m : Machine) (valid : Valid (options .device) m) (running : m .core .mode ≡ Running) (bytes : (p3 at : ℕ) → rom p3 at < 256) where
+  accept-valid : (source : ℕ) → source < 6 → Valid (options .device) (acceptOf m source .machine)
   unfolding acceptOf
   accept-valid source h =
-      picked-by (λ (d : Done). Valid (d .machine)) (canPush (m .core)) (spent 2 (accepted m source)) (stops stack-level m)
+      picked-by (λ (x : Done). Valid (options .device) (x .machine)) (canPush (m .core)) (spent 2 (accepted m source)) (stops stack-level m)
       (λ q. accepted-valid m source valid (can-push (T→true (canPush (m .core)) q)) h) valid
 
-  read-valid : (r : Read) → readAt rom (m .core .pc) ≡ r → Valid (runRead rom sound m r .machine)
+  read-valid : (r : Read) → readAt (shown rom m) (m .core .pc) ≡ r → Valid (options .device) (runRead (shown rom m) options m r .machine)
   read-valid (Read.Row i) e =
-      let f = read-in-fields rom (m .core .pc) i e bytes in
-      executed-valid (record { rom = rom; sound = sound; insn = i }) m valid running bytes (f .row) (f .a)
+      let f = read-in-fields (shown rom m) (m .core .pc) i e (bytes (m .core .ports .p3)) in
+      executed-valid (record { rom = shown rom m; options = options; insn = i }) m valid running (bytes (m .core .ports .p3)) (f .row) (f .a)
   read-valid Read.Unassigned e = valid
   read-valid Read.PastEnd e = valid
 
-  run-valid : Valid (runOne rom sound m .machine)
+  run-valid : Valid (options .device) (runOne rom options m .machine)
   unfolding runOne
-  run-valid = read-valid (readAt rom (m .core .pc)) refl
+  run-valid = read-valid (readAt (shown rom m) (m .core .pc)) refl
 
-  pub turn-valid : Valid (acceptOrRun rom sound m .machine)
+  pub turn-valid : Valid (options .device) (acceptOrRun rom options m .machine)
   unfolding acceptOrRun
   turn-valid =
-      picked-by (λ (d : Done). Valid (d .machine)) (ltb (sourceOf (m .core)) 6) (acceptOf m (sourceOf (m .core))) (runOne rom sound m)
+      picked-by (λ (x : Done). Valid (options .device) (x .machine)) (ltb (sourceOf (m .core)) 6) (acceptOf m (sourceOf (m .core))) (runOne rom options m)
       (λ q. accept-valid (sourceOf (m .core)) (ltb→lt (sourceOf (m .core)) 6 q)) run-valid
 
-  pub act-valid : Valid (actOf rom sound m .machine)
+  pub act-valid : Valid (options .device) (actOf rom options m .machine)
   unfolding actOf
-  act-valid = record { core = after-valid (acceptOrRun rom sound m .cycles) (acceptOrRun rom sound m .machine .core) (turn-valid .core); ram = turn-valid .ram }
+  act-valid = record { core = after-valid (acceptOrRun rom options m .cycles) (acceptOrRun rom options m .machine .core) (turn-valid .core); ram = turn-valid .ram }

@@ -1,10 +1,12 @@
 -- From what the parts give to what the definitions of a turn say.
 use mathlib.Core.Path.{_≡_, refl, sym, ap, subst, _∙_}
-use mathlib.Core.Bool.{Bool, true, false}
+use mathlib.Core.Bool.{true, false}
 use mathlib.Core.List.{List}
 use Prim.Native.Nat.{ℕ, _<_, _≤_}
 use borrow.Author.Tests.{lt-ltb, le-ltb}
 use Rattle.numbers.specs.ComesBack.{stack-level}
+use Rattle.device.specs.declared.Device.{Device}
+use Rattle.device.specs.declared.Options.{Options}
 use Rattle.sheet.specs.Reading.{readAt}
 use Rattle.sheet.specs.declared.Insn.{Insn}
 use Rattle.sheet.specs.declared.Read.{Read}
@@ -30,30 +32,30 @@ module _ (m : Core) (l : List ℕ) (source : ℕ) where
   unfolding acceptOf
   accepts k x h g = record { same = g .same ∙ rw h }
 
-pub none-read : (rom : ℕ → ℕ) (sound : Bool) (m : Core) (l : List ℕ) (r : Read) → r ≡ readAt rom (m .pc) → NoRow r → Gives (runOne rom sound (assembled m l)) l (stoppedTurn m (stopOf r))
+pub none-read : (rom : ℕ → ℕ → ℕ) (options : Options) (m : Core) (l : List ℕ) (r : Read) → r ≡ readAt (rom (m .ports .p3)) (m .pc) → NoRow r → Gives (runOne rom options (assembled m l)) l (stoppedTurn m (stopOf r))
 unfolding runOne
-none-read rom sound m l r e t = rw (← e) (no-row r (λ (s : Read). Gives (runRead rom sound (assembled m l) s) l (stoppedTurn m (stopOf s))) t (record { same = refl }) (record { same = refl }))
+none-read rom options m l r e t = rw (← e) (no-row r (λ (s : Read). Gives (runRead (rom (m .ports .p3)) options (assembled m l) s) l (stoppedTurn m (stopOf s))) t (record { same = refl }) (record { same = refl }))
 
-module _ (rom : ℕ → ℕ) (sound : Bool) (m : Core) (l k : List ℕ) where
-  pub row-read : (i : Insn) (x : Turn) → readAt rom (m .pc) ≡ Read.Row i → Performs rom sound m i l k x → Gives (runOne rom sound (assembled m l)) k x
+module _ (rom : ℕ → ℕ → ℕ) (options : Options) (m : Core) (l k : List ℕ) where
+  pub row-read : (i : Insn) (x : Turn) → readAt (rom (m .ports .p3)) (m .pc) ≡ Read.Row i → Performs (rom (m .ports .p3)) options m i l k x → Gives (runOne rom options (assembled m l)) k x
   unfolding runOne
   row-read i x e p = record { same = rw e (p .same) }
 
-  pub turn-accepts : (due : ℕ) (x : Turn) → due ≡ sourceOf m → due < 6 → Gives (acceptOf (assembled m l) due) k x → Gives (acceptOrRun rom sound (assembled m l)) k x
+  pub turn-accepts : (due : ℕ) (x : Turn) → due ≡ sourceOf m → due < 6 → Gives (acceptOf (assembled m l) due) k x → Gives (acceptOrRun rom options (assembled m l)) k x
   unfolding acceptOrRun
   turn-accepts due x e h g = record { same = rw (← e, lt-ltb due 6 h) (g .same) }
 
-  pub turn-runs : (due : ℕ) (x : Turn) → due ≡ sourceOf m → 6 ≤ due → Gives (runOne rom sound (assembled m l)) k x → Gives (acceptOrRun rom sound (assembled m l)) k x
+  pub turn-runs : (due : ℕ) (x : Turn) → due ≡ sourceOf m → 6 ≤ due → Gives (runOne rom options (assembled m l)) k x → Gives (acceptOrRun rom options (assembled m l)) k x
   unfolding acceptOrRun
   turn-runs due x e h g = record { same = rw (← e, le-ltb due 6 h) (g .same) }
 
-  pub time-passes : (x : Turn) (after : Core) → Gives (acceptOrRun rom sound (assembled m l)) k x → after ≡ coreAfter (x .cycles) (x .core) → Gives (actOf rom sound (assembled m l)) k (record { stop = x .stop; cycles = x .cycles; core = after })
+  pub time-passes : (x : Turn) (after : Core) → Gives (acceptOrRun rom options (assembled m l)) k x → after ≡ coreAfter (x .cycles) (x .core) → Gives (actOf rom options (assembled m l)) k (record { stop = x .stop; cycles = x .cycles; core = after })
   unfolding actOf
   time-passes x after g e = record { same = rw (← g .same, e) }
 
 -- a valid answer's scalars and RAM are valid
-pub given-valid : (d : Done) (k : List ℕ) (x : Turn) → Gives d k x → Valid (d .machine) → Valid (assembled (x .core) k)
-given-valid d k x g v = subst (λ (d : Done). Valid (d .machine)) (sym (g .same)) v
+pub given-valid : {d : Device} (y : Done) (k : List ℕ) (x : Turn) → Gives y k x → Valid d (y .machine) → Valid d (assembled (x .core) k)
+given-valid {d} y k x g v = subst (λ (y : Done). Valid d (y .machine)) (sym (g .same)) v
 
 pub after-in : (mode : Mode) (n : ℕ) (m : Core) → m .mode ≡ mode → coreIn mode n m ≡ coreAfter n m
 unfolding coreAfter

@@ -1,10 +1,10 @@
 -- Document 01, "One step": what a running record does once it has seen the frame. It accepts an interrupt or executes one row; then time passes.
 use Prim.Native.Nat.{ℕ}
-use mathlib.Core.Bool.{Bool}
 use lib.Dec.{ltb}
 use Rattle.laws.specs.Choice.{pick}
 use Rattle.bits.specs.Bits.{hasBit}
 use Rattle.numbers.specs.ComesBack.{stack-level}
+use Rattle.device.specs.declared.Options.{Options}
 use Rattle.sheet.specs.Reading.{readAt}
 use Rattle.sheet.specs.declared.Read.{Read}
 use Rattle.reader.specs.Answer.{stopOf}
@@ -28,17 +28,21 @@ acceptOf m source =
     pick (canPush (m .core)) (spent 2 (accepted m source)) (stops stack-level m)
 
 -- "Otherwise one instruction runs."; what is no row stops with its number, 30 or 35
-abbrev pub runRead : (ℕ → ℕ) → Bool → Machine → Read → Done
-runRead rom sound m (Read.Row i) = executed (record { rom = rom; sound = sound; insn = i }) m
-runRead rom sound m Read.Unassigned = stops (stopOf Read.Unassigned) m
-runRead rom sound m Read.PastEnd = stops (stopOf Read.PastEnd) m
+abbrev pub runRead : (ℕ → ℕ) → Options → Machine → Read → Done
+runRead rom options m (Read.Row i) = executed (record { rom = rom; options = options; insn = i }) m
+runRead rom options m Read.Unassigned = stops (stopOf Read.Unassigned) m
+runRead rom options m Read.PastEnd = stops (stopOf Read.PastEnd) m
 
-unfoldable pub runOne : (ℕ → ℕ) → Bool → Machine → Done
-runOne rom sound m = runRead rom sound m (readAt rom (m .core .pc))
+-- Q-6: the ROM as the record's P3 shows it
+abbrev pub shown : (ℕ → ℕ → ℕ) → Machine → ℕ → ℕ
+shown rom m = rom (m .core .ports .p3)
+
+unfoldable pub runOne : (ℕ → ℕ → ℕ) → Options → Machine → Done
+runOne rom options m = runRead (shown rom m) options m (readAt (shown rom m) (m .core .pc))
 
 -- "accept the first of INT0, TRGA, TRGB, TBI, INT1 .. Otherwise one instruction runs."
-unfoldable pub acceptOrRun : (ℕ → ℕ) → Bool → Machine → Done
-acceptOrRun rom sound m = pick (ltb (sourceOf (m .core)) 6) (acceptOf m (sourceOf (m .core))) (runOne rom sound m)
+unfoldable pub acceptOrRun : (ℕ → ℕ → ℕ) → Options → Machine → Done
+acceptOrRun rom options m = pick (ltb (sourceOf (m .core)) 6) (acceptOf m (sourceOf (m .core))) (runOne rom options m)
 
 -- "Settings are those left by the instruction", and the pins P8.3 and P8.1 are those of this step's frame
 abbrev pub ratesOf : Core → Rates
@@ -60,5 +64,5 @@ coreAfter n m = coreIn (m .mode) n m
 abbrev pub afterTime : Done → Done
 afterTime x = record { stop = x .stop; cycles = x .cycles; machine = record { core = coreAfter (x .cycles) (x .machine .core); ram = x .machine .ram } }
 
-unfoldable pub actOf : (ℕ → ℕ) → Bool → Machine → Done
-actOf rom sound m = afterTime (acceptOrRun rom sound m)
+unfoldable pub actOf : (ℕ → ℕ → ℕ) → Options → Machine → Done
+actOf rom options m = afterTime (acceptOrRun rom options m)

@@ -1,6 +1,7 @@
 // What a running record does once it has seen the frame: it accepts an interrupt or executes one row, then time passes.
 use clock::Rates;
 use clock::Time;
+use device::Options;
 use due::latch_of;
 use machine::Core;
 use machine::Ram;
@@ -19,16 +20,16 @@ use sheet::Read;
 ghost use mathlib.Core.Path.{_≡_};
 ghost use Prim.Native.Nat.{_<_};
 ghost use lib.ListN.{length};
-ghost use Rattle.numbers.specs.Sizes.{imageBytes};
-ghost use Rattle.sheet.specs.Reading.{romOf};
-ghost use Rattle.machine.specs.Valid.{ValidCore, Nibbles};
+ghost use Rattle.numbers.specs.Sizes.{addresses};
+ghost use Rattle.device.specs.Device.{imageSize, romOf};
+ghost use Rattle.machine.specs.Valid.{ValidInterrupts, ValidTimers, ValidCore, Nibbles};
 ghost use Rattle.step_act.specs.Act.{sourceOf, acceptOf, runOne, acceptOrRun, coreAfter, timed, actOf};
 ghost use Rattle.step_act.specs.Runs.{Runs};
 ghost use Rattle.row.specs.Turns.{Gives};
 
 // "A call or acceptance lowers SP first, so SP must be 1 to 13."
 fn accept(m: Core, ram: &mut Ram, source: u8) -> Turn
-    requires { ⌜ (ValidCore m) × (source < 6) ⌝ }
+    requires { ⌜ (m .pc < addresses) × (source < 6) ⌝ }
     ensures { λ x. ⌜ Gives (acceptOf (record { core = m; ram = now (ram .entry) }) source) (now (ram .exit)) x ⌝ }
 {
     if !can_push(m) {
@@ -38,20 +39,20 @@ fn accept(m: Core, ram: &mut Ram, source: u8) -> Turn
 }
 
 // The row at PC, or the stop of what is no row.
-fn run_one(image: &[u8], sound: bool, m: Core, ram: &mut Ram) -> Turn
-    requires { ⌜ (ValidCore m) × (Nibbles (now ram)) × (length (now image) ≡ imageBytes) ⌝ }
-    ensures { λ x. ⌜ Gives (runOne (romOf (now (image .entry))) sound (record { core = m; ram = now (ram .entry) })) (now (ram .exit)) x ⌝ }
+fn run_one(image: &[u8], options: Options, m: Core, ram: &mut Ram) -> Turn
+    requires { ⌜ (ValidCore (options .device) m) × (Nibbles (now ram)) × (length (now image) ≡ imageSize (options .device)) ⌝ }
+    ensures { λ x. ⌜ Gives (runOne (romOf (now (image .entry))) options (record { core = m; ram = now (ram .entry) })) (now (ram .exit)) x ⌝ }
 {
-    let read = read_at(image, m.pc);
+    let read = read_at(image, m.ports.p3, m.pc);
     let Read::Row(insn) = read else {
         return stopped(m, stop_of(read));
     };
-    perform(image, sound, m, ram, insn)
+    perform(image, options, m, ram, insn)
 }
 
 // The latch of the source that is due, as the record keeps it; 6 where none is or EI is clear.
 fn source(m: Core) -> u8
-    requires { ⌜ ValidCore m ⌝ }
+    requires { ⌜ ValidInterrupts (m .ints) ⌝ }
     ensures { λ r. ⌜ r ≡ sourceOf m ⌝ }
 {
     if m.ints.ei {
@@ -60,20 +61,20 @@ fn source(m: Core) -> u8
     6
 }
 
-fn turn(image: &[u8], sound: bool, m: Core, ram: &mut Ram) -> Turn
-    requires { ⌜ (ValidCore m) × (Nibbles (now ram)) × (length (now image) ≡ imageBytes) ⌝ }
-    ensures { λ x. ⌜ Gives (acceptOrRun (romOf (now (image .entry))) sound (record { core = m; ram = now (ram .entry) })) (now (ram .exit)) x ⌝ }
+fn turn(image: &[u8], options: Options, m: Core, ram: &mut Ram) -> Turn
+    requires { ⌜ (ValidCore (options .device) m) × (Nibbles (now ram)) × (length (now image) ≡ imageSize (options .device)) ⌝ }
+    ensures { λ x. ⌜ Gives (acceptOrRun (romOf (now (image .entry))) options (record { core = m; ram = now (ram .entry) })) (now (ram .exit)) x ⌝ }
 {
     let due = source(m);
     if due < 6 {
         return accept(m, ram, due);
     }
-    run_one(image, sound, m, ram)
+    run_one(image, options, m, ram)
 }
 
 // Time for so many cycles, with the settings that the scalars have.
 fn pass(m: Core, n: u16) -> Core
-    requires { ⌜ ValidCore m ⌝ }
+    requires { ⌜ (ValidInterrupts (m .ints)) × (ValidTimers (m .timers)) × (m .ports .p25 < 16) ⌝ }
     ensures { λ r. ⌜ r ≡ timed n m ⌝ }
 {
     let t = Time {
@@ -100,7 +101,7 @@ fn pass(m: Core, n: u16) -> Core
 }
 
 fn after(m: Core, n: u16) -> Core
-    requires { ⌜ ValidCore m ⌝ }
+    requires { ⌜ (ValidInterrupts (m .ints)) × (ValidTimers (m .timers)) × (m .ports .p25 < 16) ⌝ }
     ensures { λ r. ⌜ r ≡ coreAfter n m ⌝ }
 {
     let mode = m.mode;
@@ -112,11 +113,11 @@ fn after(m: Core, n: u16) -> Core
 }
 
 // A running record acts.
-pub fn act(image: &[u8], sound: bool, m: Core, ram: &mut Ram) -> Turn
-    requires { ⌜ (Runs m) × (Nibbles (now ram)) × (length (now image) ≡ imageBytes) ⌝ }
-    ensures { λ x. ⌜ Gives (actOf (romOf (now (image .entry))) sound (record { core = m; ram = now (ram .entry) })) (now (ram .exit)) x ⌝ }
+pub fn act(image: &[u8], options: Options, m: Core, ram: &mut Ram) -> Turn
+    requires { ⌜ (Runs (options .device) m) × (Nibbles (now ram)) × (length (now image) ≡ imageSize (options .device)) ⌝ }
+    ensures { λ x. ⌜ Gives (actOf (romOf (now (image .entry))) options (record { core = m; ram = now (ram .entry) })) (now (ram .exit)) x ⌝ }
 {
-    let x = turn(image, sound, m, ram);
+    let x = turn(image, options, m, ram);
     let core = after(x.core, x.cycles);
     Turn {
         stop: x.stop,

@@ -3,9 +3,8 @@ use Prim.Native.Nat.{ℕ, _+_}
 use mathlib.Core.List.{List}
 use mathlib.Core.Path.{_≡_}
 use lib.ListN.{length}
-use Rattle.numbers.specs.Sizes.{imageBytes}
-use Rattle.numbers.specs.ComesBack.{image-is-not-8192-bytes, record-outside-the-ranges, no-frame}
-use Rattle.sheet.specs.Reading.{romOf}
+use Rattle.numbers.specs.ComesBack.{image-of-another-size, record-outside-the-ranges, no-frame}
+use Rattle.device.specs.Device.{imageSize, romOf}
 use Rattle.frame.specs.Frame.{frameOf}
 use Rattle.frame.specs.declared.Pins.{Pins}
 use Rattle.frame.specs.declared.Frame.{Frame}
@@ -13,20 +12,20 @@ use Rattle.machine.specs.Valid.{Valid}
 use Rattle.machine.specs.declared.Machine.{Machine}
 use Rattle.step.specs.Step.{lookStep, actStep}
 use Rattle.step.specs.Answers.{stepRefused, stepped, StepOf}
-use Rattle.step.specs.declared.Options.{Options}
+use Rattle.device.specs.declared.Options.{Options}
 use Rattle.step.specs.declared.Stepped.{Stepped}
 
 -- "one call takes the frame": its inputs are options, record and frame
 pub record LookOf (o : Options) (m : Machine) (frame : List ℕ) (r : Stepped) : Type 0 where
-  pub refused-2 : (Valid m → ⊥) → r ≡ stepRefused record-outside-the-ranges m
-  pub refused-3 : Valid m → frameOf frame ≡ Frame.NoFrame → r ≡ stepRefused no-frame m
-  pub looks : Valid m → (pins : Pins) → frameOf frame ≡ Frame.Seen pins → r ≡ stepped (lookStep o m pins)
+  pub refused-2 : (Valid (o .device) m → ⊥) → r ≡ stepRefused record-outside-the-ranges m
+  pub refused-3 : Valid (o .device) m → frameOf (o .device) frame ≡ Frame.NoFrame → r ≡ stepRefused no-frame m
+  pub looks : Valid (o .device) m → (pins : Pins) → frameOf (o .device) frame ≡ Frame.Seen pins → r ≡ stepped (lookStep o m pins)
 
 -- "a second accepts or executes and passes time": its inputs are image, options and record
 pub record ActOf (image : List ℕ) (o : Options) (m : Machine) (r : Stepped) : Type 0 where
-  pub refused-1 : (length image ≡ imageBytes → ⊥) → r ≡ stepRefused image-is-not-8192-bytes m
-  pub refused-2 : length image ≡ imageBytes → (Valid m → ⊥) → r ≡ stepRefused record-outside-the-ranges m
-  pub acts : length image ≡ imageBytes → Valid m → r ≡ stepped (actStep (romOf image) o m)
+  pub refused-1 : (length image ≡ imageSize (o .device) → ⊥) → r ≡ stepRefused image-of-another-size m
+  pub refused-2 : length image ≡ imageSize (o .device) → (Valid (o .device) m → ⊥) → r ≡ stepRefused record-outside-the-ranges m
+  pub acts : length image ≡ imageSize (o .device) → Valid (o .device) m → r ≡ stepped (actStep (romOf image) o m)
 
 -- what the second call gives, with the cycles of the first
 abbrev pub inTurn : Stepped → Stepped → Stepped
@@ -36,6 +35,6 @@ inTurn first second = record { number = second .number; cycles = first .cycles +
 abbrev pub StepIsBoth : Type 0
 StepIsBoth =
     (image : List ℕ) (o : Options) (m : Machine) (frame : List ℕ) (pins : Pins) (first second : Stepped)
-    → length image ≡ imageBytes → Valid m → frameOf frame ≡ Frame.Seen pins
+    → length image ≡ imageSize (o .device) → Valid (o .device) m → frameOf (o .device) frame ≡ Frame.Seen pins
     → LookOf o m frame first → ActOf image o (first .machine) second
     → StepOf image o m frame (inTurn first second)

@@ -1,24 +1,23 @@
 // A step as two calls, looking and doing apart: for any input the record, the stop and the cycles that request Q-4 says, or a refusal by number that changes nothing.
+use device::Options;
+use device::image_size;
 use frame::Frame;
 use frame::frame_of;
 use machine::Core;
 use machine::Machine;
 use machine::Ram;
 use machine_valid::is_valid;
-use numbers::IMAGE_BYTES;
-use numbers::IMAGE_IS_NOT_8192_BYTES;
+use numbers::IMAGE_OF_ANOTHER_SIZE;
 use numbers::NO_FRAME;
 use numbers::RECORD_OUTSIDE_THE_RANGES;
 use row::Turn;
-use step::Options;
 use step::Stepped;
 use step::step_refused;
 use step_look::is_running;
 ghost use mathlib.Core.Path.{_≡_};
 ghost use mathlib.Core.Bool.{false};
 ghost use lib.ListN.{length};
-ghost use Rattle.numbers.specs.Sizes.{imageBytes};
-ghost use Rattle.sheet.specs.Reading.{romOf};
+ghost use Rattle.device.specs.Device.{imageSize, romOf};
 ghost use Rattle.machine.specs.Valid.{ValidCore, Nibbles};
 ghost use Rattle.machine.specs.With.{coreWithMark};
 ghost use Rattle.row.specs.Turns.{Gives};
@@ -40,7 +39,7 @@ fn done_already(m: Core) -> Turn
 
 // The second call on the RAM that is lent.
 fn act_on(image: &[u8], options: Options, m: Core, ram: &mut Ram) -> Turn
-    requires { ⌜ (ValidCore m) × (Nibbles (now ram)) × (length (now image) ≡ imageBytes) ⌝ }
+    requires { ⌜ (ValidCore (options .device) m) × (Nibbles (now ram)) × (length (now image) ≡ imageSize (options .device)) ⌝ }
     ensures { λ x. ⌜ Gives (actStep (romOf (now (image .entry))) options (record { core = m; ram = now (ram .entry) })) (now (ram .exit)) x ⌝ }
 {
     let mode = m.mode;
@@ -48,7 +47,7 @@ fn act_on(image: &[u8], options: Options, m: Core, ram: &mut Ram) -> Turn
         if m.mark {
             return done_already(m);
         }
-        return step_act::act(image, options.sound, m, ram);
+        return step_act::act(image, options, m, ram);
     }
     done_already(m)
 }
@@ -57,15 +56,16 @@ fn act_on(image: &[u8], options: Options, m: Core, ram: &mut Ram) -> Turn
 pub fn look(options: Options, m: Machine, frame: &[u8]) -> Stepped
     ensures { λ r. ⌜ LookOf options m (now (frame .entry)) r ⌝ }
 {
-    if !is_valid(m) {
+    let d = options.device;
+    if !is_valid(d, m) {
         return step_refused(RECORD_OUTSIDE_THE_RANGES, m);
     }
-    let Frame::Seen(pins) = frame_of(frame) else {
+    let Frame::Seen(pins) = frame_of(d, frame) else {
         return step_refused(NO_FRAME, m);
     };
     let core = m.core;
     let ram = m.ram;
-    let l = step_look::look(options.wake, core, pins);
+    let l = step_look::look(options, core, pins);
     let after = l.core;
     Stepped {
         number: 0,
@@ -81,10 +81,11 @@ pub fn look(options: Options, m: Machine, frame: &[u8]) -> Stepped
 pub fn act(image: &[u8], options: Options, m: Machine) -> Stepped
     ensures { λ r. ⌜ ActOf (now (image .entry)) options m r ⌝ }
 {
-    if image.len() != IMAGE_BYTES {
-        return step_refused(IMAGE_IS_NOT_8192_BYTES, m);
+    let d = options.device;
+    if image.len() != image_size(d) {
+        return step_refused(IMAGE_OF_ANOTHER_SIZE, m);
     }
-    if !is_valid(m) {
+    if !is_valid(d, m) {
         return step_refused(RECORD_OUTSIDE_THE_RANGES, m);
     }
     let core = m.core;

@@ -1,24 +1,35 @@
 -- What a look sees where P8 is as it was, and the waking times as a table.
-use mathlib.Core.Path.{_≡_, _∙_}
+use mathlib.Core.Path.{_≡_, refl, _∙_}
+use mathlib.Core.Bool.{Bool, true, false}
 use Prim.Native.Nat.{ℕ, _%_}
 use native.Mathlib.Nat.{mod-lt, mod-mod}
 use lib.Dec.{lit<}
 use lib.ListN.{getD}
 use Rattle.laws.proofs.Computed.{listed, listed-at}
+use Rattle.laws.specs.Choice.{pick}
+use Rattle.device.specs.Device.{endsSpeech}
+use Rattle.device.specs.declared.Device.{Device}
 use Rattle.frame.specs.declared.Pins.{Pins}
+use Rattle.edges.specs.Edges.{fell}
 use Rattle.edges.proofs.Still.{no-fall, no-rise}
 use Rattle.clock.proofs.Quiet.{no-event}
 use Rattle.ports.specs.declared.Mode.{Mode}
 use Rattle.machine.specs.declared.Core.{Core}
 use Rattle.step_look.specs.Look.{timeOf, edgesCounted, wakingCycles}
 
--- with no edge nothing is latched or counted
-pub counted-still : (m : Core) (new : Pins) → new .p8 ≡ m .pins .p8 → edgesCounted m new ≡ timeOf m
+-- P8 as it was and a fourth digit of 0 raise nothing
+none-raised : (speech : Bool) (p8 : ℕ) → pick speech false (fell p8 p8 1) ≡ false
+none-raised true p8 = refl
+none-raised false p8 = no-fall p8 1
+
+-- with no edge and no end of speech nothing is latched or counted
+pub counted-still : (d : Device) (m : Core) (new : Pins) → new .p8 ≡ m .pins .p8 → new .speech ≡ 0 → edgesCounted d m new ≡ timeOf m
 unfolding edgesCounted
-counted-still m new e =
+counted-still d m new e f =
     rw (
       e,
-      no-fall (m .pins .p8) 1,
+      f,
+      none-raised (endsSpeech d) (m .pins .p8),
       no-fall (m .pins .p8) 4,
       no-rise (m .pins .p8) 8,
       no-rise (m .pins .p8) 2,

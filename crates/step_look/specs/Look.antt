@@ -2,9 +2,13 @@
 use Prim.Native.Nat.{ℕ, _%_}
 use mathlib.Core.Bool.{Bool, true, false}
 use mathlib.Core.List.{[], _∷_}
+use lib.Dec.{eqb}
 use lib.ListN.{getD}
 use Rattle.laws.specs.Choice.{pick}
 use Rattle.bits.specs.Bits.{hasBit}
+use Rattle.device.specs.Device.{endsSpeech}
+use Rattle.device.specs.declared.Device.{Device}
+use Rattle.device.specs.declared.Options.{Options}
 use Rattle.edges.specs.Edges.{fell, rose, wakes}
 use Rattle.frame.specs.declared.Pins.{Pins}
 use Rattle.clock.specs.Clock.{latched, eventCount}
@@ -26,21 +30,25 @@ withTime m t =
 abbrev pub showing : Core → Mode → Bool → Pins → Core
 showing m mode mark pins = coreWithMark (coreWithMode (coreWithPins m pins) mode) mark
 
--- "A falling edge on P8.2 sets IL5, on P8.0 sets IL0."
-abbrev pub edgesLatched : Pins → Pins → ℕ → ℕ
-edgesLatched last new il = latched (fell (last .p8) (new .p8) 1) 1 (latched (fell (last .p8) (new .p8) 4) 32 il)
+-- "A falling edge .. on P8.0 sets IL0." Q-6: "raised by a fourth frame digit of 1", whatever the last frame had
+abbrev pub raisesIL0 : Device → Pins → Pins → Bool
+raisesIL0 d last new = pick (endsSpeech d) (eqb (new .speech) 1) (fell (last .p8) (new .p8) 1)
 
-abbrev pub edgesTimed : Core → Pins → Time
-edgesTimed m new = record { base = m .timers .base; ta = m .timers .ta; tb = m .timers .tb; il = edgesLatched (m .pins) new (m .ints .il) }
+-- "A falling edge on P8.2 sets IL5"
+abbrev pub edgesLatched : Device → Pins → Pins → ℕ → ℕ
+edgesLatched d last new il = latched (raisesIL0 d last new) 1 (latched (fell (last .p8) (new .p8) 4) 32 il)
+
+abbrev pub edgesTimed : Device → Core → Pins → Time
+edgesTimed d m new = record { base = m .timers .base; ta = m .timers .ta; tb = m .timers .tb; il = edgesLatched d (m .pins) new (m .ints .il) }
 
 -- "A rising edge on P8.3 (P8.1) adds one to TA (TB) in event mode."
-unfoldable pub edgesCounted : Core → Pins → Time
-edgesCounted m new =
-    eventCount (m .ports .p28) (m .ports .p29) (rose (m .pins .p8) (new .p8) 8) (rose (m .pins .p8) (new .p8) 2) (edgesTimed m new)
+unfoldable pub edgesCounted : Device → Core → Pins → Time
+edgesCounted d m new =
+    eventCount (m .ports .p28) (m .ports .p29) (rose (m .pins .p8) (new .p8) 8) (rose (m .pins .p8) (new .p8) 2) (edgesTimed d m new)
 
 -- "a running first call clears it too" (Q-4): the mark
-abbrev pub seen : Core → Pins → Core
-seen m new = showing (withTime m (edgesCounted m new)) (m .mode) false new
+abbrev pub seen : Device → Core → Pins → Core
+seen d m new = showing (withTime m (edgesCounted d m new)) (m .mode) false new
 
 -- "for sleep 32,768, 2,048 or 8,192 (bits 1..0 = 0, 1, 2)", "0 cycles for hold"
 abbrev pub wakingCycles : Mode → ℕ → ℕ
@@ -65,6 +73,6 @@ isRunning Mode.Sleep = false
 isRunning Mode.Hold = false
 
 -- what the look at a frame makes of a record
-unfoldable pub looked : ℕ → Core → Pins → Looked
-looked enabled m new =
-    pick (isRunning (m .mode)) (record { core = seen m new; cycles = 0 }) (waited enabled m new)
+unfoldable pub looked : Options → Core → Pins → Looked
+looked o m new =
+    pick (isRunning (m .mode)) (record { core = seen (o .device) m new; cycles = 0 }) (waited (o .wake) m new)

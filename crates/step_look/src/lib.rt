@@ -2,6 +2,9 @@
 use clock::Time;
 use clock::events;
 use clock::latched;
+use device::Device;
+use device::Options;
+use device::ends_speech;
 use edges::fell;
 use edges::rose;
 use edges::wakes;
@@ -14,7 +17,7 @@ ghost use mathlib.Core.Bool.{true};
 ghost use Prim.Native.Nat.{_<_};
 ghost use Rattle.ports.specs.declared.Mode.{Mode};
 ghost use Rattle.machine.specs.Valid.{ValidInterrupts, ValidTimers};
-ghost use Rattle.step_look.specs.Look.{edgesCounted, isRunning, edgesLatched, edgesTimed, showing, seen, wakingCycles, waited, looked};
+ghost use Rattle.step_look.specs.Look.{edgesCounted, isRunning, raisesIL0, edgesLatched, edgesTimed, showing, seen, wakingCycles, waited, looked};
 
 // The scalars then, and the cycles of a step that only looks.
 pub struct Looked {
@@ -25,37 +28,47 @@ pub struct Looked {
 // "for sleep 32,768, 2,048 or 8,192 (bits 1..0 = 0, 1, 2)": by bits 1..0 of P16, of which sleep never has 3.
 const WAKING: [u16; 4] = [32768, 2048, 8192, 0];
 
-// "A falling edge on P8.2 sets IL5, on P8.0 sets IL0."
-fn edges_latched(last: Pins, new: Pins, il: u8) -> u8
+// What sets IL0: P8.0's falling edge, or the digit that says that speech ends.
+fn raises_il0(d: Device, last: Pins, new: Pins) -> bool
+    ensures { λ r. ⌜ r ≡ raisesIL0 d last new ⌝ }
+{
+    if ends_speech(d) {
+        return new.speech == 1;
+    }
+    fell(last.p8, new.p8, 1)
+}
+
+// "A falling edge on P8.2 sets IL5", and what sets IL0.
+fn edges_latched(d: Device, last: Pins, new: Pins, il: u8) -> u8
     requires { ⌜ il < 64 ⌝ }
-    ensures { λ r. ⌜ r ≡ edgesLatched last new il ⌝ }
+    ensures { λ r. ⌜ r ≡ edgesLatched d last new il ⌝ }
 {
     let by_int0 = latched(fell(last.p8, new.p8, 4), 32, il);
-    latched(fell(last.p8, new.p8, 1), 1, by_int0)
+    latched(raises_il0(d, last, new), 1, by_int0)
 }
 
 // The time base, the timers, and the latches with those that edges set.
-fn edges_timed(m: Core, new: Pins) -> Time
+fn edges_timed(d: Device, m: Core, new: Pins) -> Time
     requires { ⌜ m .ints .il < 64 ⌝ }
-    ensures { λ r. ⌜ r ≡ edgesTimed m new ⌝ }
+    ensures { λ r. ⌜ r ≡ edgesTimed d m new ⌝ }
 {
     Time {
         base: m.timers.base,
         ta: m.timers.ta,
         tb: m.timers.tb,
-        il: edges_latched(m.pins, new, m.ints.il),
+        il: edges_latched(d, m.pins, new, m.ints.il),
     }
 }
 
 // "A rising edge on P8.3 (P8.1) adds one to TA (TB) in event mode."
-fn counted(m: Core, new: Pins) -> Time
+fn counted(d: Device, m: Core, new: Pins) -> Time
     requires { ⌜ (ValidInterrupts (m .ints)) × (ValidTimers (m .timers)) ⌝ }
-    ensures { λ r. ⌜ r ≡ edgesCounted m new ⌝ }
+    ensures { λ r. ⌜ r ≡ edgesCounted d m new ⌝ }
 {
     let rose_a = rose(m.pins.p8, new.p8, 8);
     let rose_b = rose(m.pins.p8, new.p8, 2);
     events(
-        edges_timed(m, new),
+        edges_timed(d, m, new),
         m.ports.p28,
         m.ports.p29,
         rose_a,
@@ -63,18 +76,20 @@ fn counted(m: Core, new: Pins) -> Time
     )
 }
 
-// What a running record sees, and no mark. Most frames leave P8 as it was: no edge then.
-pub fn seen(m: Core, new: Pins) -> Core
+// What a running record sees, and no mark. Most frames end no speech and leave P8 as it was: nothing is latched or counted then.
+pub fn seen(d: Device, m: Core, new: Pins) -> Core
     requires { ⌜ (ValidInterrupts (m .ints)) × (ValidTimers (m .timers)) ⌝ }
-    ensures { λ r. ⌜ r ≡ seen m new ⌝ }
+    ensures { λ r. ⌜ r ≡ seen d m new ⌝ }
 {
-    if new.p8 == m.pins.p8 {
-        let mut still = m;
-        still.pins = new;
-        still.mark = false;
-        return still;
+    if new.speech == 0 {
+        if new.p8 == m.pins.p8 {
+            let mut still = m;
+            still.pins = new;
+            still.mark = false;
+            return still;
+        }
     }
-    let t = counted(m, new);
+    let t = counted(d, m, new);
     let ints = with_latches(m.ints, t.il);
     let mut after = m;
     after.pins = new;
@@ -155,16 +170,17 @@ pub fn is_running(mode: Mode) -> bool
 }
 
 // What the look at a frame makes of any record.
-pub fn look(enabled: u8, m: Core, new: Pins) -> Looked
+pub fn look(options: Options, m: Core, new: Pins) -> Looked
     requires { ⌜ (ValidInterrupts (m .ints)) × (ValidTimers (m .timers)) ⌝ }
-    ensures { λ r. ⌜ r ≡ looked enabled m new ⌝ }
+    ensures { λ r. ⌜ r ≡ looked options m new ⌝ }
 {
     let mode = m.mode;
     if is_running(mode) {
+        let d = options.device;
         return Looked {
-            core: seen(m, new),
+            core: seen(d, m, new),
             cycles: 0,
         };
     }
-    waited(enabled, m, new)
+    waited(options.wake, m, new)
 }

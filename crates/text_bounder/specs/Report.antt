@@ -2,7 +2,7 @@
 use Prim.Native.Nat.{ℕ, _-_}
 use mathlib.Core.List.{List, [], _∷_, _++_}
 use lib.ListN.{length}
-use Rattle.numbers.specs.ComesBack.{image-is-not-8192-bytes, address-over-8191, excluded-instruction-reachable, repetition-reachable, path-buffer-too-short}
+use Rattle.numbers.specs.ComesBack.{image-of-another-size, record-outside-the-ranges, address-over-8191, excluded-instruction-reachable, repetition-reachable, path-buffer-too-short}
 use Rattle.sheet.specs.Reading.{readAt, cyclesOf}
 use Rattle.sheet.specs.declared.Read.{Read}
 use Rattle.text_digits.specs.Digits.{characters, hex, inBase, decimal, blanks}
@@ -16,13 +16,17 @@ refusedText n = characters "refused " ++ inBase 10 2 n
 abbrev pub refusedAt : ℕ → ℕ → List ℕ
 refusedAt n address = refusedText n ++ (characters " " ++ hex 4 address)
 
+abbrev pub refusedBytes : ℕ → ℕ → List ℕ
+refusedBytes n bytes = refusedText n ++ (characters " " ++ decimal bytes)
+
 -- an address in four hexadecimal digits, bytes and cycles in decimal
 abbrev pub summaryOf : Bounded → List ℕ
-summaryOf Bounded.ImageSize = refusedText image-is-not-8192-bytes
+summaryOf Bounded.ImageSize = refusedText image-of-another-size
+summaryOf Bounded.P3Range = refusedText record-outside-the-ranges
 summaryOf Bounded.AddressRange = refusedText address-over-8191
 summaryOf (Bounded.Excluded address) = refusedAt excluded-instruction-reachable address
 summaryOf (Bounded.Repeats address) = refusedAt repetition-reachable address
-summaryOf (Bounded.Short bytes) = refusedText path-buffer-too-short ++ (characters " " ++ decimal bytes)
+summaryOf (Bounded.Short bytes) = refusedBytes path-buffer-too-short bytes
 summaryOf (Bounded.Longest cycles) = characters "N " ++ decimal cycles
 
 -- as the lister's line, then a blank and the total of cycles so far, right-aligned in five characters

@@ -2,7 +2,8 @@
 use mathlib.Core.Path.{_≡_, refl}
 use mathlib.Core.List.{List, [], _∷_}
 use Prim.Native.Nat.{ℕ}
-use Rattle.sheet.specs.Reading.{readBytes, rowNumber, rowWith, beginSome, romOf}
+use Rattle.device.specs.Device.{romOf}
+use Rattle.sheet.specs.Reading.{readBytes, rowNumber, rowWith, beginSome}
 use Rattle.sheet.specs.Table.{lineAt}
 use Rattle.sheet.specs.declared.Read.{Read}
 use Rattle.sheet.specs.declared.Read.the-variants.{Row, Unassigned, PastEnd}
@@ -33,7 +34,7 @@ notation = (refl, refl, refl, refl, refl, refl, refl, refl, refl)
 
 -- the bytes of document 01's worked bound, from 0000h on
 abbrev rom : ℕ → ℕ
-rom = romOf (0x6A ∷ 0x20 ∷ 0x6E ∷ 0x61 ∷ 0x18 ∷ 0xD1 ∷ 0x69 ∷ 0x21 ∷ 0x4D ∷ [])
+rom = romOf (0x6A ∷ 0x20 ∷ 0x6E ∷ 0x61 ∷ 0x18 ∷ 0xD1 ∷ 0x69 ∷ 0x21 ∷ 0x4D ∷ []) 0
 
 two-lines : (lineOf rom 0 ≡ characters "0000  6A 20     LDA 20h          2 2\n")
     × (lineOf rom 2 ≡ characters "0002  6E 61     ANDA #1h         2 2\n")

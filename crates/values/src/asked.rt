@@ -1,6 +1,8 @@
 // The lines that set a value up and run it.
 use crate::bench::Bench;
 use crate::bench::with_machine;
+use device::Device;
+use device::Options;
 use laws::both;
 use machine::Core;
 use machine::Machine;
@@ -8,7 +10,6 @@ use machine::ram::at_x;
 use machine::ram::poke;
 use numbers::ADDRESSES;
 use numbers::IMAGE_BYTES;
-use step::Options;
 use step::step;
 use values_fields::cursor::decimal_at;
 use values_fields::cursor::hexadecimal_at;
@@ -26,7 +27,7 @@ pub fn begin(image: &mut [u8; IMAGE_BYTES], b: Bench) -> Bench {
         image[i] = 0;
     }
     Bench {
-        machine: machine_start::fresh(),
+        machine: machine_start::fresh(Device::Em73862),
         number: 0,
         same: b.same,
     }
@@ -86,10 +87,10 @@ fn list_row(image: &[u8], at: u16, end: u16) -> u16
         return at;
     }
     let mut out = [0u8; 40];
-    let n = text_lister::line::line(&mut out, 0, image, at);
+    let n = text_lister::line::line(&mut out, 0, image, 0, at);
     say(b"  ");
     say(&out[..n]);
-    text_lister::line::after(image, at) % ADDRESSES
+    text_lister::line::after(image, 0, at) % ADDRESSES
 }
 
 // The rows from an address up to another, sixteen at most.
@@ -184,6 +185,7 @@ pub fn with(b: Bench, text: &[u8], from: usize) -> Bench
 // So many steps with one frame; a stop or a refusal is the last.
 fn stepped(image: &[u8], b: Bench, count: u32, frame: &[u8]) -> Bench {
     let options = Options {
+        device: Device::Em73862,
         wake: 255,
         sound: false,
     };

@@ -1,4 +1,5 @@
 // What a value has come to.
+use device::Device;
 use machine::Machine;
 
 // The record, the number that the last step answered, and whether every comparison so far was as written.
@@ -10,7 +11,7 @@ pub struct Bench {
 
 pub fn fresh_bench() -> Bench {
     Bench {
-        machine: machine_start::fresh(),
+        machine: machine_start::fresh(Device::Em73862),
         number: 0,
         same: true,
     }

@@ -2,6 +2,7 @@
 use crate::asked::place_of;
 use crate::bench::Bench;
 use bits::bit_at;
+use device::Device;
 use laws::both;
 use machine::Core;
 use numbers::IMAGE_BYTES;
@@ -139,7 +140,7 @@ pub fn dots(b: Bench, text: &[u8], from: usize) -> Bench
     let listed = next_word(text, at);
     let row = (decimal_at(text, at) % 8) as usize;
     let mut shown = [0u8; 40];
-    display::display(b.machine, &mut shown);
+    display::display(Device::Em73862, b.machine, &mut shown);
     say(b"  on are");
     judged(b, row_is(&shown, row, text, listed))
 }
@@ -201,7 +202,13 @@ pub fn bound(image: &[u8; IMAGE_BYTES], b: Bench, text: &[u8], from: usize) -> B
         return nothing(b);
     }
     let mut path = [UNTOUCHED; 64];
-    let found = bound::numbers_of(bound::bound(image, hexadecimal_at(text, at), &mut path));
+    let found = bound::numbers_of(bound::bound(
+        Device::Em73862,
+        image,
+        0,
+        hexadecimal_at(text, at),
+        &mut path,
+    ));
     say(b"  is ");
     say_decimal(found.number as u64);
     say(b" ");

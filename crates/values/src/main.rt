@@ -1,5 +1,5 @@
 // values < VALUES: the worked values of document 01 that are not proved, and the examples of sheet 000 read by document 01's rules, run and compared.
-// A value begins with the document's words, a line in quotation marks: then the record is fresh, the image all zeros, the wake pins enabled and SOUND off. Lines of these follow, by their first word:
+// A value begins with the document's words, a line in quotation marks: then the device is the EM73862, the record fresh, the image all zeros, the wake pins enabled and SOUND off. Lines of these follow, by their first word:
 //   at ADDRESS BYTES..    bytes of the image, printed as the rows that the lister reads there
 //   rom ADDRESS BYTES..   bytes of the image that are no rows
 //   with FIELD=V..        fields of the record as they are before

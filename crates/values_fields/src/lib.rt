@@ -116,20 +116,20 @@ fn inner_value(m: Core, f: usize) -> u32 {
     }
 }
 
-fn port_value(m: Core, f: usize) -> u32 {
+fn port_value(m: Core, f: usize) -> u8 {
     let ports = m.ports;
     match f {
-        15 => ports.p4 as u32,
-        16 => ports.p8 as u32,
-        17 => ports.p9 as u32,
-        18 => ports.p16 as u32,
-        19 => ports.p23 as u32,
-        20 => ports.p24 as u32,
-        21 => ports.p25 as u32,
-        22 => ports.p27 as u32,
-        23 => ports.p28 as u32,
-        24 => ports.p29 as u32,
-        _ => ports.p30 as u32,
+        15 => ports.p4,
+        16 => ports.p8,
+        17 => ports.p9,
+        18 => ports.p16,
+        19 => ports.p23,
+        20 => ports.p24,
+        21 => ports.p25,
+        22 => ports.p27,
+        23 => ports.p28,
+        24 => ports.p29,
+        _ => ports.p30,
     }
 }
 
@@ -143,7 +143,7 @@ pub fn value(m: Core, f: usize) -> u32 {
         return inner_value(m, f);
     }
     if f < PINS {
-        return port_value(m, f);
+        return port_value(m, f) as u32;
     }
     if f == PINS {
         return frame_number(pins);

@@ -8,6 +8,8 @@ use lib.Dec.{eqb}
 use lib.ListN.{getD, set}
 use Rattle.laws.specs.Choice.{pick}
 use Rattle.bits.specs.Bits.{bitOf}
+use Rattle.device.specs.declared.Device.the-variants.{Em73862}
+use Rattle.device.specs.declared.Options.{Options}
 use Rattle.machine_start.specs.Start.{freshMachine}
 use Rattle.machine.specs.declared.Machine.{Machine}
 use Rattle.row.specs.Places.{withRegisters, withPointers, withRam}
@@ -26,6 +28,13 @@ abbrev pub Hold : List Claim → Type 0
 Hold [] = Unit
 Hold (c ∷ cs) = (c .given ≡ c .said) × Hold cs
 
+-- the EM73862 from its fresh record; no value depends on the wake pins or on SOUND
+abbrev pub options : Options
+options = record { device = Em73862; wake = 0xFF; sound = false }
+
+abbrev pub fresh : Machine
+fresh = freshMachine Em73862
+
 -- the fresh record with ACC and CF; with a nibble at RAM 000h, where HL points; with SP; with DP
 abbrev pub withAcc : ℕ → Bool → Machine → Machine
 withAcc acc cf m = withRegisters m (record { acc = acc; hr = 0; lr = 0; cf = cf; zf = false; sf = true })
@@ -40,11 +49,11 @@ abbrev pub withDp : ℕ → Machine → Machine
 withDp dp m = withPointers m (record { sp = 0; dp = dp })
 
 -- a code at address 0, read and executed on a record whose PC is 0; the ROM has 56h at 1777h, and 0 elsewhere
-abbrev pub romWith : List ℕ → ℕ → ℕ
-romWith code at = pick (eqb at 0x1777) 0x56 (getD code at 0)
+abbrev pub romWith : List ℕ → ℕ → ℕ → ℕ
+romWith code p3 at = pick (eqb at 0x1777) 0x56 (getD code at 0)
 
 abbrev pub run : List ℕ → Machine → Done
-run code m = runOne (romWith code) false m
+run code m = runOne (romWith code) options m
 
 abbrev pub acc : Done → ℕ
 acc x = x .machine .core .regs .acc
@@ -66,34 +75,34 @@ pc x = x .machine .core .pc
 
 -- ADCAM, 70h, with CF 0: ACC plus the nibble at HL
 abbrev pub sum : ℕ → ℕ → Done
-sum a b = run (0x70 ∷ []) (withAcc a false (withNibble b freshMachine))
+sum a b = run (0x70 ∷ []) (withAcc a false (withNibble b fresh))
 
 -- SBCAM, 72h, with CF 1, which is no borrow: the nibble at HL less ACC
 abbrev pub difference : ℕ → ℕ → Done
-difference a b = run (0x72 ∷ []) (withAcc b true (withNibble a freshMachine))
+difference a b = run (0x72 ∷ []) (withAcc b true (withNibble a fresh))
 
 abbrev pub rlca : Done
-rlca = run (0x50 ∷ []) (withAcc 8 false freshMachine)
+rlca = run (0x50 ∷ []) (withAcc 8 false fresh)
 
 abbrev pub sbcam : Done
-sbcam = run (0x72 ∷ []) (withAcc 3 false (withNibble 5 freshMachine))
+sbcam = run (0x72 ∷ []) (withAcc 3 false (withNibble 5 fresh))
 
 -- SCALL n, E0h + n; LCALL 123h, 41h 23h; RET, 4Fh, each with SP
 abbrev pub scall : ℕ → Done
-scall n = run ((0xE0 + n) ∷ []) (withSp 1 freshMachine)
+scall n = run ((0xE0 + n) ∷ []) (withSp 1 fresh)
 
 abbrev pub lcall : ℕ → Done
-lcall level = run (0x41 ∷ 0x23 ∷ []) (withSp level freshMachine)
+lcall level = run (0x41 ∷ 0x23 ∷ []) (withSp level fresh)
 
 abbrev pub ret : ℕ → Done
-ret level = run (0x4F ∷ []) (withSp level freshMachine)
+ret level = run (0x4F ∷ []) (withSp level fresh)
 
 -- LDAX, 65h, and LDAXI, 67h
 abbrev pub ldax : Done
-ldax = run (0x65 ∷ []) (withDp 0x777 freshMachine)
+ldax = run (0x65 ∷ []) (withDp 0x777 fresh)
 
 abbrev pub ldaxi : Done
-ldaxi = run (0x67 ∷ []) (withDp 0x777 freshMachine)
+ldaxi = run (0x67 ∷ []) (withDp 0x777 fresh)
 
 unfoldable pub workedValues : List Claim
 workedValues =

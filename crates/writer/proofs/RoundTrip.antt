@@ -9,8 +9,10 @@ use lib.ListN.{length, take, drop, getD, take-append-drop, length-take}
 use lib.Seq.{take-length}
 use borrow.Author.Tests.{eq-eqb, lt-ltb}
 use Rattle.laws.specs.Choice.{pick}
-use Rattle.numbers.specs.ComesBack.{Paper, answered, refused, image-is-not-8192-bytes, address-over-8191}
-use Rattle.sheet.specs.Reading.{insn, readLeft, left, readAt, romOf, bytesOf}
+use Rattle.laws.proofs.Computed.{T→true}
+use Rattle.numbers.specs.ComesBack.{Paper, answered, refused, image-of-another-size, record-outside-the-ranges, address-over-8191}
+use Rattle.device.specs.Device.{imageSize, romOf, isBanked}
+use Rattle.sheet.specs.Reading.{insn, readLeft, left, readAt, bytesOf}
 use Rattle.sheet.specs.declared.Insn.{Insn}
 use Rattle.sheet.specs.declared.Read.{Read}
 use Rattle.sheet.specs.declared.Read.the-variants.{Row, Unassigned, PastEnd}
@@ -39,18 +41,19 @@ answered-code i p bs e (code cs k d) = subst (CodeOf i) (ap (λ (q : Paper). q .
 answered-code i p bs e (no-code n d) = let q : _≡_ {A = ℕ} 11 0 = ap (λ (q : Paper). q .number) (sym d ∙ e) in absurd (omega arith)
 
 -- the reader's answer is a row only where the code at the address is that row's
-row-answered : (t u : Bool) (r : Read) (i : Insn) → pick t (pick u (paperOfCode r) (refused address-over-8191)) (refused image-is-not-8192-bytes) ≡ paperOfCode (Row i) → r ≡ Row i
-row-answered true true (Row j) i e = ap (λ (p : Paper). Row (insn (getD (p .values) 0 0) (getD (p .values) 1 0) (getD (p .values) 2 0))) e
-row-answered true true Unassigned i e = let q : _≡_ {A = ℕ} 30 0 = ap (λ (p : Paper). p .number) e in absurd (omega arith)
-row-answered true true PastEnd i e = let q : _≡_ {A = ℕ} 35 0 = ap (λ (p : Paper). p .number) e in absurd (omega arith)
-row-answered true false r i e = let q : _≡_ {A = ℕ} 20 0 = ap (λ (p : Paper). p .number) e in absurd (omega arith)
-row-answered false u r i e = let q : _≡_ {A = ℕ} 1 0 = ap (λ (p : Paper). p .number) e in absurd (omega arith)
+row-answered : (t b u : Bool) (r : Read) (i : Insn) → pick t (pick b (pick u (paperOfCode r) (refused address-over-8191)) (refused record-outside-the-ranges)) (refused image-of-another-size) ≡ paperOfCode (Row i) → r ≡ Row i
+row-answered true true true (Row j) i e = ap (λ (p : Paper). Row (insn (getD (p .values) 0 0) (getD (p .values) 1 0) (getD (p .values) 2 0))) e
+row-answered true true true Unassigned i e = let q : _≡_ {A = ℕ} 30 0 = ap (λ (p : Paper). p .number) e in absurd (omega arith)
+row-answered true true true PastEnd i e = let q : _≡_ {A = ℕ} 35 0 = ap (λ (p : Paper). p .number) e in absurd (omega arith)
+row-answered true true false r i e = let q : _≡_ {A = ℕ} 20 0 = ap (λ (p : Paper). p .number) e in absurd (omega arith)
+row-answered true false u r i e = let q : _≡_ {A = ℕ} 2 0 = ap (λ (p : Paper). p .number) e in absurd (omega arith)
+row-answered false b u r i e = let q : _≡_ {A = ℕ} 1 0 = ap (λ (p : Paper). p .number) e in absurd (omega arith)
 
 pub read-then-written : ReadThenWritten
-read-then-written image bytes at i e r w =
-    let rom = romOf image in
-    let is : readAt rom at ≡ Row i = row-answered (eqb (length image) 8192) (ltb at 8192) (readAt rom at) i e in
-    read-write i _ r (spelled-code i (left rom at) (left-bytes (8192 - at) (rom at) (rom (at + 1)) (rom (at + 2)) (bytes at) (bytes (at + 1)) (bytes (at + 2))) (left-row (left rom at) i is)) w
+read-then-written d image bytes p3 at i e r w =
+    let rom = romOf image p3 in
+    let is : readAt rom at ≡ Row i = row-answered (eqb (length image) (imageSize d)) (isBanked d p3) (ltb at 8192) (readAt rom at) i e in
+    read-write i _ r (spelled-code i (left rom at) (left-bytes (8192 - at) (rom at) (rom (at + 1)) (rom (at + 2)) (bytes p3 at) (bytes p3 (at + 1)) (bytes p3 (at + 2))) (left-row (left rom at) i is)) w
 
 -- a code that stands at the start of some bytes reads as it does alone
 stands : (i : Insn) (bs cs : List ℕ) → CodeOf i bs → take (length bs) cs ≡ bs → readLeft cs ≡ Row i
@@ -66,10 +69,10 @@ stands i (b ∷ bs) (c ∷ cs) k e =
     ∙ past-length c bs cs i h (rw first (k .reads)) (rw (← k .size) (ap (λ (x : ℕ). x ∷ take (length bs) bs) first ∙ (take-length (b ∷ bs) ∙ sym e)))
 
 pub written-then-read : WrittenThenRead
-written-then-read i r bs w e image size bytes at h there =
+written-then-read i r bs w e d image size bytes p3 at b h there =
     let k = answered-code i (paperOf r) bs e (w .paper) in
-    let is : readAt (romOf image) at ≡ Row i = stands i bs (left (romOf image) at) k there in
-    rw (eq-eqb (length image) 8192 size, lt-ltb at 8192 h, is)
+    let is : readAt (romOf image p3) at ≡ Row i = stands i bs (left (romOf image p3) at) k there in
+    rw (eq-eqb (length image) (imageSize d) size, T→true (isBanked d p3) b, lt-ltb at 8192 h, is)
 
 -- the first bytes of a code, not all and not none
 cut : (i : Insn) (n : ℕ) (bs : List ℕ) → CodeOf i bs → 0 < n → n < length bs → readLeft (take n bs) ≡ PastEnd
@@ -81,10 +84,10 @@ cut i (suc n) (b ∷ bs) k h l =
     cut-short b (take n bs) (drop n bs) i (k .bytes .0) (rw (take-append-drop n bs) (k .reads)) (omega arith)
 
 pub cut-code : CutShort
-cut-code i r bs w e image size bytes at h l there =
+cut-code i r bs w e d image size bytes p3 at b h l there =
     let k = answered-code i (paperOf r) bs e (w .paper) in
-    let is : readAt (romOf image) at ≡ PastEnd = ap readLeft there ∙ cut i (8192 - at) bs k (omega arith) (omega arith) in
-    rw (eq-eqb (length image) 8192 size, lt-ltb at 8192 h, is)
+    let is : readAt (romOf image p3) at ≡ PastEnd = ap readLeft there ∙ cut i (8192 - at) bs k (omega arith) (omega arith) in
+    rw (eq-eqb (length image) (imageSize d) size, T→true (isBanked d p3) b, lt-ltb at 8192 h, is)
 
 one-paper : (i : Insn) (p q : Paper) → WritePaper i p → WritePaper i q → p ≡ q
 one-paper i p q (code bs k e) w = e ∙ sym (written-back i bs q k w)

@@ -4,7 +4,7 @@ use Prim.Native.Nat.{_-_}
 use native.Mathlib.Omega.{arith}
 use denote.Ref.{now}
 use lib.ListN.{length}
-use Rattle.sheet.specs.Reading.{romOf}
+use Rattle.device.specs.Device.{inImage, romOf}
 use Rattle.graph_search.specs.Marks.{Room}
 use Rattle.graph_search.specs.Search.{Search}
 use Rattle.graph_search.proofs.Zeros.{wide16}
@@ -16,18 +16,18 @@ use Rattle.bound_explore.proofs.explore.Statement.{statement}
 use Rattle.bound_explore.proofs.explore.Tie as tie
 
 abbrev Inv-loop : tie.InvT-loop
-Inv-loop image s kind₀ next₀ other₀ cost₀ m₀ q₀ count₀ head₀ kind next other cost m q count head =
-    Laying (romOf image) kind next other cost q head × (length m ≡ 16384) × (length q ≡ 16384) × Room m q count × Search (flowGraph (romOf image)) s m q count head
+Inv-loop d image p3 s kind₀ next₀ other₀ cost₀ m₀ q₀ count₀ head₀ kind next other cost m q count head =
+    Laying d (romOf image p3) kind next other cost q head × (length m ≡ 16384) × (length q ≡ 16384) × Room m q count × Search (flowGraph d (romOf image p3)) s m q count head
 
 abbrev μ-loop : tie.MeasureT-loop
-μ-loop image s kind₀ next₀ other₀ cost₀ m₀ q₀ count₀ head₀ kind next other cost m q count head = 16384 - head
+μ-loop d image p3 s kind₀ next₀ other₀ cost₀ m₀ q₀ count₀ head₀ kind next other cost m q count head = 16384 - head
 
 mark-requires : tie.Need-mark-requires Inv-loop μ-loop
 mark-requires c κs = (room-blank _ _ (c .before .before .before .before .before .before .before .before .before .pre .3) (omega (arith, c .before .before .before .before .before .before .before .before .before .pre .4, c .before .before .before .before .before .before .before .before .before .pre .5)) (omega (arith, c .before .before .before .before .before .before .before .before .before .pre .4)), omega (arith, c .before .before .before .before .before .before .before .before .before .pre .1, c .before .before .before .before .before .before .before .before .before .pre .4))
 
 loop-holds : tie.Need-loop-holds Inv-loop μ-loop
 loop-holds c = (
-  laying-none (romOf (now (c .before .before .before .before .before .before .before .before .before .before .before .before .before .before .args .image))) _ (c .before .before .before .before .before .before .before .before .before .before .before .before .before .before .pre .2),
+  laying-none (c .before .before .before .before .before .before .before .before .before .before .before .before .before .before .args .d) (romOf (now (c .before .before .before .before .before .before .before .before .before .before .before .before .before .before .args .image)) (c .before .before .before .before .before .before .before .before .before .before .before .before .before .before .args .p3)) _ (c .before .before .before .before .before .before .before .before .before .before .before .before .before .before .pre .2),
   omega (arith, c .before .before .before .before .mark .kept .0, c .before .before .before .before .before .before .before .before .before .before .before .before .before .before .pre .4),
   omega (arith, c .before .before .before .before .mark .kept .1 .0, c .before .before .before .before .before .before .before .before .before .before .before .before .before .before .pre .5),
   room-grown (room-blank _ _ (c .before .before .before .before .before .before .before .before .before .before .before .before .before .before .pre .3) (omega (arith, c .before .before .before .before .before .before .before .before .before .before .before .before .before .before .pre .4, c .before .before .before .before .before .before .before .before .before .before .before .before .before .before .pre .5)) (omega (arith, c .before .before .before .before .before .before .before .before .before .before .before .before .before .before .pre .4))) (c .before .before .before .before .mark .ensures .0) (c .before .before .before .before .mark .kept .0) (c .before .before .before .before .mark .kept .1 .0),
@@ -46,10 +46,11 @@ cast-v c = wide16 (c .slice-known9 .given _)
 visit-requires : tie.Need-visit-requires Inv-loop μ-loop
 visit-requires c κs =
     let pre = c .before .before .before .before .before .before .before .before .before .before .before .before .before .before .before .before .before .before .before .before .before .before .before .pre in
+    let args = c .before .before .before .before .before .before .before .before .before .before .before .before .before .before .before .before .before .before .before .before .before .before .before .args in
     let shared-slice-known = c .before .before .before .before .before .before .before .before .before .before .before .before .before .before .before .before .before .before .before .before .before .before .shared-slice-known in
     let loop = c .before .before .before .before .before .before .before .before .loop in
     let loop-test = c .before .before .before .before .before .before .before .loop-test in
-    (pre .0, loop .inv .0 .sized, loop .inv .3, loop .inv .1, inside-image (λ at. shared-slice-known .given at .fits) (pre .1) (loop .inv .4) (loop-test .taken))
+    (pre .0, loop .inv .0 .sized, loop .inv .3, loop .inv .1, inside-image (args .d) (λ at. shared-slice-known .given (inImage (args .p3) at) .fits) (pre .1) (loop .inv .4) (loop-test .taken))
 
 add-head : tie.Need-add-head Inv-loop μ-loop
 add-head c = omega (arith, c .before .before .before .before .before .before .before .before .before .before .before .before .before .before .before .before .before .before .before .before .before .loop .inv .3 .small, c .before .before .before .before .before .before .before .before .before .before .before .before .before .before .before .before .before .before .before .before .before .loop .inv .3 .room, c .before .before .before .before .before .before .before .before .before .before .before .before .before .before .before .before .before .before .before .before .loop-test .taken)
@@ -59,10 +60,10 @@ loop-less c = omega (arith, c .before .before .before .before .before .before .b
 
 loop-again : tie.Need-loop-again Inv-loop μ-loop
 loop-again c = (
-  laying-more (c .before .before .before .before .before .before .before .before .before .before .before .before .before .before .before .before .before .before .before .before .before .loop .inv .0) (c .before .before .before .before .before .before .before .before .before .before .before .before .before .before .before .before .before .before .before .before .loop-test .taken) (inside-image (λ at. c .before .before .before .before .before .before .before .before .before .before .before .before .before .before .before .before .before .before .before .before .before .before .before .before .before .before .before .before .before .before .before .before .before .before .before .shared-slice-known .given at .fits) (c .before .before .before .before .before .before .before .before .before .before .before .before .before .before .before .before .before .before .before .before .before .before .before .before .before .before .before .before .before .before .before .before .before .before .before .before .pre .1) (c .before .before .before .before .before .before .before .before .before .before .before .before .before .before .before .before .before .before .before .before .before .loop .inv .4) (c .before .before .before .before .before .before .before .before .before .before .before .before .before .before .before .before .before .before .before .before .loop-test .taken)) (c .before .before .before .before .before .before .before .before .before .before .before .before .visit .ensures .0) (c .before .before .before .before .before .before .before .before .before .before .before .before .visit .ensures .1 .same),
-  c .before .before .before .before .before .before .before .before .before .before .before .before .visit .kept .1 .1 .1 .1 .1 .0 ∙ c .before .before .before .before .before .before .before .before .before .before .before .before .before .before .before .before .before .before .before .before .before .loop .inv .1,
-  c .before .before .before .before .before .before .before .before .before .before .before .before .visit .kept .1 .1 .1 .1 .1 .1 .0 ∙ c .before .before .before .before .before .before .before .before .before .before .before .before .before .before .before .before .before .before .before .before .before .loop .inv .2,
-  room-grown (c .before .before .before .before .before .before .before .before .before .before .before .before .before .before .before .before .before .before .before .before .before .loop .inv .3) (c .before .before .before .before .before .before .before .before .before .before .before .before .visit .ensures .1) (c .before .before .before .before .before .before .before .before .before .before .before .before .visit .kept .1 .1 .1 .1 .1 .0) (c .before .before .before .before .before .before .before .before .before .before .before .before .visit .kept .1 .1 .1 .1 .1 .1 .0),
+  laying-more (c .before .before .before .before .before .before .before .before .before .before .before .before .before .before .before .before .before .before .before .before .before .loop .inv .0) (c .before .before .before .before .before .before .before .before .before .before .before .before .before .before .before .before .before .before .before .before .loop-test .taken) (inside-image (c .before .before .before .before .before .before .before .before .before .before .before .before .before .before .before .before .before .before .before .before .before .before .before .before .before .before .before .before .before .before .before .before .before .before .before .before .args .d) (λ at. c .before .before .before .before .before .before .before .before .before .before .before .before .before .before .before .before .before .before .before .before .before .before .before .before .before .before .before .before .before .before .before .before .before .before .before .shared-slice-known .given (inImage (c .before .before .before .before .before .before .before .before .before .before .before .before .before .before .before .before .before .before .before .before .before .before .before .before .before .before .before .before .before .before .before .before .before .before .before .before .args .p3) at) .fits) (c .before .before .before .before .before .before .before .before .before .before .before .before .before .before .before .before .before .before .before .before .before .before .before .before .before .before .before .before .before .before .before .before .before .before .before .before .pre .1) (c .before .before .before .before .before .before .before .before .before .before .before .before .before .before .before .before .before .before .before .before .before .loop .inv .4) (c .before .before .before .before .before .before .before .before .before .before .before .before .before .before .before .before .before .before .before .before .loop-test .taken)) (c .before .before .before .before .before .before .before .before .before .before .before .before .visit .ensures .0) (c .before .before .before .before .before .before .before .before .before .before .before .before .visit .ensures .1 .same),
+  c .before .before .before .before .before .before .before .before .before .before .before .before .visit .kept .1 .1 .1 .1 .1 .1 .1 .0 ∙ c .before .before .before .before .before .before .before .before .before .before .before .before .before .before .before .before .before .before .before .before .before .loop .inv .1,
+  c .before .before .before .before .before .before .before .before .before .before .before .before .visit .kept .1 .1 .1 .1 .1 .1 .1 .1 .0 ∙ c .before .before .before .before .before .before .before .before .before .before .before .before .before .before .before .before .before .before .before .before .before .loop .inv .2,
+  room-grown (c .before .before .before .before .before .before .before .before .before .before .before .before .before .before .before .before .before .before .before .before .before .loop .inv .3) (c .before .before .before .before .before .before .before .before .before .before .before .before .visit .ensures .1) (c .before .before .before .before .before .before .before .before .before .before .before .before .visit .kept .1 .1 .1 .1 .1 .1 .1 .0) (c .before .before .before .before .before .before .before .before .before .before .before .before .visit .kept .1 .1 .1 .1 .1 .1 .1 .1 .0),
   search-more (c .before .before .before .before .before .before .before .before .before .before .before .before .before .before .before .before .before .before .before .before .before .loop .inv .4) (c .before .before .before .before .before .before .before .before .before .before .before .before .before .before .before .before .before .before .before .before .loop-test .taken) (c .before .before .before .before .before .before .before .before .before .before .before .before .visit .ensures .1, c .before .before .before .before .before .before .before .before .before .before .before .before .visit .ensures .2),
 )
 
@@ -85,7 +86,7 @@ same-length-6 : tie.Need-same-length-6 Inv-loop μ-loop
 same-length-6 c = omega (arith, c .before .loop .inv .2, c .before .before .before .before .before .before .before .before .before .before .before .before .before .before .before .before .pre .5)
 
 returns : tie.Need-returns Inv-loop μ-loop
-returns c = explored (λ at. c .before .before .before .before .before .before .before .before .before .before .before .before .before .before .before .shared-slice-known .given at .fits) (c .before .loop .inv .0) (c .loop-test .left) (c .before .loop .inv .3) (c .before .loop .inv .4)
+returns c = explored (λ at. c .before .before .before .before .before .before .before .before .before .before .before .before .before .before .before .shared-slice-known .given (inImage (c .before .before .before .before .before .before .before .before .before .before .before .before .before .before .before .before .args .p3) at) .fits) (c .before .loop .inv .0) (c .loop-test .left) (c .before .loop .inv .3) (c .before .loop .inv .4)
 
 pub explore-spec : {M : Type 1} → statement M
 explore-spec =

@@ -1,6 +1,6 @@
 -- `bound_explore::visit` meets its contract.
 use denote.Ref.{now}
-use Rattle.sheet.specs.Reading.{romOf}
+use Rattle.device.specs.Device.{inImage, romOf}
 use Rattle.graph_search.proofs.Grown.{room-grown}
 use Rattle.bound_flow.proofs.Inside.{node-good}
 use Rattle.bound_explore.proofs.Nodes.{laid-node, nothing-follows, both-follow}
@@ -48,7 +48,7 @@ returns : tie.Need-returns
 returns c =
     let args = c .before .before .before .before .before .before .before .before .before .before .args in
     let node-at = c .before .before .node-at in
-    (laid-node _ _ _ (node-at .ensures) _ _ _ _, nothing-follows _ _ _ (node-at .ensures) _ _ _ (c .if1 .taken) .0, nothing-follows _ _ _ (node-at .ensures) _ (args .q .now) (args .count) (c .if1 .taken) .1)
+    (laid-node _ _ _ _ (node-at .ensures) _ _ _ _, nothing-follows _ _ _ _ (node-at .ensures) _ _ _ (c .if1 .taken) .0, nothing-follows _ _ _ _ (node-at .ensures) _ (args .q .now) (args .count) (c .if1 .taken) .1)
 
 cast-mark : tie.Need-cast-mark
 cast-mark c = search needs
@@ -59,7 +59,7 @@ mark-requires c κs =
     let args = c .before .before .before .before .before .before .before .before .before .before .before .before .before .args in
     let shared-slice-known = c .before .before .before .before .before .before .before .before .before .before .before .before .shared-slice-known in
     let node-at = c .before .before .before .before .before .node-at in
-    (pre .2, rw (node-at .ensures, pre .3) (node-good (romOf (now (args .image))) (λ at. shared-slice-known .given at .fits) (args .v) (pre .4) .next-lt))
+    (pre .2, rw (node-at .ensures, pre .3) (node-good (args .d) (romOf (now (args .image)) (args .p3)) (λ at. shared-slice-known .given (inImage (args .p3) at) .fits) (args .v) (pre .4) .next-lt))
 
 cast-mark-2 : tie.Need-cast-mark-2
 cast-mark-2 c = search needs
@@ -71,7 +71,7 @@ mark-requires-2 c κs =
     let shared-slice-known = c .before .before .before .before .before .before .before .before .before .before .before .before .before .before .before .before .before .before .before .before .shared-slice-known in
     let node-at = c .before .before .before .before .before .before .before .before .before .before .before .before .before .node-at in
     let mark = c .before .before .before .before .before .before .before .mark in
-    (room-grown (pre .2) (mark .ensures .0) (mark .kept .0) (mark .kept .1 .0), rw (node-at .ensures, mark .kept .0, pre .3) (node-good (romOf (now (args .image))) (λ at. shared-slice-known .given at .fits) (args .v) (pre .4) .other-lt))
+    (room-grown (pre .2) (mark .ensures .0) (mark .kept .0) (mark .kept .1 .0), rw (node-at .ensures, mark .kept .0, pre .3) (node-good (args .d) (romOf (now (args .image)) (args .p3)) (λ at. shared-slice-known .given (inImage (args .p3) at) .fits) (args .v) (pre .4) .other-lt))
 
 same-length-5 : tie.Need-same-length-5
 same-length-5 c = search needs
@@ -97,7 +97,7 @@ returns-2 c =
     let if1 = c .before .before .before .before .before .before .before .before .before .before .before .before .before .before .before .before .if1 in
     let mark = c .before .before .before .before .before .before .before .before .before .before .before .before .mark in
     let mark2 = c .before .before .before .before .mark2 in
-    (laid-node _ _ _ (node-at .ensures) _ _ _ _, both-follow _ _ _ (node-at .ensures) (if1 .left) (mark .ensures) (mark2 .ensures) .0, both-follow _ _ _ (node-at .ensures) (if1 .left) (mark .ensures) (mark2 .ensures) .1)
+    (laid-node _ _ _ _ (node-at .ensures) _ _ _ _, both-follow _ _ _ _ (node-at .ensures) (if1 .left) (mark .ensures) (mark2 .ensures) .0, both-follow _ _ _ _ (node-at .ensures) (if1 .left) (mark .ensures) (mark2 .ensures) .1)
 
 pub visit-spec : {M : Type 1} → statement M
 visit-spec =

@@ -1,5 +1,6 @@
--- `bounder::bound_at` meets its contract.
+-- `bounder::proofs::bound_at` meets its contract.
 use native.Mathlib.Omega.{arith}
+use Rattle.device.specs.Device.{inImage}
 use Rattle.bound.proofs.Sizes.{answer-small}
 use Rattle.text_bounder.proofs.Values.{longest-small}
 use borrow.Author.Needs.{needs}
@@ -19,7 +20,7 @@ slice-aggregate-show-answer : tie.Need-slice-aggregate-show-answer
 slice-aggregate-show-answer c = search needs
 
 show-answer-requires : tie.Need-show-answer-requires
-show-answer-requires c κs = (answer-small (λ at. c .before .before .before .before .before .shared-slice-known .given at .fits) (c .before .before .before .bound .ensures), omega (arith, c .before .buffer .ensures))
+show-answer-requires c κs = (answer-small (λ at. c .before .before .before .before .before .shared-slice-known .given (inImage (c .before .before .before .before .before .before .args .p3) at) .fits) (c .before .before .before .bound .ensures), omega (arith, c .before .buffer .ensures))
 
 enum-known-answer : tie.Need-enum-known-answer
 enum-known-answer c = search needs
@@ -34,7 +35,7 @@ slice-aggregate-list-path : tie.Need-slice-aggregate-list-path
 slice-aggregate-list-path c = search needs
 
 cast-list-path : tie.Need-cast-list-path
-cast-list-path c = omega (arith, longest-small (c .before .before .answer .given .1) (answer-small (λ at. c .before .before .before .before .before .before .before .before .before .before .before .shared-slice-known .given at .fits) (c .before .before .before .before .before .before .before .before .before .bound .ensures)))
+cast-list-path c = omega (arith, longest-small (c .before .before .answer .given .1) (answer-small (λ at. c .before .before .before .before .before .before .before .before .before .before .before .shared-slice-known .given (inImage (c .before .before .before .before .before .before .before .before .before .before .before .before .args .p3) at) .fits) (c .before .before .before .before .before .before .before .before .before .bound .ensures)))
 
 list-path-requires : tie.Need-list-path-requires
 list-path-requires c κs = search needs

@@ -1,5 +1,6 @@
--- `bounder::entry` meets its contract.
+-- `bounder::proofs::entry` meets its contract.
 use native.Mathlib.Omega.{arith}
+use Rattle.device.specs.Device.{inImage}
 use Rattle.bound.proofs.Sizes.{answer-small}
 use borrow.Author.Needs.{needs}
 use Rattle.bounder.proofs.entry.Statement.{statement}
@@ -42,7 +43,7 @@ slice-aggregate-show-answer : tie.Need-slice-aggregate-show-answer
 slice-aggregate-show-answer c = search needs
 
 show-answer-requires : tie.Need-show-answer-requires
-show-answer-requires c κs = (answer-small (λ at. c .before .before .before .before .before .before .before .before .before .before .before .before .before .before .before .before .before .before .shared-slice-known .given at .fits) (c .before .before .before .before .before .before .before .before .before .before .before .before .before .before .before .bound .ensures), omega (arith, c .before .before .put2 .ensures .end, c .before .before .put2 .ensures .size, c .before .before .before .before .before .put-text .ensures .end, c .before .before .before .before .before .put-text .ensures .size, c .before .before .before .before .before .before .before .before .put .ensures .end, c .before .before .before .before .before .before .before .before .put .ensures .size, c .before .before .before .before .before .before .before .before .before .before .before .number .ensures .1, c .before .before .before .before .before .before .before .before .before .before .before .number .ensures .0 .size, c .before .before .before .before .before .before .before .before .before .before .before .before .before .buffer .ensures, c .before .before .before .before .before .before .before .before .before .before .before .before .before .before .before .before .before .before .before .pre .1))
+show-answer-requires c κs = (answer-small (λ at. c .before .before .before .before .before .before .before .before .before .before .before .before .before .before .before .before .before .before .shared-slice-known .given (inImage (c .before .before .before .before .before .before .before .before .before .before .before .before .before .before .before .before .before .before .before .args .p3) at) .fits) (c .before .before .before .before .before .before .before .before .before .before .before .before .before .before .before .bound .ensures), omega (arith, c .before .before .put2 .ensures .end, c .before .before .put2 .ensures .size, c .before .before .before .before .before .put-text .ensures .end, c .before .before .before .before .before .put-text .ensures .size, c .before .before .before .before .before .before .before .before .put .ensures .end, c .before .before .before .before .before .before .before .before .put .ensures .size, c .before .before .before .before .before .before .before .before .before .before .before .number .ensures .1, c .before .before .before .before .before .before .before .before .before .before .before .number .ensures .0 .size, c .before .before .before .before .before .before .before .before .before .before .before .before .before .buffer .ensures, c .before .before .before .before .before .before .before .before .before .before .before .before .before .before .before .before .before .before .before .pre))
 
 returns : tie.Need-returns
 returns c = search needs

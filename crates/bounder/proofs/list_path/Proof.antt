@@ -5,10 +5,10 @@ use Rattle.bounder.proofs.list_path.Statement.{statement}
 use Rattle.bounder.proofs.list_path.Tie as tie
 
 abbrev Inv-loop : tie.InvT-loop
-Inv-loop image path most total₀ i₀ total i = (total ≤ 3 * i) × (i ≤ 16384)
+Inv-loop image p3 path most total₀ i₀ total i = (total ≤ 3 * i) × (i ≤ 16384)
 
 abbrev μ-loop : tie.MeasureT-loop
-μ-loop image path most total₀ i₀ total i = 16384 - i
+μ-loop image p3 path most total₀ i₀ total i = 16384 - i
 
 loop-holds : tie.Need-loop-holds Inv-loop μ-loop
 loop-holds c = (omega arith, omega arith)

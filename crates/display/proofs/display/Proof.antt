@@ -14,7 +14,7 @@ returns-2 : tie.Need-returns-2
 returns-2 c = under-40 _ _ (passes (c .before .before .is-valid .ensures) (c .before .if1 .left)) (c .if2 .taken)
 
 show-requires : tie.Need-show-requires
-show-requires c κs = (passes (c .before .before .before .is-valid .ensures) (c .before .before .if1 .left), c .before .if2 .left)
+show-requires c κs = (passes (c .before .before .before .is-valid .ensures) (c .before .before .if1 .left) .ram, c .before .if2 .left)
 
 same-length : tie.Need-same-length
 same-length c = search needs

@@ -19,7 +19,7 @@ loop-holds : tie.Need-loop-holds Inv-loop μ-loop
 loop-holds c = (writing-all _ (omega arith), omega arith)
 
 byte-requires : tie.Need-byte-requires Inv-loop μ-loop
-byte-requires c κs = (c .before .before .before .before .before .before .pre .0 .ram, c .before .loop-test .taken)
+byte-requires c κs = (c .before .before .before .before .before .before .pre .0, c .before .loop-test .taken)
 
 slice-write-out : tie.Need-slice-write-out Inv-loop μ-loop
 slice-write-out c = omega arith

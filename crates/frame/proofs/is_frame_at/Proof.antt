@@ -1,58 +1,27 @@
 -- `frame::is_frame_at` meets its contract.
 use borrow.Author.Needs.{needs}
-use Rattle.frame.proofs.Digits.{by-bytes}
 use Rattle.frame.proofs.is_frame_at.Statement.{statement}
 use Rattle.frame.proofs.is_frame_at.Tie as tie
 
-shared-slice-read-is-digit : tie.Need-shared-slice-read-is-digit
-shared-slice-read-is-digit c = search needs
+enum-told : tie.Need-enum-told
+enum-told c = search needs
 
-is-digit-requires : tie.Need-is-digit-requires
-is-digit-requires c κs = search needs
+are-three-requires : tie.Need-are-three-requires
+are-three-requires c κs = rw (c .enum-told .given .1) at (c .before .before .before .pre)
 
-add-is-digit : tie.Need-add-is-digit
-add-is-digit c = search needs
+enum-told-2 : tie.Need-enum-told-2
+enum-told-2 c = search needs
 
-shared-slice-read-is-digit-2 : tie.Need-shared-slice-read-is-digit-2
-shared-slice-read-is-digit-2 c = search needs
-
-is-digit-requires-2 : tie.Need-is-digit-requires-2
-is-digit-requires-2 c κs = search needs
-
-add-is-bit : tie.Need-add-is-bit
-add-is-bit c = search needs
-
-shared-slice-read-is-bit : tie.Need-shared-slice-read-is-bit
-shared-slice-read-is-bit c = search needs
-
-is-bit-requires : tie.Need-is-bit-requires
-is-bit-requires c κs = search needs
-
-both-requires : tie.Need-both-requires
-both-requires c κs = search needs
-
-both-requires-2 : tie.Need-both-requires-2
-both-requires-2 c κs = search needs
-
-both-requires-3 : tie.Need-both-requires-3
-both-requires-3 c κs = search needs
+are-four-requires : tie.Need-are-four-requires
+are-four-requires c κs = rw (c .enum-told2 .given .1) at (c .before .before .before .pre)
 
 returns : tie.Need-returns
-returns c = rw (c .both3 .ensures, c .before .both2 .ensures, c .before .before .both .ensures, c .before .before .before .is-bit .ensures, c .before .before .before .before .before .is-digit2 .ensures, c .before .before .before .before .before .before .before .is-digit .ensures) (by-bytes _ _ (c .before .before .before .before .before .before .before .before .before .before .pre))
+returns c = rw (c .before .enum-told .given .1) (c .are-three .ensures)
+
+returns-2 : tie.Need-returns-2
+returns-2 c = rw (c .before .enum-told2 .given .1) (c .are-four .ensures)
 
 pub is-frame-at-spec : {M : Type 1} → statement M
 is-frame-at-spec =
     tie.close
-    (tie.spec
-    shared-slice-read-is-digit
-    is-digit-requires
-    add-is-digit
-    shared-slice-read-is-digit-2
-    is-digit-requires-2
-    add-is-bit
-    shared-slice-read-is-bit
-    is-bit-requires
-    both-requires
-    both-requires-2
-    both-requires-3
-    returns)
+    (tie.spec enum-told are-three-requires enum-told-2 are-four-requires returns returns-2)

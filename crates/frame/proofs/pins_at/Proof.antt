@@ -1,47 +1,27 @@
 -- `frame::pins_at` meets its contract.
-use borrow.Author.Needs.{needs}
-use Rattle.frame.proofs.Characters.{chars-at}
-use Rattle.frame.proofs.Digits.{first-digit, second-digit, third-digit}
 use Rattle.frame.proofs.pins_at.Statement.{statement}
+use borrow.Author.Needs.{needs}
 use Rattle.frame.proofs.pins_at.Tie as tie
 
-shared-slice-read-digit-value : tie.Need-shared-slice-read-digit-value
-shared-slice-read-digit-value c = search needs
+enum-told : tie.Need-enum-told
+enum-told c = search needs
 
-digit-value-requires : tie.Need-digit-value-requires
-digit-value-requires c κs = first-digit _ _ (c .before .before .pre .0) (c .before .before .pre .1)
+pins-of-three-requires : tie.Need-pins-of-three-requires
+pins-of-three-requires c κs = rw (c .enum-told .given .1) at (c .before .before .before .pre)
 
-add-digit-value : tie.Need-add-digit-value
-add-digit-value c = search needs
+enum-told-2 : tie.Need-enum-told-2
+enum-told-2 c = search needs
 
-shared-slice-read-digit-value-2 : tie.Need-shared-slice-read-digit-value-2
-shared-slice-read-digit-value-2 c = search needs
-
-digit-value-requires-2 : tie.Need-digit-value-requires-2
-digit-value-requires-2 c κs = second-digit _ _ (c .before .before .before .before .pre .0) (c .before .before .before .before .pre .1)
-
-add-bit-value : tie.Need-add-bit-value
-add-bit-value c = search needs
-
-shared-slice-read-bit-value : tie.Need-shared-slice-read-bit-value
-shared-slice-read-bit-value c = search needs
-
-bit-value-requires : tie.Need-bit-value-requires
-bit-value-requires c κs = third-digit _ _ (c .before .before .before .before .before .before .pre .0) (c .before .before .before .before .before .before .pre .1)
+pins-of-four-requires : tie.Need-pins-of-four-requires
+pins-of-four-requires c κs = rw (c .enum-told2 .given .1) at (c .before .before .before .pre)
 
 returns : tie.Need-returns
-returns c = rw (c .bit-value .ensures, c .before .before .digit-value2 .ensures, c .before .before .before .before .digit-value .ensures, chars-at _ _ (c .before .before .before .before .before .before .before .pre .0))
+returns c = rw (c .before .enum-told .given .1) (c .pins-of-three .ensures)
+
+returns-2 : tie.Need-returns-2
+returns-2 c = rw (c .before .enum-told2 .given .1) (c .pins-of-four .ensures)
 
 pub pins-at-spec : {M : Type 1} → statement M
 pins-at-spec =
     tie.close
-    (tie.spec
-    shared-slice-read-digit-value
-    digit-value-requires
-    add-digit-value
-    shared-slice-read-digit-value-2
-    digit-value-requires-2
-    add-bit-value
-    shared-slice-read-bit-value
-    bit-value-requires
-    returns)
+    (tie.spec enum-told pins-of-three-requires enum-told-2 pins-of-four-requires returns returns-2)

@@ -1,4 +1,4 @@
--- `lister::list` meets its contract.
+-- `lister::proofs::list` meets its contract.
 use mathlib.Core.Path.{sym}
 use native.Mathlib.Omega.{arith}
 use lib.Seq.{length-take-le}

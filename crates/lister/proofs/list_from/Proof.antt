@@ -1,9 +1,12 @@
--- `lister::list_from` meets its contract.
+-- `lister::proofs::list_from` meets its contract.
 use mathlib.Core.Path.{sym, _∙_}
 use Rattle.text_words.proofs.Values.{number-up-to-8192}
 use borrow.Author.Needs.{needs}
 use Rattle.lister.proofs.list_from.Statement.{statement}
 use Rattle.lister.proofs.list_from.Tie as tie
+
+add-word-at : tie.Need-add-word-at
+add-word-at c = search needs
 
 arg-count-requires : tie.Need-arg-count-requires
 arg-count-requires c κs = search needs
@@ -44,6 +47,9 @@ usage-requires c κs = search needs
 returns-2 : tie.Need-returns-2
 returns-2 c = search needs
 
+add-if2 : tie.Need-add-if2
+add-if2 c = search needs
+
 arg-count-requires-2 : tie.Need-arg-count-requires-2
 arg-count-requires-2 c κs = search needs
 
@@ -63,6 +69,7 @@ pub list-from-spec : {M : Type 1} → statement M
 list-from-spec =
     tie.close
     (tie.spec
+    add-word-at
     arg-count-requires
     list-requires
     returns
@@ -76,6 +83,7 @@ list-from-spec =
     enum-told
     usage-requires
     returns-2
+    add-if2
     arg-count-requires-2
     usage-requires-2
     returns-3

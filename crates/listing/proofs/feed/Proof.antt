@@ -4,17 +4,17 @@ use native.Mathlib.Omega.{arith}
 use borrow.Author.Needs.{needs}
 use denote.Ref.{now}
 use lib.ListN.{length, length-drop}
-use Rattle.sheet.specs.Reading.{romOf}
+use Rattle.device.specs.Device.{romOf}
 use Rattle.machine.specs.With.{assembled}
 use Rattle.listing.proofs.Feeding.{Feeding, feeding-none, feeding-pauses, feeding-next, feeding-ends}
 use Rattle.listing.proofs.feed.Statement.{statement}
 use Rattle.listing.proofs.feed.Tie as tie
 
 abbrev Inv-loop : tie.InvT-loop
-Inv-loop image ram₀ part out₀ from core₀ used₀ at₀ ram out core used at = Feeding (romOf image) (assembled core₀ ram₀) part out₀ out from at (assembled core ram) used
+Inv-loop d image ram₀ part out₀ from core₀ used₀ at₀ ram out core used at = Feeding d (romOf image) (assembled core₀ ram₀) part out₀ out from at (assembled core ram) used
 
 abbrev μ-loop : tie.MeasureT-loop
-μ-loop image ram₀ part out₀ from core₀ used₀ at₀ ram out core used at = length part - used
+μ-loop d image ram₀ part out₀ from core₀ used₀ at₀ ram out core used at = length part - used
 
 loop-holds : tie.Need-loop-holds Inv-loop μ-loop
 loop-holds c = feeding-none (record { core = c .before .before .before .pre .1; ram = c .before .before .before .pre .2 }) (c .before .before .before .pre .3)
@@ -47,16 +47,16 @@ tell-requires : tie.Need-tell-requires Inv-loop μ-loop
 tell-requires c κs = (c .before .before .before .before .before .before .before .before .before .before .pre .0, c .before .before .before .before .before .before .loop .inv .valid .core, c .before .before .before .before .before .before .loop .inv .valid .ram, omega arith)
 
 add-used : tie.Need-add-used Inv-loop μ-loop
-add-used c = omega (arith, c .before .before .before .before .before .before .before .before .line-end .ensures .1, c .before .before .before .before .before .before .before .if1 .left, c .before .before .before .before .before .before .before .before .before .before .before .before .before .before .good .1 .1 .1 .0 .0)
+add-used c = omega (arith, c .before .before .before .before .before .before .before .before .line-end .ensures .1, c .before .before .before .before .before .before .before .if1 .left, c .before .before .before .before .before .before .before .before .before .before .before .before .before .before .good .1 .1 .1 .1 .0 .0)
 
 so-far-requires-2 : tie.Need-so-far-requires-2 Inv-loop μ-loop
 so-far-requires-2 c κs = search needs
 
 same-length-2 : tie.Need-same-length-2 Inv-loop μ-loop
-same-length-2 c = feeding-ends (c .before .before .before .before .before .before .before .before .before .before .before .before .loop .inv) (c .before .before .before .before .before .before .before .before .before .before .line-end .ensures .0) (omega arith) (c .before .before .before .before .before .tell .ensures) (c .before .if2 .taken) .wrote .size
+same-length-2 c = feeding-ends (c .before .before .before .before .before .before .before .before .before .before .before .before .loop .inv) (c .before .before .before .before .before .before .before .before .before .before .line-end .ensures .0) (omega (arith, c .before .before .before .before .before .before .before .before .before .before .line-end .ensures .1, c .before .before .before .before .before .before .before .before .before .if1 .left)) (c .before .before .before .before .before .tell .ensures) (c .before .if2 .taken) .wrote .size
 
 returns-2 : tie.Need-returns-2 Inv-loop μ-loop
-returns-2 c = rw (c .so-far2 .ensures) (feeding-ends (c .before .before .before .before .before .before .before .before .before .before .before .before .loop .inv) (c .before .before .before .before .before .before .before .before .before .before .line-end .ensures .0) (omega arith) (c .before .before .before .before .before .tell .ensures) (c .before .if2 .taken))
+returns-2 c = rw (c .so-far2 .ensures) (feeding-ends (c .before .before .before .before .before .before .before .before .before .before .before .before .loop .inv) (c .before .before .before .before .before .before .before .before .before .before .line-end .ensures .0) (omega (arith, c .before .before .before .before .before .before .before .before .before .before .line-end .ensures .1, c .before .before .before .before .before .before .before .before .before .if1 .left)) (c .before .before .before .before .before .tell .ensures) (c .before .if2 .taken))
 
 loop-less : tie.Need-loop-less Inv-loop μ-loop
 loop-less c = omega arith

@@ -2,7 +2,7 @@
 use mathlib.Core.Path.{sym, _∙_}
 use native.Mathlib.Omega.{arith}
 use denote.Ref.{now}
-use Rattle.sheet.specs.Reading.{romOf}
+use Rattle.device.specs.Device.{inImage, romOf}
 use borrow.Author.Needs.{needs}
 use Rattle.step.proofs.Answering.{seen-in-range}
 use Rattle.listing.proofs.Telling.{bad-line, step-told}
@@ -30,10 +30,10 @@ returns c =
     let frame-of = c .before .before .before .before .before .before .frame-of in
     let enum-told = c .before .before .before .before .enum-told in
     let refused = c .before .before .refused in
-    bad-line _ _ _ _ (record { core = pre .1; ram = pre .2 }) (sym (frame-of .ensures) ∙ enum-told .given .1) (refused .ensures .0) (refused .ensures .1)
+    bad-line _ _ _ _ _ (record { core = pre .1; ram = pre .2 }) (sym (frame-of .ensures) ∙ enum-told .given .1) (refused .ensures .0) (refused .ensures .1)
 
 advance-requires : tie.Need-advance-requires
-advance-requires c κs = (c .before .before .before .before .before .before .before .before .pre .1, c .before .before .before .before .before .before .before .before .pre .2, c .before .before .before .before .before .before .before .before .pre .0, seen-in-range _ _ (sym (c .before .before .before .before .frame-of .ensures) ∙ c .before .before .pins .given .1))
+advance-requires c κs = (c .before .before .before .before .before .before .before .before .pre .1, c .before .before .before .before .before .before .before .before .pre .2, c .before .before .before .before .before .before .before .before .pre .0, seen-in-range _ _ _ (sym (c .before .before .before .before .frame-of .ensures) ∙ c .before .before .pins .given .1))
 
 line-requires : tie.Need-line-requires
 line-requires c κs = search needs
@@ -44,7 +44,7 @@ same-length-2 c = search needs
 returns-2 : tie.Need-returns-2
 returns-2 c =
     let e = sym (c .before .before .before .before .before .before .before .before .before .before .before .frame-of .ensures) ∙ c .before .before .before .before .before .before .before .before .before .pins .given .1 in
-    step-told (romOf (now (c .before .before .before .before .before .before .before .before .before .before .before .before .before .before .before .args .image))) _ _ _ (record { core = c .before .before .before .before .before .before .before .before .before .before .before .before .before .before .before .pre .1; ram = c .before .before .before .before .before .before .before .before .before .before .before .before .before .before .before .pre .2 }) e (seen-in-range _ _ e) (λ at. omega (arith, c .before .before .before .before .before .before .before .before .before .before .before .before .before .before .shared-slice-known .given at)) (c .before .before .before .before .before .before .advance .ensures) (c .before .before .before .line .ensures .0) (c .before .before .before .line .ensures .1)
+    step-told _ (romOf (now (c .before .before .before .before .before .before .before .before .before .before .before .before .before .before .before .args .image))) _ _ _ (record { core = c .before .before .before .before .before .before .before .before .before .before .before .before .before .before .before .pre .1; ram = c .before .before .before .before .before .before .before .before .before .before .before .before .before .before .before .pre .2 }) e (seen-in-range _ _ _ e) (λ p3 at. omega (arith, c .before .before .before .before .before .before .before .before .before .before .before .before .before .before .shared-slice-known .given (inImage p3 at))) (c .before .before .before .before .before .before .advance .ensures) (c .before .before .before .line .ensures .0) (c .before .before .before .line .ensures .1)
 
 pub tell-spec : {M : Type 1} → statement M
 tell-spec =

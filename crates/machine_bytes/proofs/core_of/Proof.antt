@@ -4,8 +4,8 @@ use borrow.Author.Needs.{needs}
 use Rattle.machine_bytes.proofs.core_of.Statement.{statement}
 use Rattle.machine_bytes.proofs.core_of.Tie as tie
 
-element-copy-out-mode-of : tie.Need-element-copy-out-mode-of
-element-copy-out-mode-of c = search needs
+element-copy-out-flag : tie.Need-element-copy-out-flag
+element-copy-out-flag c = search needs
 
 element-copy-out-from-two : tie.Need-element-copy-out-from-two
 element-copy-out-from-two c = search needs
@@ -16,8 +16,11 @@ element-copy-out-from-two-2 c = search needs
 from-two-requires : tie.Need-from-two-requires
 from-two-requires c κs = search needs
 
-element-copy-out-mode-of-2 : tie.Need-element-copy-out-mode-of-2
-element-copy-out-mode-of-2 c = search needs
+element-copy-out-flag-2 : tie.Need-element-copy-out-flag-2
+element-copy-out-flag-2 c = search needs
+
+element-copy-out-mode-of : tie.Need-element-copy-out-mode-of
+element-copy-out-mode-of c = search needs
 
 element-copy-out-from-two-3 : tie.Need-element-copy-out-from-two-3
 element-copy-out-from-two-3 c = search needs
@@ -46,39 +49,34 @@ timers-of-requires c κs = search needs
 ports-of-requires : tie.Need-ports-of-requires
 ports-of-requires c κs = search needs
 
-element-copy-out-mode-of-3 : tie.Need-element-copy-out-mode-of-3
-element-copy-out-mode-of-3 c = search needs
+element-copy-out-mode-of-2 : tie.Need-element-copy-out-mode-of-2
+element-copy-out-mode-of-2 c = search needs
 
 mode-of-requires : tie.Need-mode-of-requires
-mode-of-requires c κs = c .before .before .before .before .before .before .before .before .before .before .before .before .before .before .before .pre .1 .mode
+mode-of-requires c κs =
+    c .before .before .before .before .before .before .before .before .before .before .before .before .before .before .before .before .pre .1 .mode
 
-element-copy-out-flag : tie.Need-element-copy-out-flag
-element-copy-out-flag c = search needs
+element-copy-out-flag-3 : tie.Need-element-copy-out-flag-3
+element-copy-out-flag-3 c = search needs
 
 flag-requires : tie.Need-flag-requires
-flag-requires c κs = c .before .before .before .before .before .before .before .before .before .before .before .before .before .before .before .before .before .pre .1 .mark
+flag-requires c κs =
+    c .before .before .before .before .before .before .before .before .before .before .before .before .before .before .before .before .before .before .pre .1 .mark
 
 returns : tie.Need-returns
 returns c =
-    let pre = c .before .before .before .before .before .before .before .before .before .before .before .before .before .before .before .before .before .before .pre in
-    let from-two = c .before .before .before .before .before .before .before .before .before .before .before .before .before .before .from-two in
-    let registers-of = c .before .before .before .before .before .before .before .before .before .before .registers-of in
-    let from-two2 = c .before .before .before .before .before .before .before .from-two2 in
-    let interrupts-at = c .before .before .before .before .before .before .interrupts-at in
-    let timers-of = c .before .before .before .before .before .timers-of in
-    let ports-of = c .before .before .before .before .ports-of in
-    let mode-of = c .before .before .mode-of in
-    head-laid _ _ _ _ _ _ _ _ _ (pre .0) (registers-of .ensures) (interrupts-at .ensures) (timers-of .ensures) (ports-of .ensures) (from-two2 .ensures) (from-two .ensures) (mode-of .ensures) (c .flag .ensures)
+    head-laid _ _ _ _ _ _ _ _ _ (c .before .before .before .before .before .before .before .before .before .before .before .before .before .before .before .before .before .before .before .pre .0) (c .before .before .before .before .before .before .before .before .before .before .registers-of .ensures) (c .before .before .before .before .before .before .interrupts-at .ensures) (c .before .before .before .before .before .timers-of .ensures) (c .before .before .before .before .ports-of .ensures) (c .before .before .before .before .before .before .before .from-two2 .ensures) (c .before .before .before .before .before .before .before .before .before .before .before .before .before .before .before .from-two .ensures) (c .before .before .mode-of .ensures) (c .flag .ensures)
 
 pub core-of-spec : {M : Type 1} → statement M
 core-of-spec =
     tie.close
     (tie.spec
-    element-copy-out-mode-of
+    element-copy-out-flag
     element-copy-out-from-two
     element-copy-out-from-two-2
     from-two-requires
-    element-copy-out-mode-of-2
+    element-copy-out-flag-2
+    element-copy-out-mode-of
     element-copy-out-from-two-3
     element-copy-out-from-two-4
     registers-of-requires
@@ -88,8 +86,8 @@ core-of-spec =
     interrupts-at-requires
     timers-of-requires
     ports-of-requires
-    element-copy-out-mode-of-3
+    element-copy-out-mode-of-2
     mode-of-requires
-    element-copy-out-flag
+    element-copy-out-flag-3
     flag-requires
     returns)

@@ -9,16 +9,16 @@ use Rattle.machine_bytes.proofs.head_at.Statement.{statement}
 use Rattle.machine_bytes.proofs.head_at.Tie as tie
 
 slice-aggregate-copy : tie.Need-slice-aggregate-copy
-slice-aggregate-copy c = sym (length-take-le 39 (c .before .before .args .bytes .now) (omega (arith, c .before .before .pre)))
+slice-aggregate-copy c = sym (length-take-le 44 (c .before .before .args .bytes .now) (omega (arith, c .before .before .pre)))
 
 slice-aggregate-copy-2 : tie.Need-slice-aggregate-copy-2
 slice-aggregate-copy-2 c = search needs
 
 copy-requires : tie.Need-copy-requires
-copy-requires c κs = le-of-eq (length-take-le 39 (c .before .before .before .args .bytes .now) (omega (arith, c .before .before .before .pre)))
+copy-requires c κs = le-of-eq (length-take-le 44 (c .before .before .before .args .bytes .now) (omega (arith, c .before .before .before .pre)))
 
 returns : tie.Need-returns
-returns c = c .before .copy .ensures .1 ∙ copied _ _ (length-take-le 39 (c .before .before .before .before .before .args .bytes .now) (omega (arith, c .before .before .before .before .before .pre)))
+returns c = c .before .copy .ensures .1 ∙ copied _ _ (length-take-le 44 (c .before .before .before .before .before .args .bytes .now) (omega (arith, c .before .before .before .before .before .pre)))
 
 pub head-at-spec : {M : Type 1} → statement M
 head-at-spec =

@@ -66,7 +66,8 @@ bit-of-requires-5 c κs = search needs
 
 returns : tie.Need-returns
 unfolding two four othersOf
-returns c = cc
+returns c =
+    cc
 
 pub others-of-spec : {M : Type 1} → statement M
 others-of-spec =

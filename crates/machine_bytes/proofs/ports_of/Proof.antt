@@ -1,7 +1,8 @@
 -- `machine_bytes::ports_of` meets its contract.
+use mathlib.Core.Path.{refl}
 use native.Mathlib.Omega.{arith}
-use Rattle.machine_bytes.proofs.Parts.{listed-part}
 use Rattle.machine_bytes.specs.Layout.{latchBytes}
+use Rattle.machine_bytes.proofs.Parts.{listed-part}
 use borrow.Author.Needs.{needs}
 use Rattle.machine_bytes.proofs.ports_of.Statement.{statement}
 use Rattle.machine_bytes.proofs.ports_of.Tie as tie
@@ -39,9 +40,23 @@ element-copy-out-t31 c = search needs
 element-copy-out-t34 : tie.Need-element-copy-out-t34
 element-copy-out-t34 c = search needs
 
+element-copy-out-t37 : tie.Need-element-copy-out-t37
+element-copy-out-t37 c = search needs
+
+element-copy-out-t40 : tie.Need-element-copy-out-t40
+element-copy-out-t40 c = search needs
+
+element-copy-out-t43 : tie.Need-element-copy-out-t43
+element-copy-out-t43 c = search needs
+
+element-copy-out-t46 : tie.Need-element-copy-out-t46
+element-copy-out-t46 c = search needs
+
 returns : tie.Need-returns
 unfolding latchBytes
-returns c = listed-part (c .before .before .before .before .before .before .before .before .before .before .before .args .head .now) 5 11 (omega (arith, c .before .before .before .before .before .before .before .before .before .before .before .pre))
+returns c =
+    let a = c .before .before .before .before .before .before .before .before .before .before .before .before .before .before .before .args .head .now in
+    record { latches = listed-part a 5 11 (omega (arith, c .before .before .before .before .before .before .before .before .before .before .before .before .before .before .before .pre)); p3 = refl; p5 = refl; p6 = refl; p17 = refl }
 
 pub ports-of-spec : {M : Type 1} → statement M
 ports-of-spec =
@@ -58,4 +73,8 @@ ports-of-spec =
     element-copy-out-t28
     element-copy-out-t31
     element-copy-out-t34
+    element-copy-out-t37
+    element-copy-out-t40
+    element-copy-out-t43
+    element-copy-out-t46
     returns)

@@ -22,7 +22,7 @@ flags-fit-requires : tie.Need-flags-fit-requires
 flags-fit-requires c κs = search needs
 
 core-of-requires : tie.Need-core-of-requires
-core-of-requires c κs = (ap length (c .before .before .before .before .head-at .ensures) ∙ length-take-le 39 (c .before .before .before .before .before .before .before .args .bytes .now) (omega (arith, c .before .before .before .before .before .if1 .left)), c .before .before .flags-fit .ensures .sound (true→T (c .before .if2 .taken)))
+core-of-requires c κs = (ap length (c .before .before .before .before .head-at .ensures) ∙ length-take-le 44 (c .before .before .before .before .before .before .before .args .bytes .now) (omega (arith, c .before .before .before .before .before .if1 .left)), c .before .before .flags-fit .ensures .sound (true→T (c .before .if2 .taken)))
 
 ram-at-requires : tie.Need-ram-at-requires
 ram-at-requires c κs = search needs

@@ -50,7 +50,7 @@ both-requires-7 c κs = search needs
 returns : tie.Need-returns
 returns c =
     rw (c .both7 .ensures, c .before .both6 .ensures, c .before .before .both5 .ensures, c .before .before .before .both4 .ensures, c .before .before .before .before .before .before .before .both3 .ensures, c .before .before .before .before .before .before .before .before .before .before .both2 .ensures, c .before .before .before .before .before .before .before .before .before .before .before .both .ensures)
-    (core (c .before .before .before .before .before .before .before .before .before .before .before .before .before .before .before .args .m) (given (c .before .before .before .before .before .before .before .before .before .before .before .before .before .before .registers-valid .ensures)) (given (c .before .before .before .before .before .before .before .before .before .before .before .before .pointers-valid .ensures)) (given (c .before .before .before .before .before .before .before .before .before .interrupts-valid .ensures)) (given (c .before .before .before .before .before .before .before .before .timers-valid .ensures)) (given (c .before .before .before .before .before .before .ports-valid .ensures)) (given (c .before .before .before .before .before .pins-valid .ensures)) (given (c .before .before .before .before .mode-fits .ensures)) .decides)
+    (core (c .before .before .before .before .before .before .before .before .before .before .before .before .before .before .before .args .d) (c .before .before .before .before .before .before .before .before .before .before .before .before .before .before .before .args .m) (given (c .before .before .before .before .before .before .before .before .before .before .before .before .before .before .registers-valid .ensures)) (given (c .before .before .before .before .before .before .before .before .before .before .before .before .pointers-valid .ensures)) (given (c .before .before .before .before .before .before .before .before .before .interrupts-valid .ensures)) (given (c .before .before .before .before .before .before .before .before .timers-valid .ensures)) (given (c .before .before .before .before .before .before .ports-valid .ensures)) (given (c .before .before .before .before .before .pins-valid .ensures)) (given (c .before .before .before .before .mode-fits .ensures)) .decides)
 
 pub core-is-valid-spec : {M : Type 1} → statement M
 core-is-valid-spec =

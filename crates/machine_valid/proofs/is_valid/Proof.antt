@@ -15,7 +15,9 @@ both-requires : tie.Need-both-requires
 both-requires c κs = search needs
 
 returns : tie.Need-returns
-returns c = rw (c .both .ensures) (machine (c .before .before .before .before .before .before .args .m) (given (c .before .before .before .core-is-valid .ensures)) (given (c .before .are-nibbles .ensures)) .decides)
+returns c =
+    rw (c .both .ensures)
+    (machine (c .before .before .before .before .before .before .args .d) (c .before .before .before .before .before .before .args .m) (given (c .before .before .before .core-is-valid .ensures)) (given (c .before .are-nibbles .ensures)) .decides)
 
 pub is-valid-spec : {M : Type 1} → statement M
 is-valid-spec =

@@ -1,8 +1,12 @@
 -- `machine_valid::ports_valid` meets its contract.
+use Rattle.laws.proofs.Decided.{given}
 use Rattle.machine_valid.proofs.Validity.{ports}
 use borrow.Author.Needs.{needs}
 use Rattle.machine_valid.proofs.ports_valid.Statement.{statement}
 use Rattle.machine_valid.proofs.ports_valid.Tie as tie
+
+also-valid-requires : tie.Need-also-valid-requires
+also-valid-requires c κs = search needs
 
 both-requires : tie.Need-both-requires
 both-requires c κs = search needs
@@ -40,18 +44,19 @@ both-requires-11 c κs = search needs
 both-requires-12 : tie.Need-both-requires-12
 both-requires-12 c κs = search needs
 
+both-requires-13 : tie.Need-both-requires-13
+both-requires-13 c κs = search needs
+
 returns : tie.Need-returns
 returns c =
-    let p28 = c .before .before .before .before .before .before in
-    let p23 = p28 .before .before .before .before .before .before in
-    let p4 = p23 .before .before .before .before .before .before .before in
-    rw (c .both12 .ensures, c .before .both11 .ensures, c .before .before .both10 .ensures, c .before .before .before .both9 .ensures, p28 .both8 .ensures, p28 .before .both7 .ensures, p28 .before .before .before .before .before .both6 .ensures, p23 .both5 .ensures, p23 .before .both4 .ensures, p23 .before .before .before .before .before .before .both3 .ensures, p4 .both2 .ensures, p4 .before .both .ensures)
-    (ports (p4 .before .before .before .before .before .before .args .p) .decides)
+    rw (c .both13 .ensures, c .before .both12 .ensures, c .before .before .both11 .ensures, c .before .before .before .both10 .ensures, c .before .before .before .before .both9 .ensures, c .before .before .before .before .before .before .before .both8 .ensures, c .before .before .before .before .before .before .before .before .both7 .ensures, c .before .before .before .before .before .before .before .before .before .before .before .before .both6 .ensures, c .before .before .before .before .before .before .before .before .before .before .before .before .before .both5 .ensures, c .before .before .before .before .before .before .before .before .before .before .before .before .before .before .both4 .ensures, c .before .before .before .before .before .before .before .before .before .before .before .before .before .before .before .before .before .before .before .both3 .ensures, c .before .before .before .before .before .before .before .before .before .before .before .before .before .before .before .before .before .before .before .before .both2 .ensures, c .before .before .before .before .before .before .before .before .before .before .before .before .before .before .before .before .before .before .before .before .before .both .ensures)
+    (ports (c .before .before .before .before .before .before .before .before .before .before .before .before .before .before .before .before .before .before .before .before .before .before .before .before .before .before .before .args .d) (c .before .before .before .before .before .before .before .before .before .before .before .before .before .before .before .before .before .before .before .before .before .before .before .before .before .before .before .args .p) (given (c .before .before .before .before .before .before .before .before .before .before .before .before .before .before .before .before .before .before .before .before .before .before .before .before .before .before .also-valid .ensures)) .decides)
 
 pub ports-valid-spec : {M : Type 1} → statement M
 ports-valid-spec =
     tie.close
     (tie.spec
+    also-valid-requires
     both-requires
     both-requires-2
     both-requires-3
@@ -64,4 +69,5 @@ ports-valid-spec =
     both-requires-10
     both-requires-11
     both-requires-12
+    both-requires-13
     returns)

@@ -1,5 +1,5 @@
 -- `ports::latch` meets its contract.
-use Rattle.ports.proofs.Others.{other, no-latch}
+use Rattle.ports.proofs.Others.{no-latch}
 use Rattle.ports.specs.Ports.{latchOf}
 use Rattle.ports.proofs.latch.Statement.{statement}
 use Rattle.ports.proofs.latch.Tie as tie
@@ -50,7 +50,22 @@ returns-11 c = rw (c .match .keys11)
 
 returns-12 : tie.Need-returns-12
 unfolding latchOf
-returns-12 c = no-latch _ _ (other _ (c .match .rest))
+returns-12 c = rw (c .match .keys12)
+
+returns-13 : tie.Need-returns-13
+unfolding latchOf
+returns-13 c = rw (c .match .keys13)
+
+returns-14 : tie.Need-returns-14
+unfolding latchOf
+returns-14 c = rw (c .match .keys14)
+
+returns-15 : tie.Need-returns-15
+unfolding latchOf
+returns-15 c = rw (c .match .keys15)
+
+returns-16 : tie.Need-returns-16
+returns-16 c = no-latch _ (c .match .rest) _
 
 pub latch-spec : {M : Type 1} → statement M
 latch-spec =
@@ -67,4 +82,8 @@ latch-spec =
     returns-9
     returns-10
     returns-11
-    returns-12)
+    returns-12
+    returns-13
+    returns-14
+    returns-15
+    returns-16)

@@ -1,5 +1,5 @@
 -- `ports::with_latch` meets its contract.
-use Rattle.ports.proofs.Others.{other, same-latches}
+use Rattle.ports.proofs.Others.{same-latches}
 use Rattle.ports.specs.Ports.{withLatch}
 use Rattle.ports.proofs.with_latch.Statement.{statement}
 use Rattle.ports.proofs.with_latch.Tie as tie
@@ -50,7 +50,22 @@ returns-11 c = rw (c .match .keys11)
 
 returns-12 : tie.Need-returns-12
 unfolding withLatch
-returns-12 c = same-latches _ _ _ (other _ (c .match .rest))
+returns-12 c = rw (c .match .keys12)
+
+returns-13 : tie.Need-returns-13
+unfolding withLatch
+returns-13 c = rw (c .match .keys13)
+
+returns-14 : tie.Need-returns-14
+unfolding withLatch
+returns-14 c = rw (c .match .keys14)
+
+returns-15 : tie.Need-returns-15
+unfolding withLatch
+returns-15 c = rw (c .match .keys15)
+
+returns-16 : tie.Need-returns-16
+returns-16 c = same-latches _ (c .match .rest) _ _
 
 pub with-latch-spec : {M : Type 1} → statement M
 with-latch-spec =
@@ -67,4 +82,8 @@ with-latch-spec =
     returns-9
     returns-10
     returns-11
-    returns-12)
+    returns-12
+    returns-13
+    returns-14
+    returns-15
+    returns-16)

@@ -1,5 +1,6 @@
 -- `row_dispatch::perform` meets its contract.
 use borrow.Author.Needs.{needs}
+use Rattle.device.proofs.Laws.{window-fits}
 use Rattle.row_dispatch.proofs.Arms.{acted}
 use Rattle.row_dispatch.proofs.perform.Statement.{statement}
 use Rattle.row_dispatch.proofs.perform.Tie as tie
@@ -35,7 +36,11 @@ returns-3 : tie.Need-returns-3
 returns-3 c = rw (c .with-act3 .ensures) (acted _ _ _ _ _ _ _ (c .before .write .ensures))
 
 from-pointer-requires : tie.Need-from-pointer-requires
-from-pointer-requires c κs = search needs
+from-pointer-requires c κs =
+    let args = c .before .before .before .before .before .before .args in
+    let pre = c .before .before .before .before .before .before .pre in
+    let core = pre .0 .core in
+    (record { device = args .options .device; core = core }, c .before .before .before .before .group-of .ensures, rw (pre .1) (window-fits (args .options .device) (args .m .ports .p3) (core .ports .also .p3)), c .before .if3 .left, c .if4 .taken)
 
 with-pointed-requires : tie.Need-with-pointed-requires
 with-pointed-requires c κs = search needs

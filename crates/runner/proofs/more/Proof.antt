@@ -10,6 +10,9 @@ use Rattle.runner.proofs.more.Tie as tie
 sub-kept : tie.Need-sub-kept
 sub-kept c = search needs
 
+frame-size-requires : tie.Need-frame-size-requires
+frame-size-requires c κs = search needs
+
 sub-tell-last : tie.Need-sub-tell-last
 sub-tell-last c = search needs
 
@@ -61,8 +64,8 @@ same-length-4 c = search needs
 returns-2 : tie.Need-returns-2
 returns-2 c = rw (c .over2 .ensures) (λ e. absurd (true→T (sym e)), omega arith, omega arith)
 
-add-t30 : tie.Need-add-t30
-add-t30 c = search needs
+add-t11 : tie.Need-add-t11
+add-t11 c = search needs
 
 same-length-5 : tie.Need-same-length-5
 same-length-5 c = search needs
@@ -75,6 +78,7 @@ more-spec =
     tie.close
     (tie.spec
     sub-kept
+    frame-size-requires
     sub-tell-last
     part-tell-last-start
     part-tell-last-end
@@ -92,6 +96,6 @@ more-spec =
     same-length-3
     same-length-4
     returns-2
-    add-t30
+    add-t11
     same-length-5
     returns-3)

@@ -32,7 +32,7 @@ slice-aggregate-session-2 : tie.Need-slice-aggregate-session-2
 slice-aggregate-session-2 c = search needs
 
 session-requires : tie.Need-session-requires
-session-requires c κs = (c .before .before .before .before .before .before .before .before .before .before .before .before .before .before .pre, rw (c .before .before .before .before .before .fresh .ensures) (fresh-valid .core), rw (c .before .before .before .before .before .fresh .ensures) (fresh-valid .ram), search needs)
+session-requires c κs = (c .before .before .before .before .before .before .before .before .before .before .before .before .before .before .pre, rw (c .before .before .before .before .before .fresh .ensures) (fresh-valid (c .before .before .before .before .before .before .before .before .before .before .before .before .before .before .args .d) .core), rw (c .before .before .before .before .before .fresh .ensures) (fresh-valid (c .before .before .before .before .before .before .before .before .before .before .before .before .before .before .args .d) .ram), search needs)
 
 returns : tie.Need-returns
 returns c = search needs

@@ -9,10 +9,10 @@ use Rattle.runner.proofs.session.Statement.{statement}
 use Rattle.runner.proofs.session.Tie as tie
 
 abbrev Inv-loop : tie.InvT-loop
-Inv-loop image ram₀ part₀ out₀ core₀ from₀ to₀ turns₀ ram part out core from to turns = (ValidCore core) × (Nibbles ram) × (from ≤ to) × (to ≤ length part) × (length part ≡ length part₀) × (length out ≡ length out₀)
+Inv-loop d image ram₀ part₀ out₀ core₀ from₀ to₀ turns₀ ram part out core from to turns = (ValidCore d core) × (Nibbles ram) × (from ≤ to) × (to ≤ length part) × (length part ≡ length part₀) × (length out ≡ length out₀)
 
 abbrev μ-loop : tie.MeasureT-loop
-μ-loop image ram₀ part₀ out₀ core₀ from₀ to₀ turns₀ ram part out core from to turns = turns
+μ-loop d image ram₀ part₀ out₀ core₀ from₀ to₀ turns₀ ram part out core from to turns = turns
 
 loop-holds : tie.Need-loop-holds Inv-loop μ-loop
 loop-holds c = (c .before .before .before .pre .1, c .before .before .before .pre .2, omega arith, omega arith, refl, refl)

@@ -29,7 +29,7 @@ add-next c =
     let pre = c .before .before .before .before .before .before .before .before .before .before .before .before .before .before .pre in
     let good = c .before .before .before .before .before .before .before .before .before .before .before .before .before .before .good in
     let feed = c .before .before .before .before .before .before .feed in
-    record { fits = goes-on-fits (now (args .part)) (args .from) (args .to) _ (pre .3) (pre .4) (feed .ensures .used) (good .1 .1 .1 .0 .0) }
+    record { fits = goes-on-fits (now (args .part)) (args .from) (args .to) _ (pre .3) (pre .4) (feed .ensures .used) (good .1 .1 .1 .1 .0 .0) }
 
 same-length : tie.Need-same-length
 same-length c = search needs

@@ -3,7 +3,7 @@ use mathlib.Core.Path.{sym, _∙_}
 use borrow.Author.Tests.{le-leb, lt-leb}
 use borrow.Author.Needs.{needs}
 use Rattle.sound_command.specs.Commands.{numbered}
-use Rattle.sound_command.proofs.Texts.{same-is}
+use Rattle.text_words.proofs.Same.{same-is}
 use Rattle.sound_command.proofs.numbered.Statement.{statement}
 use Rattle.sound_command.proofs.numbered.Tie as tie
 

@@ -19,7 +19,7 @@ held-requires : tie.Need-held-requires
 held-requires c κs = search needs
 
 accept-requires : tie.Need-accept-requires
-accept-requires c κs = rw (c .held .ensures) (can-push (rw (← c .before .before .before .can-push .ensures) (not-false _ (c .before .before .if1 .left))), c .before .before .before .before .pre .0 .pc, c .before .before .before .before .pre .1)
+accept-requires c κs = rw (c .held .ensures) (can-push (rw (← c .before .before .before .can-push .ensures) (not-false _ (c .before .before .if1 .left))), c .before .before .before .before .pre .0, c .before .before .before .before .pre .1)
 
 moved-on-requires : tie.Need-moved-on-requires
 moved-on-requires c κs = search needs

@@ -11,7 +11,7 @@ has-bit-requires-2 : tie.Need-has-bit-requires-2
 has-bit-requires-2 c κs = search needs
 
 pass-requires : tie.Need-pass-requires
-pass-requires c κs = (time-in-range _ (c .before .before .pre), c .before .before .pre .ports .p25)
+pass-requires c κs = (time-in-range (c .before .before .args .m) (c .before .before .pre .0) (c .before .before .pre .1), c .before .before .pre .2)
 
 with-latches-requires : tie.Need-with-latches-requires
 with-latches-requires c κs = search needs

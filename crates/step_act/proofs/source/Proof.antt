@@ -10,14 +10,14 @@ use Rattle.step_act.proofs.source.Tie as tie
 latch-of-requires : tie.Need-latch-of-requires
 latch-of-requires c κs =
     let ints = c .before .args .m .ints in
-    subst (λ (n : ℕ). n < 6) (sym (c .before .pre .ints .due)) (number-lt (ints .il) (ints .mask))
+    subst (λ (n : ℕ). n < 6) (sym (c .before .pre .due)) (number-lt (ints .il) (ints .mask))
 
 returns : tie.Need-returns
 unfolding sourceOf
 returns c =
     let ints = c .before .before .args .m .ints in
     rw (c .before .if1 .taken)
-    (c .latch-of .ensures ∙ (ap latchOf (c .before .before .pre .ints .due) ∙ number-tells (ints .il) (ints .mask)))
+    (c .latch-of .ensures ∙ (ap latchOf (c .before .before .pre .due) ∙ number-tells (ints .il) (ints .mask)))
 
 returns-2 : tie.Need-returns-2
 unfolding sourceOf

@@ -13,7 +13,8 @@ step-refused-requires : tie.Need-step-refused-requires
 step-refused-requires c κs = search needs
 
 returns : tie.Need-returns
-returns c = look-refused-2 _ _ _ _ (λ v. denied (c .before .before .is-valid .result) (c .before .if1 .taken) (c .before .before .is-valid .ensures .complete v)) (c .step-refused .ensures)
+returns c =
+    look-refused-2 _ _ _ _ (λ v. denied (c .before .before .is-valid .result) (c .before .if1 .taken) (c .before .before .is-valid .ensures .complete v)) (c .step-refused .ensures)
 
 frame-of-requires : tie.Need-frame-of-requires
 frame-of-requires c κs = search needs
@@ -28,7 +29,8 @@ step-refused-requires-2 : tie.Need-step-refused-requires-2
 step-refused-requires-2 c κs = search needs
 
 returns-2 : tie.Need-returns-2
-returns-2 c = look-refused-3 _ _ _ _ (c .before .before .before .before .before .is-valid .ensures .sound (passes (c .before .before .before .before .before .is-valid .result) (c .before .before .before .before .if1 .left))) (sym (c .before .before .before .frame-of .ensures) ∙ c .before .enum-told .given .1) (c .step-refused2 .ensures)
+returns-2 c =
+    look-refused-3 _ _ _ _ (c .before .before .before .before .before .is-valid .ensures .sound (passes (c .before .before .before .before .before .is-valid .result) (c .before .before .before .before .if1 .left))) (sym (c .before .before .before .frame-of .ensures) ∙ c .before .enum-told .given .1) (c .step-refused2 .ensures)
 
 look-requires : tie.Need-look-requires
 look-requires c κs =

@@ -15,7 +15,7 @@ edges-timed-requires : tie.Need-edges-timed-requires
 edges-timed-requires c κs = search needs
 
 events-requires : tie.Need-events-requires
-events-requires c κs = let e = c .before .before .before .args in rw (c .edges-timed .ensures) (edges-in-range (e .m) (e .new) (c .before .before .before .pre .0) (c .before .before .before .pre .1))
+events-requires c κs = let e = c .before .before .before .args in rw (c .edges-timed .ensures) (edges-in-range (e .d) (e .m) (e .new) (c .before .before .before .pre .0) (c .before .before .before .pre .1))
 
 returns : tie.Need-returns
 unfolding edgesCounted

@@ -1,12 +1,13 @@
 -- `step_look::seen` meets its contract.
-use borrow.Author.Needs.{needs}
 use Rattle.step_look.proofs.Looking.{counted-still}
+use borrow.Author.Needs.{needs}
 use Rattle.step_look.proofs.seen.Statement.{statement}
 use Rattle.step_look.proofs.seen.Tie as tie
 
 returns : tie.Need-returns
 returns c =
-    rw (counted-still (c .before .before .before .args .m) (c .before .before .before .args .new) (c .if1 .taken), ← c .before .before .before .pre .0 .due)
+    let args = c .before .before .before .before .before .args in
+    rw (counted-still (args .d) (args .m) (args .new) (c .if2 .taken) (c .before .before .before .if1 .taken), ← c .before .before .before .before .before .pre .0 .due)
 
 counted-requires : tie.Need-counted-requires
 counted-requires c κs = search needs

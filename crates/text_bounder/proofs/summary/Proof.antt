@@ -1,4 +1,4 @@
--- `text_bounder::summary` meets its contract.
+-- `text_bounder::proofs::summary` meets its contract.
 use native.Mathlib.Omega.{arith}
 use Rattle.laws.proofs.Writing.{wrote-then}
 use Rattle.text_bounder.proofs.Values.{excluded-small, repeats-small, short-small, longest-small, few-places}
@@ -17,6 +17,12 @@ enum-told-2 c = search needs
 
 refused-requires-2 : tie.Need-refused-requires-2
 refused-requires-2 c κs = search needs
+
+enum-told-3 : tie.Need-enum-told-3
+enum-told-3 c = search needs
+
+refused-requires-3 : tie.Need-refused-requires-3
+refused-requires-3 c κs = search needs
 
 enum-known-answer : tie.Need-enum-known-answer
 enum-known-answer c = search needs
@@ -39,8 +45,14 @@ refused-at-requires-2 c κs = search needs
 enum-known-answer-3 : tie.Need-enum-known-answer-3
 enum-known-answer-3 c = search needs
 
-refused-requires-3 : tie.Need-refused-requires-3
-refused-requires-3 c κs = search needs
+cast-refused-bytes : tie.Need-cast-refused-bytes
+cast-refused-bytes c = omega (arith, short-small (c .before .before .answer3 .given .1) (c .before .before .before .before .before .pre .0))
+
+refused-bytes-requires : tie.Need-refused-bytes-requires
+refused-bytes-requires c κs = (short-small (c .before .before .answer3 .given .1) (c .before .before .before .before .before .pre .0), c .before .before .before .before .before .pre .1)
+
+enum-known-answer-4 : tie.Need-enum-known-answer-4
+enum-known-answer-4 c = search needs
 
 slice-aggregate-put-text : tie.Need-slice-aggregate-put-text
 slice-aggregate-put-text c = search needs
@@ -49,25 +61,10 @@ put-text-requires : tie.Need-put-text-requires
 put-text-requires c κs = search needs
 
 cast-decimal : tie.Need-cast-decimal
-cast-decimal c = omega (arith, short-small (c .before .before .before .before .before .before .before .before .before .before .before .answer3 .given .1) (c .before .before .before .before .before .before .before .before .before .before .before .before .before .before .pre .0))
+cast-decimal c = omega (arith, longest-small (c .before .before .before .before .before .before .before .answer4 .given .1) (c .before .before .before .before .before .before .before .before .before .before .pre .0))
 
 decimal-requires : tie.Need-decimal-requires
-decimal-requires c κs = (omega (arith, short-small (c .before .before .before .before .before .before .before .before .before .before .before .answer3 .given .1) (c .before .before .before .before .before .before .before .before .before .before .before .before .before .before .pre .0)), omega (arith, few-places _ (short-small (c .before .before .before .before .before .before .before .before .before .before .before .answer3 .given .1) (c .before .before .before .before .before .before .before .before .before .before .before .before .before .before .pre .0)), c .before .before .before .before .before .before .before .before .refused3 .ensures .1, c .before .before .before .put-text .ensures .end, c .before .before .before .before .before .before .before .before .refused3 .ensures .0 .size, c .before .before .before .put-text .ensures .size, c .before .before .before .before .before .before .before .before .before .before .before .before .before .before .pre .1))
-
-enum-known-answer-4 : tie.Need-enum-known-answer-4
-enum-known-answer-4 c = search needs
-
-slice-aggregate-put-text-2 : tie.Need-slice-aggregate-put-text-2
-slice-aggregate-put-text-2 c = search needs
-
-put-text-requires-2 : tie.Need-put-text-requires-2
-put-text-requires-2 c κs = search needs
-
-cast-decimal-2 : tie.Need-cast-decimal-2
-cast-decimal-2 c = omega (arith, longest-small (c .before .before .before .before .before .before .before .answer4 .given .1) (c .before .before .before .before .before .before .before .before .before .before .pre .0))
-
-decimal-requires-2 : tie.Need-decimal-requires-2
-decimal-requires-2 c κs = (omega (arith, longest-small (c .before .before .before .before .before .before .before .answer4 .given .1) (c .before .before .before .before .before .before .before .before .before .before .pre .0)), omega (arith, few-places _ (longest-small (c .before .before .before .before .before .before .before .answer4 .given .1) (c .before .before .before .before .before .before .before .before .before .before .pre .0)), c .before .before .before .put-text2 .ensures .end, c .before .before .before .put-text2 .ensures .size, c .before .before .before .before .before .before .before .before .before .before .pre .1))
+decimal-requires c κs = (omega (arith, longest-small (c .before .before .before .before .before .before .before .answer4 .given .1) (c .before .before .before .before .before .before .before .before .before .before .pre .0)), omega (arith, few-places _ (longest-small (c .before .before .before .before .before .before .before .answer4 .given .1) (c .before .before .before .before .before .before .before .before .before .before .pre .0)), c .before .before .before .put-text .ensures .end, c .before .before .before .put-text .ensures .size, c .before .before .before .before .before .before .before .before .before .before .pre .1))
 
 same-length : tie.Need-same-length
 same-length c = search needs
@@ -85,25 +82,31 @@ same-length-3 : tie.Need-same-length-3
 same-length-3 c = search needs
 
 returns-3 : tie.Need-returns-3
-returns-3 c = rw (c .before .before .before .before .before .answer .given .1) (c .before .before .refused-at .ensures .0, omega (arith, c .before .before .refused-at .ensures .1))
+returns-3 c = rw (c .before .before .before .before .enum-told3 .given .1) (c .before .before .refused3 .ensures .0, omega (arith, c .before .before .refused3 .ensures .1))
 
 same-length-4 : tie.Need-same-length-4
 same-length-4 c = search needs
 
 returns-4 : tie.Need-returns-4
-returns-4 c = rw (c .before .before .before .before .before .answer2 .given .1) (c .before .before .refused-at2 .ensures .0, omega (arith, c .before .before .refused-at2 .ensures .1))
+returns-4 c = rw (c .before .before .before .before .before .answer .given .1) (c .before .before .refused-at .ensures .0, omega (arith, c .before .before .refused-at .ensures .1))
 
 same-length-5 : tie.Need-same-length-5
 same-length-5 c = search needs
 
 returns-5 : tie.Need-returns-5
-returns-5 c = rw (c .before .before .before .before .before .before .before .before .before .before .before .before .before .before .answer3 .given .1) (wrote-then (c .before .before .before .before .before .before .before .before .before .before .before .refused3 .ensures .0) (wrote-then (c .before .before .before .before .before .before .put-text .ensures) (c .before .before .decimal .ensures .0)), omega (arith, few-places _ (short-small (c .before .before .before .before .before .before .before .before .before .before .before .before .before .before .answer3 .given .1) (c .before .before .before .before .before .before .before .before .before .before .before .before .before .before .before .before .before .pre .0)), c .before .before .decimal .ensures .1, c .before .before .before .before .before .before .put-text .ensures .end, c .before .before .before .before .before .before .before .before .before .before .before .refused3 .ensures .1))
+returns-5 c = rw (c .before .before .before .before .before .answer2 .given .1) (c .before .before .refused-at2 .ensures .0, omega (arith, c .before .before .refused-at2 .ensures .1))
 
 same-length-6 : tie.Need-same-length-6
 same-length-6 c = search needs
 
 returns-6 : tie.Need-returns-6
-returns-6 c = rw (c .before .before .before .before .before .before .before .before .before .before .answer4 .given .1) (wrote-then (c .before .before .before .before .before .before .put-text2 .ensures) (c .before .before .decimal2 .ensures .0), omega (arith, few-places _ (longest-small (c .before .before .before .before .before .before .before .before .before .before .answer4 .given .1) (c .before .before .before .before .before .before .before .before .before .before .before .before .before .pre .0)), c .before .before .decimal2 .ensures .1, c .before .before .before .before .before .before .put-text2 .ensures .end))
+returns-6 c = rw (c .before .before .before .before .before .answer3 .given .1) (c .before .before .refused-bytes .ensures .0, omega (arith, c .before .before .refused-bytes .ensures .1))
+
+same-length-7 : tie.Need-same-length-7
+same-length-7 c = search needs
+
+returns-7 : tie.Need-returns-7
+returns-7 c = rw (c .before .before .before .before .before .before .before .before .before .before .answer4 .given .1) (wrote-then (c .before .before .before .before .before .before .put-text .ensures) (c .before .before .decimal .ensures .0), omega (arith, few-places _ (longest-small (c .before .before .before .before .before .before .before .before .before .before .answer4 .given .1) (c .before .before .before .before .before .before .before .before .before .before .before .before .before .pre .0)), c .before .before .decimal .ensures .1, c .before .before .before .before .before .before .put-text .ensures .end))
 
 pub summary-spec : {M : Type 1} → statement M
 summary-spec =
@@ -113,6 +116,8 @@ summary-spec =
     refused-requires
     enum-told-2
     refused-requires-2
+    enum-told-3
+    refused-requires-3
     enum-known-answer
     cast-refused-at
     refused-at-requires
@@ -120,16 +125,13 @@ summary-spec =
     cast-refused-at-2
     refused-at-requires-2
     enum-known-answer-3
-    refused-requires-3
+    cast-refused-bytes
+    refused-bytes-requires
+    enum-known-answer-4
     slice-aggregate-put-text
     put-text-requires
     cast-decimal
     decimal-requires
-    enum-known-answer-4
-    slice-aggregate-put-text-2
-    put-text-requires-2
-    cast-decimal-2
-    decimal-requires-2
     same-length
     returns
     same-length-2
@@ -141,4 +143,6 @@ summary-spec =
     same-length-5
     returns-5
     same-length-6
-    returns-6)
+    returns-6
+    same-length-7
+    returns-7)

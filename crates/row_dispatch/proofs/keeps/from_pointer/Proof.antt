@@ -9,10 +9,10 @@ use Rattle.row_dispatch.proofs.keeps.from_pointer.Statement.{statement}
 use Rattle.row_dispatch.proofs.keeps.from_pointer.Tie as tie
 
 store-pointer-requires : tie.Need-store-pointer-requires
-store-pointer-requires c κs = asks (c .before .before .pre .0) (c .before .before .pre .1) 14 (c .match .keys1)
+store-pointer-requires c κs = asks (c .before .before .pre .0 .core) (c .before .before .pre .1) 14 (c .match .keys1)
 
 store-timer-requires : tie.Need-store-timer-requires
-store-timer-requires c κs = asks (c .before .before .pre .0) (c .before .before .pre .1) 15 (c .match .keys2)
+store-timer-requires c κs = asks (c .before .before .pre .0 .core) (c .before .before .pre .1) 15 (c .match .keys2)
 
 rom-byte-requires : tie.Need-rom-byte-requires
 rom-byte-requires c κs = search needs
@@ -33,10 +33,10 @@ returns-2 : tie.Need-returns-2
 returns-2 c = pointed _ _ _ _ (c .store-timer .ensures)
 
 returns-3 : tie.Need-returns-3
-returns-3 c = rom-read _ _ _ 3 _ (first romLow _ (regrouped (c .before .before .before .before .pre .0) (c .before .before .before .before .pre .1) 16 (c .before .before .match .keys3) .row) tt) (rw (← c .before .rom-byte .ensures) (c .load-low .ensures))
+returns-3 c = rom-read _ _ _ 3 _ (first romLow _ (regrouped (c .before .before .before .before .pre .0 .core) (c .before .before .before .before .pre .1) 16 (c .before .before .match .keys3) .row) tt) (rw (← c .before .rom-byte .ensures) (c .load-low .ensures))
 
 returns-4 : tie.Need-returns-4
-returns-4 c = rom-read _ _ _ 4 _ (first romHigh _ (regrouped (c .before .before .before .before .pre .0) (c .before .before .before .before .pre .1) 17 (last (16 ∷ 15 ∷ 14 ∷ []) 14 18 17 tt _ (c .before .before .before .before .pre .3) (c .before .before .before .before .pre .4) (c .before .before .match .rest)) .row) tt) (rw (← c .before .rom-byte2 .ensures) (c .load-high .ensures))
+returns-4 c = rom-read _ _ _ 4 _ (first romHigh _ (regrouped (c .before .before .before .before .pre .0 .core) (c .before .before .before .before .pre .1) 17 (last (16 ∷ 15 ∷ 14 ∷ []) 14 18 17 tt _ (c .before .before .before .before .pre .3) (c .before .before .before .before .pre .4) (c .before .before .match .rest)) .row) tt) (rw (← c .before .rom-byte2 .ensures) (c .load-high .ensures))
 
 pub from-pointer-spec : {M : Type 1} → statement M
 from-pointer-spec =

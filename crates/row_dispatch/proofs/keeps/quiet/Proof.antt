@@ -8,31 +8,31 @@ use Rattle.row_dispatch.proofs.keeps.quiet.Statement.{statement}
 use Rattle.row_dispatch.proofs.keeps.quiet.Tie as tie
 
 cast-moved : tie.Need-cast-moved
-cast-moved c = omega (arith, regrouped (c .before .before .pre .0) (c .before .before .pre .1) 0 (c .before .match .keys1) .a)
+cast-moved c = omega (arith, regrouped (c .before .before .pre .0 .core) (c .before .before .pre .1) 0 (c .before .match .keys1) .a)
 
 moved-requires : tie.Need-moved-requires
-moved-requires c κs = low (c .before .before .pre .0) (c .before .before .pre .1) 0 (c .before .match .keys1) refl
+moved-requires c κs = low (c .before .before .pre .0 .core) (c .before .before .pre .1) 0 (c .before .match .keys1) refl
 
 cast-made : tie.Need-cast-made
-cast-made c = omega (arith, regrouped (c .before .before .pre .0) (c .before .before .pre .1) 1 (c .before .match .keys2) .a)
+cast-made c = omega (arith, regrouped (c .before .before .pre .0 .core) (c .before .before .pre .1) 1 (c .before .match .keys2) .a)
 
 made-requires : tie.Need-made-requires
-made-requires c κs = low (c .before .before .pre .0) (c .before .before .pre .1) 1 (c .before .match .keys2) refl
+made-requires c κs = low (c .before .before .pre .0 .core) (c .before .before .pre .1) 1 (c .before .match .keys2) refl
 
 cast-asked : tie.Need-cast-asked
-cast-asked c = omega (arith, regrouped (c .before .before .pre .0) (c .before .before .pre .1) 2 (c .before .match .keys3) .a)
+cast-asked c = omega (arith, regrouped (c .before .before .pre .0 .core) (c .before .before .pre .1) 2 (c .before .match .keys3) .a)
 
 asked-requires : tie.Need-asked-requires
-asked-requires c κs = low (c .before .before .pre .0) (c .before .before .pre .1) 2 (c .before .match .keys3) refl
+asked-requires c κs = low (c .before .before .pre .0 .core) (c .before .before .pre .1) 2 (c .before .match .keys3) refl
 
 branched-requires : tie.Need-branched-requires
-branched-requires c κs = (c .before .pre .0 .pc, regrouped (c .before .pre .0) (c .before .pre .1) 3 (c .match .keys4) .a, regrouped (c .before .pre .0) (c .before .pre .1) 3 (c .match .keys4) .row)
+branched-requires c κs = (c .before .pre .0 .core .pc, regrouped (c .before .pre .0 .core) (c .before .pre .1) 3 (c .match .keys4) .a, regrouped (c .before .pre .0 .core) (c .before .pre .1) 3 (c .match .keys4) .row)
 
 load-pointer-requires : tie.Need-load-pointer-requires
-load-pointer-requires c κs = asks (c .before .pre .0) (c .before .pre .1) 4 (c .match .keys5)
+load-pointer-requires c κs = asks (c .before .pre .0 .core) (c .before .pre .1) 4 (c .match .keys5)
 
 load-timer-requires : tie.Need-load-timer-requires
-load-timer-requires c κs = asks (c .before .pre .0) (c .before .pre .1) 5 (last (4 ∷ 3 ∷ 2 ∷ 1 ∷ 0 ∷ []) 0 6 5 tt _ (omega arith) (c .before .pre .2) (c .match .rest))
+load-timer-requires c κs = asks (c .before .pre .0 .core) (c .before .pre .1) 5 (last (4 ∷ 3 ∷ 2 ∷ 1 ∷ 0 ∷ []) 0 6 5 tt _ (omega arith) (c .before .pre .2) (c .match .rest))
 
 returns : tie.Need-returns
 returns c = settled _ _ _ (c .moved .ensures)

@@ -7,16 +7,16 @@ use Rattle.row_dispatch.proofs.lends.read.Statement.{statement}
 use Rattle.row_dispatch.proofs.lends.read.Tie as tie
 
 read-by-hl-requires : tie.Need-read-by-hl-requires
-read-by-hl-requires c κs = fits (c .before .pre .0) (c .before .pre .2) 6 (c .match .keys1) (c .before .pre .1)
+read-by-hl-requires c κs = fits (c .before .pre .0 .core) (c .before .pre .2) 6 (c .match .keys1) (c .before .pre .1)
 
 read-by-x-requires : tie.Need-read-by-x-requires
-read-by-x-requires c κs = fits (c .before .pre .0) (c .before .pre .2) 7 (c .match .keys2) (c .before .pre .1)
+read-by-x-requires c κs = fits (c .before .pre .0 .core) (c .before .pre .2) 7 (c .match .keys2) (c .before .pre .1)
 
 read-by-y-requires : tie.Need-read-by-y-requires
-read-by-y-requires c κs = fits (c .before .pre .0) (c .before .pre .2) 8 (c .match .keys3) (c .before .pre .1)
+read-by-y-requires c κs = fits (c .before .pre .0 .core) (c .before .pre .2) 8 (c .match .keys3) (c .before .pre .1)
 
 load-pair-requires : tie.Need-load-pair-requires
-load-pair-requires c κs = fits (c .before .pre .0) (c .before .pre .2) 9 (last (8 ∷ 7 ∷ 6 ∷ []) 6 10 9 tt _ (c .before .pre .3) (c .before .pre .4) (c .match .rest)) (c .before .pre .1)
+load-pair-requires c κs = fits (c .before .pre .0 .core) (c .before .pre .2) 9 (last (8 ∷ 7 ∷ 6 ∷ []) 6 10 9 tt _ (c .before .pre .3) (c .before .pre .4) (c .match .rest)) (c .before .pre .1)
 
 returns : tie.Need-returns
 returns c = search needs

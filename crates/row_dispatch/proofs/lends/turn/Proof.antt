@@ -5,6 +5,7 @@ use borrow.Author.Needs.{needs}
 use Rattle.laws.proofs.Among.{first}
 use Rattle.row_dispatch.specs.Groups.{portToCell, cellToPort}
 use Rattle.row_dispatch.proofs.Groups.{last}
+use Rattle.row.proofs.PlacesValid.{latch-low}
 use Rattle.row_dispatch.proofs.Arms.{regrouped, turned, ported, ported-by}
 use Rattle.row_dispatch.proofs.lends.turn.Statement.{statement}
 use Rattle.row_dispatch.proofs.lends.turn.Tie as tie
@@ -25,7 +26,7 @@ cast-write-row : tie.Need-cast-write-row
 cast-write-row c = omega (arith, regrouped (c .before .before .pre .0) (c .before .before .pre .2) 21 (c .before .match .keys4) .a)
 
 write-row-requires : tie.Need-write-row-requires
-write-row-requires c κs = let v = c .before .before .pre .0 in record { regs = v .regs; pc = v .pc; ports = v .ports; port = c .before .before .pre .2 .b; listed = regrouped (c .before .before .pre .0) (c .before .before .pre .2) 21 (c .before .match .keys4) .row }
+write-row-requires c κs = let v = c .before .before .pre .0 in record { regs = v .regs; pc = v .pc; latches = λ n. latch-low _ n (v .ports); port = c .before .before .pre .2 .b; listed = regrouped (c .before .before .pre .0) (c .before .before .pre .2) 21 (c .before .match .keys4) .row }
 
 cast-read-row : tie.Need-cast-read-row
 cast-read-row c = omega (arith, regrouped (c .before .before .pre .0) (c .before .before .pre .2) 22 (c .before .match .keys5) .a)
@@ -49,7 +50,7 @@ returns-3 : tie.Need-returns-3
 returns-3 c = turned _ _ _ _ _ _ (c .call .ensures)
 
 returns-4 : tie.Need-returns-4
-returns-4 c = ported _ _ _ _ _ _ (c .write-row .ensures .ported _ _)
+returns-4 c = ported _ _ _ _ _ _ (c .write-row .ensures .ported _)
 
 returns-5 : tie.Need-returns-5
 returns-5 c = ported _ _ _ _ _ _ (c .read-row .ensures .ported _)
@@ -58,7 +59,7 @@ returns-6 : tie.Need-returns-6
 returns-6 c = ported-by _ _ 75 _ _ _ _ (first portToCell _ (regrouped (c .before .before .before .pre .0) (c .before .before .before .pre .2) 23 (c .before .before .match .keys6) .row) tt) (c .read-to-cell .ensures .ported _)
 
 returns-7 : tie.Need-returns-7
-returns-7 c = ported-by _ _ 78 _ _ _ _ (first cellToPort _ (regrouped (c .before .before .before .pre .0) (c .before .before .before .pre .2) 24 (last (23 ∷ 22 ∷ 21 ∷ 20 ∷ 19 ∷ 18 ∷ []) 18 25 24 tt _ (c .before .before .before .pre .3) (c .before .before .before .pre .4) (c .before .before .match .rest)) .row) tt) (c .write-from-cell .ensures .ported _ _)
+returns-7 c = ported-by _ _ 78 _ _ _ _ (first cellToPort _ (regrouped (c .before .before .before .pre .0) (c .before .before .before .pre .2) 24 (last (23 ∷ 22 ∷ 21 ∷ 20 ∷ 19 ∷ 18 ∷ []) 18 25 24 tt _ (c .before .before .before .pre .3) (c .before .before .before .pre .4) (c .before .before .match .rest)) .row) tt) (c .write-from-cell .ensures .ported _)
 
 pub turn-spec : {M : Type 1} → statement M
 turn-spec =

@@ -7,16 +7,16 @@ use Rattle.row_dispatch.proofs.lends.write.Statement.{statement}
 use Rattle.row_dispatch.proofs.lends.write.Tie as tie
 
 write-by-hl-requires : tie.Need-write-by-hl-requires
-write-by-hl-requires c κs = fits (c .before .before .pre .0) (c .before .before .pre .2) 10 (c .before .match .keys1) (c .before .before .pre .1)
+write-by-hl-requires c κs = fits (c .before .before .pre .0 .core) (c .before .before .pre .2) 10 (c .before .match .keys1) (c .before .before .pre .1)
 
 write-by-x-requires : tie.Need-write-by-x-requires
-write-by-x-requires c κs = fits (c .before .before .pre .0) (c .before .before .pre .2) 11 (c .before .match .keys2) (c .before .before .pre .1)
+write-by-x-requires c κs = fits (c .before .before .pre .0 .core) (c .before .before .pre .2) 11 (c .before .match .keys2) (c .before .before .pre .1)
 
 write-by-y-requires : tie.Need-write-by-y-requires
-write-by-y-requires c κs = fits (c .before .before .pre .0) (c .before .before .pre .2) 12 (c .before .match .keys3) (c .before .before .pre .1)
+write-by-y-requires c κs = fits (c .before .before .pre .0 .core) (c .before .before .pre .2) 12 (c .before .match .keys3) (c .before .before .pre .1)
 
 exchange-pair-requires : tie.Need-exchange-pair-requires
-exchange-pair-requires c κs = fits (c .before .before .pre .0) (c .before .before .pre .2) 13 (last (12 ∷ 11 ∷ 10 ∷ []) 10 14 13 tt _ (c .before .before .pre .3) (c .before .before .pre .4) (c .before .match .rest)) (c .before .before .pre .1)
+exchange-pair-requires c κs = fits (c .before .before .pre .0 .core) (c .before .before .pre .2) 13 (last (12 ∷ 11 ∷ 10 ∷ []) 10 14 13 tt _ (c .before .before .pre .3) (c .before .before .pre .4) (c .before .match .rest)) (c .before .before .pre .1)
 
 returns : tie.Need-returns
 returns c = search needs

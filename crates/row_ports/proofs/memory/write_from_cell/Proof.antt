@@ -15,13 +15,13 @@ written-requires : tie.Need-written-requires
 written-requires c κs = search needs
 
 returns : tie.Need-returns
-returns c = rw (c .written .ensures, c .before .peek .ensures .value, c .before .before .before .at-hl .ensures) (outm _ _ _ (rw (← c .before .before .before .at-hl .ensures) (lt-ltb _ 372 (c .before .before .if1 .taken))))
+returns c = rw (c .written .ensures, c .before .peek .ensures .value, c .before .before .before .at-hl .ensures) (outm _ _ _ _ (rw (← c .before .before .before .at-hl .ensures) (lt-ltb _ 372 (c .before .before .if1 .taken))))
 
 stopped-requires : tie.Need-stopped-requires
 stopped-requires c κs = search needs
 
 returns-2 : tie.Need-returns-2
-returns-2 c = rw (c .stopped .ensures) (outm-absent _ _ _ (rw (← c .before .before .at-hl .ensures) (le-ltb _ 372 (c .before .if1 .left))))
+returns-2 c = rw (c .stopped .ensures) (outm-absent _ _ _ _ (rw (← c .before .before .at-hl .ensures) (le-ltb _ 372 (c .before .if1 .left))))
 
 pub write-from-cell-spec : {M : Type 1} → statement M
 write-from-cell-spec =

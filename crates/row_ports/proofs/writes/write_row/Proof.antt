@@ -43,22 +43,22 @@ written-requires-2 : tie.Need-written-requires-2
 written-requires-2 c κs = search needs
 
 returns : tie.Need-returns
-returns c = rw (c .before .before .match .keys1, c .bit-cleared .ensures, c .before .weight .ensures .value) (clp _ _ _)
+returns c = rw (c .before .before .match .keys1, c .bit-cleared .ensures, c .before .weight .ensures .value) (clp _ _ _ _)
 
 returns-2 : tie.Need-returns-2
-returns-2 c = rw (c .before .before .match .keys2, c .bit-cleared2 .ensures, c .before .weight2 .ensures .value) (clpl _ _ _)
+returns-2 c = rw (c .before .before .match .keys2, c .bit-cleared2 .ensures, c .before .weight2 .ensures .value) (clpl _ _ _ _)
 
 returns-3 : tie.Need-returns-3
-returns-3 c = rw (c .before .before .match .keys3, c .bit-set .ensures, c .before .weight3 .ensures .value) (sep _ _ _)
+returns-3 c = rw (c .before .before .match .keys3, c .bit-set .ensures, c .before .weight3 .ensures .value) (sep _ _ _ _)
 
 returns-4 : tie.Need-returns-4
-returns-4 c = rw (c .before .before .match .keys4, c .bit-set2 .ensures, c .before .weight4 .ensures .value) (sepl _ _ _)
+returns-4 c = rw (c .before .before .match .keys4, c .bit-set2 .ensures, c .before .weight4 .ensures .value) (sepl _ _ _ _)
 
 returns-5 : tie.Need-returns-5
-returns-5 c = rw (c .before .match .keys5, c .written .ensures) (out _ _ _)
+returns-5 c = rw (c .before .match .keys5, c .written .ensures) (out _ _ _ _)
 
 returns-6 : tie.Need-returns-6
-returns-6 c = rw (first writing _ (c .before .before .pre .listed) (c .before .match .rest), c .written2 .ensures) (outa _ _ _)
+returns-6 c = rw (first writing _ (c .before .before .pre .listed) (c .before .match .rest), c .written2 .ensures) (outa _ _ _ _)
 
 pub write-row-spec : {M : Type 1} → statement M
 write-row-spec =

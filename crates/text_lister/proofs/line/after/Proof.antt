@@ -1,7 +1,7 @@
--- `text_lister::line::after` meets its contract.
+-- `text_lister::proofs::line::after` meets its contract.
 use mathlib.Core.Path.{sym, _∙_}
 use denote.Ref.{now}
-use Rattle.sheet.specs.Reading.{romOf}
+use Rattle.device.specs.Device.{romOf}
 use Rattle.text_lister.proofs.Costs.{bytes-are, none-next}
 use borrow.Author.Needs.{needs}
 use Rattle.text_lister.proofs.line.after.Statement.{statement}
@@ -17,10 +17,10 @@ add-result : tie.Need-add-result
 add-result c = search needs
 
 returns : tie.Need-returns
-returns c = none-next (romOf (now (c .before .before .before .args .image))) (c .before .before .before .args .at) (c .before .read-at .result) (c .before .read-at .ensures) (c .match .keys2)
+returns c = none-next (romOf (now (c .before .before .before .args .image)) (c .before .before .before .args .p3)) (c .before .before .before .args .at) (c .before .read-at .result) (c .before .read-at .ensures) (c .match .keys2)
 
-shared-slice-read-timing : tie.Need-shared-slice-read-timing
-shared-slice-read-timing c = search needs
+byte-at-requires : tie.Need-byte-at-requires
+byte-at-requires c κs = search needs
 
 timing-requires : tie.Need-timing-requires
 timing-requires c κs = search needs
@@ -32,9 +32,7 @@ add-result-2 : tie.Need-add-result-2
 add-result-2 c = search needs
 
 returns-2 : tie.Need-returns-2
-returns-2 c =
-    let e = sym (c .before .before .before .before .before .read-at .ensures) ∙ c .before .before .before .enum-told .given .1 in
-    rw (e, ← bytes-are (romOf (now (c .before .before .before .before .before .before .before .args .image))) (c .before .before .before .before .before .before .before .args .at) e (c .before .timing .ensures .0))
+returns-2 c = let e = sym (c .before .before .before .before .before .read-at .ensures) ∙ c .before .before .before .enum-told .given .1 in rw (e, ← bytes-are (romOf (now (c .before .before .before .before .before .before .before .args .image)) (c .before .before .before .before .before .before .before .args .p3)) (c .before .before .before .before .before .before .before .args .at) e (rw (c .before .before .byte-at .ensures) at (c .before .timing .ensures .0)))
 
 pub after-spec : {M : Type 1} → statement M
 after-spec =
@@ -44,7 +42,7 @@ after-spec =
     enum-told
     add-result
     returns
-    shared-slice-read-timing
+    byte-at-requires
     timing-requires
     cast-result
     add-result-2

@@ -3,20 +3,20 @@ use Prim.Native.Nat.{_+_, _*_, _≤_}
 use native.Mathlib.Omega.{arith}
 use denote.Ref.{now}
 use lib.ListN.{length}
+use Rattle.device.specs.Device.{romOf}
 use Rattle.laws.specs.Writing.{Writing}
 use Rattle.laws.proofs.Writing.{writing-all, writing-more, writing-none}
-use Rattle.sheet.specs.Reading.{romOf}
 use Rattle.text_lister.specs.Listing.{sweptLines}
 use Rattle.text_lister.proofs.Sweeps.{listing-past, listing-none, listing-more}
 use Rattle.text_lister.proofs.line.listing.Statement.{statement}
 use Rattle.text_lister.proofs.line.listing.Tie as tie
 
 abbrev Inv-loop : tie.InvT-loop
-Inv-loop out₀ image from count end₀ at₀ left₀ out end at left =
-    Writing out₀ out 0 end (sweptLines (romOf image) at left) (sweptLines (romOf image) from count) × (end + 37 * left + 3 ≤ length out)
+Inv-loop out₀ image p3 from count end₀ at₀ left₀ out end at left =
+    Writing out₀ out 0 end (sweptLines (romOf image p3) at left) (sweptLines (romOf image p3) from count) × (end + 37 * left + 3 ≤ length out)
 
 abbrev μ-loop : tie.MeasureT-loop
-μ-loop out₀ image from count end₀ at₀ left₀ out end at left = left
+μ-loop out₀ image p3 from count end₀ at₀ left₀ out end at left = left
 
 loop-holds : tie.Need-loop-holds Inv-loop μ-loop
 loop-holds c = (writing-all _ (omega arith), omega arith)
@@ -25,7 +25,7 @@ same-length : tie.Need-same-length Inv-loop μ-loop
 same-length c = c .before .before .loop .inv .0 .wrote .size
 
 returns : tie.Need-returns Inv-loop μ-loop
-returns c = writing-none (rw (listing-past (romOf (now (c .before .before .before .before .before .args .image))) (c .before .before .loop .at) (c .before .before .loop .left) (omega arith)) at (c .before .before .loop .inv .0))
+returns c = writing-none (rw (listing-past (romOf (now (c .before .before .before .before .before .args .image)) (c .before .before .before .before .before .args .p3)) (c .before .before .loop .at) (c .before .before .loop .left) (omega arith)) at (c .before .before .loop .inv .0))
 
 line-requires : tie.Need-line-requires Inv-loop μ-loop
 line-requires c κs = omega arith
@@ -41,7 +41,7 @@ loop-less c = omega arith
 
 loop-again : tie.Need-loop-again Inv-loop μ-loop
 loop-again c = (
-  rw (c .after .ensures) (writing-more (rw (listing-more (romOf (now (c .before .before .before .before .before .before .before .before .before .before .args .image))) (c .before .before .before .before .before .before .before .loop .at) (c .before .before .before .before .before .before .before .loop .left) (omega arith) (omega arith)) at (c .before .before .before .before .before .before .before .loop .inv .0)) (c .before .before .before .line .ensures .0)),
+  rw (c .after .ensures) (writing-more (rw (listing-more (romOf (now (c .before .before .before .before .before .before .before .before .before .before .args .image)) (c .before .before .before .before .before .before .before .before .before .before .args .p3)) (c .before .before .before .before .before .before .before .loop .at) (c .before .before .before .before .before .before .before .loop .left) (omega arith) (omega arith)) at (c .before .before .before .before .before .before .before .loop .inv .0)) (c .before .before .before .line .ensures .0)),
   omega arith,
 )
 
@@ -49,7 +49,7 @@ same-length-2 : tie.Need-same-length-2 Inv-loop μ-loop
 same-length-2 c = c .before .loop .inv .0 .wrote .size
 
 returns-2 : tie.Need-returns-2 Inv-loop μ-loop
-returns-2 c = writing-none (rw (listing-none (romOf (now (c .before .before .before .before .args .image))) (c .before .loop .at) {n = c .before .loop .left} (omega arith)) at (c .before .loop .inv .0))
+returns-2 c = writing-none (rw (listing-none (romOf (now (c .before .before .before .before .args .image)) (c .before .before .before .before .args .p3)) (c .before .loop .at) {n = c .before .loop .left} (omega arith)) at (c .before .loop .inv .0))
 
 pub listing-spec : {M : Type 1} → statement M
 listing-spec =
