@@ -5,7 +5,7 @@
  * A slice is a pointer and a length; a slice of no bytes may have any pointer. No two arguments of a call overlap.
  * crates/calls/specs/Calls.antt says what each call answers, and crates/machine_bytes/specs/Layout.antt the bytes of a record.
  *
- * A record is 411 bytes, each number in one byte unless said otherwise:
+ * A record is 416 bytes, each number in one byte unless said otherwise:
  *   0 ACC, 1 HR, 2 LR, 3 SP, 4 mask,
  *   5 to 15 the latches of P4, P8, P9, P16, P23, P24, P25, P27, P28, P29, P30,
  *   16 PC, 18 DP, 20 TA, 22 TB (two bytes each, low first),
@@ -16,7 +16,8 @@
  *   36 the mode: 0 running, 1 sleep, 2 hold,
  *   37 the mark that a look leaves in sleep or hold (0 or 1),
  *   38 the source that would be accepted were EI set: 0 none, 1 to 5 INT0, TRGA, TRGB, TBI, INT1,
- *   39 to 410 RAM, a nibble a byte: 000h to 0F3h, then 100h to 17Fh.
+ *   39 P3, 40 P5, 41 P6, 42 P17, 43 the fourth digit of the last frame: 0, since only the EM73P982 has them,
+ *   44 to 415 RAM, a nibble a byte: 000h to 0F3h, then 100h to 17Fh.
  * A buffer of another length, a flag or the mark over 1 and a mode over 2 are refused with 2, as every value outside its range is, and a due
  * source that disagrees with latches and mask.
  *
@@ -26,7 +27,7 @@
 #define EM73862_H
 #include "em73862_pane.h"
 
-#define EM73862_RECORD_BYTES 411
+#define EM73862_RECORD_BYTES 416
 #define EM73862_FRAME_CHARACTERS 3
 #define EM73862_MOST_FRAMES 65536
 #define EM73862_DISPLAY_BYTES 40

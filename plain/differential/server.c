@@ -1,10 +1,10 @@
-/* Answers the calls of em73862.h over its standard input and output, for a program that cannot link them.
+/* Answers the calls of em73862.h and em73p982.h over its standard input and output, for a program that cannot link them.
  *
  * A request is a struct request, then its changing and its steady buffer; an answer is a struct answer, then the changing
  * buffer as the call left it. Request 0 only gives the image (its steady buffer) of the calls that follow, and has no
  * answer. It ends at the end of its input, and with status 1 where a request is none.
  */
-#include "em73862.h"
+#include "em73p982.h"
 
 /* libc's; the kit has no header of them. */
 long read(int file, void *bytes, size_t length);
@@ -15,7 +15,7 @@ int memcmp(const void *one, const void *other, size_t length);
 void _exit(int status) __attribute__((noreturn));
 
 struct request {
-    uint32_t call, first, second, third, changing_length, steady_length;
+    uint32_t call, device, first, second, third, changing_length, steady_length;
 };
 
 struct answer {
@@ -78,69 +78,100 @@ static int others_kept(const struct request *r) {
     return !memcmp(image, image_copy, image_length) && !memcmp(steady, steady_copy, r->steady_length);
 }
 
-/* The numbers that come back hold AAh before a call: one that a call leaves alone shows. */
-static struct answer ask(const struct request *r) {
-    struct answer answer = {0};
+/* The calls that have the same arguments on both devices. */
+struct device {
+    uint8_t (*fresh)(uint8_t *, size_t);
+    uint8_t (*reset)(uint8_t *, size_t);
+    uint8_t (*is_valid)(const uint8_t *, size_t);
+    uint8_t (*step)(const uint8_t *, size_t, uint8_t, uint8_t, uint8_t *, size_t, const uint8_t *, size_t, uint32_t *);
+    uint8_t (*look)(uint8_t, uint8_t, uint8_t *, size_t, const uint8_t *, size_t, uint32_t *);
+    uint8_t (*act)(const uint8_t *, size_t, uint8_t, uint8_t, uint8_t *, size_t, uint32_t *);
+    uint8_t (*run)(const uint8_t *, size_t, uint8_t, uint8_t, uint8_t *, size_t, const uint8_t *, size_t, uint32_t *, uint32_t *);
+    uint8_t (*display)(const uint8_t *, size_t, uint8_t *, size_t);
+};
+
+enum { EM73862, EM73P982, DEVICES };
+
+static const struct device devices[DEVICES] = {
+    {em73862_fresh, em73862_reset, em73862_is_valid, em73862_step, em73862_look, em73862_act, em73862_run, em73862_display},
+    {em73p982_fresh, em73p982_reset, em73p982_is_valid, em73p982_step, em73p982_look, em73p982_act, em73p982_run, em73p982_display},
+};
+
+/* The calls on a record. The numbers that come back hold AAh before a call: one that a call leaves alone shows. */
+static int ask_record(const struct request *r, struct answer *answer) {
+    const struct device *d = &devices[r->device];
     size_t n = r->changing_length, m = r->steady_length;
     uint32_t first = 0xAAAAAAAA, second = 0xAAAAAAAA;
-    uint16_t word[3] = {0xAAAA, 0xAAAA, 0xAAAA};
-    uint8_t byte[4] = {0xAA, 0xAA, 0xAA, 0xAA};
     switch (r->call) {
-    case 1: answer.number = em73862_fresh(changing, n); break;
-    case 2: answer.number = em73862_reset(changing, n); break;
-    case 3: answer.number = em73862_is_valid(changing, n); break;
-    case 4:
-        answer.number = em73862_step(image, image_length, r->first, r->second, changing, n, steady, m, &first);
-        answer.values[0] = first;
-        break;
+    case 1: answer->number = d->fresh(changing, n); return 1;
+    case 2: answer->number = d->reset(changing, n); return 1;
+    case 3: answer->number = d->is_valid(changing, n); return 1;
+    case 4: answer->number = d->step(image, image_length, r->first, r->second, changing, n, steady, m, &first); break;
     case 5:
-        answer.number = em73862_run(image, image_length, r->first, r->second, changing, n, steady, m, &first, &second);
-        answer.values[0] = first;
-        answer.values[1] = second;
+        answer->number = d->run(image, image_length, r->first, r->second, changing, n, steady, m, &first, &second);
+        answer->values[1] = second;
         break;
-    case 6: answer.number = em73862_display(steady, m, changing, n); break;
+    case 6: answer->number = d->display(steady, m, changing, n); return 1;
+    case 10: answer->number = d->look(r->first, r->second, changing, n, steady, m, &first); break;
+    case 11: answer->number = d->act(image, image_length, r->first, r->second, changing, n, &first); break;
+    default: return 0;
+    }
+    answer->values[0] = first;
+    return 1;
+}
+
+/* The calls on an image and an address: of the EM73P982 with P3, the request's second number. */
+static int ask_image(const struct request *r, struct answer *answer) {
+    int p982 = r->device == EM73P982;
+    uint32_t *values = answer->values, p3 = r->second, at = r->first, size = 0xAAAAAAAA;
+    size_t n = r->changing_length, length = image_length;
+    uint16_t w[3] = {0xAAAA, 0xAAAA, 0xAAAA};
+    uint8_t b[3] = {0xAA, 0xAA, 0xAA};
+    switch (r->call) {
     case 7:
-        answer.number = em73862_read(image, image_length, r->first, &byte[0], &word[0], &byte[1]);
-        answer.values[0] = byte[0];
-        answer.values[1] = word[0];
-        answer.values[2] = byte[1];
-        break;
-    case 8:
-        answer.number = em73862_write(r->first, r->second, r->third, &byte[0], &byte[1], &byte[2], &byte[3]);
-        for (int at = 0; at < 4; at++)
-            answer.values[at] = byte[at];
-        break;
-    case 9:
-        answer.number = em73862_bound(image, image_length, r->first, changing, n, &first);
-        answer.values[0] = first;
-        break;
-    case 10:
-        answer.number = em73862_look(r->first, r->second, changing, n, steady, m, &first);
-        answer.values[0] = first;
-        break;
-    case 11:
-        answer.number = em73862_act(image, image_length, r->first, r->second, changing, n, &first);
-        answer.values[0] = first;
-        break;
+        answer->number = p982 ? em73p982_read(image, length, p3, at, &b[0], &w[0], &b[1])
+                              : em73862_read(image, length, at, &b[0], &w[0], &b[1]);
+        values[0] = b[0], values[1] = w[0], values[2] = b[1];
+        return 1;
     case 12:
-        answer.number = em73862_length(image, image_length, r->first, &byte[0], &byte[1]);
-        answer.values[0] = byte[0];
-        answer.values[1] = byte[1];
-        break;
+        answer->number = p982 ? em73p982_length(image, length, p3, at, &b[0], &b[1])
+                              : em73862_length(image, length, at, &b[0], &b[1]);
+        values[0] = b[0], values[1] = b[1];
+        return 1;
     case 13:
-        answer.number = em73862_row(image, image_length, r->first, &byte[0], &word[0], &word[1], &word[2], &byte[1], &byte[2]);
-        answer.values[0] = byte[0];
-        for (int at = 0; at < 3; at++)
-            answer.values[1 + at] = word[at];
-        answer.values[4] = byte[1];
-        answer.values[5] = byte[2];
+        answer->number = p982 ? em73p982_row(image, length, p3, at, &b[0], &w[0], &w[1], &w[2], &b[1], &b[2])
+                              : em73862_row(image, length, at, &b[0], &w[0], &w[1], &w[2], &b[1], &b[2]);
+        values[0] = b[0], values[1] = w[0], values[2] = w[1], values[3] = w[2], values[4] = b[1], values[5] = b[2];
+        return 1;
+    case 9:
+        answer->number = p982 ? em73p982_bound(image, length, p3, at, changing, n, &size)
+                              : em73862_bound(image, length, at, changing, n, &size);
         break;
     case 14:
-        answer.number = em73862_notation(image, image_length, r->first, changing, n, &first);
-        answer.values[0] = first;
+        answer->number = p982 ? em73p982_notation(image, length, p3, at, changing, n, &size)
+                              : em73862_notation(image, length, at, changing, n, &size);
         break;
-    default: _exit(1);
+    default: return 0;
     }
+    values[0] = size;
+    return 1;
+}
+
+/* The writer, which serves both devices. */
+static int ask_writer(const struct request *r, struct answer *answer) {
+    uint8_t b[4] = {0xAA, 0xAA, 0xAA, 0xAA};
+    if (r->call != 8)
+        return 0;
+    answer->number = em73862_write(r->first, r->second, r->third, &b[0], &b[1], &b[2], &b[3]);
+    for (int at = 0; at < 4; at++)
+        answer->values[at] = b[at];
+    return 1;
+}
+
+static struct answer ask(const struct request *r) {
+    struct answer answer = {0};
+    if (r->device >= DEVICES || !(ask_record(r, &answer) || ask_image(r, &answer) || ask_writer(r, &answer)))
+        _exit(1);
     return answer;
 }
 

@@ -1,13 +1,15 @@
 //! Document 01's handler bound: the most cycles from a start to an RTI, and a path that spends
 //! them.
 
-use crate::code::{fetch, whole_image, Image, IMAGE_SIZE};
+use crate::code::{fetch, Decoded};
+use crate::device::Device;
 use crate::execute::branch_target;
 use crate::numbers;
+use crate::rom::{given_p3, whole_image, Rom, ADDRESSES};
 use crate::rows::Row;
 
 /// Each address with SF known set or not.
-const PLACES: usize = 2 * IMAGE_SIZE;
+const PLACES: usize = 2 * ADDRESSES;
 
 /// Two bytes an address, and without a repetition no place comes twice.
 pub const MOST_PATH_BYTES: usize = 2 * PLACES;
@@ -15,8 +17,10 @@ pub const MOST_PATH_BYTES: usize = 2 * PLACES;
 /// What the bound answers.
 #[derive(Clone, Copy, Debug, PartialEq, Eq)]
 pub enum Bound {
-    /// 1: "image is not 8,192 bytes".
+    /// 1: the image is not as long as its device's.
     ImageSize,
+    /// 2: the P3 that was given is over 15, or its bits 1..0 are 3.
+    P3,
     /// 20: "address over 8191".
     AddressOver8191,
     /// 21: "excluded instruction reachable", with "its lowest address".
@@ -34,6 +38,7 @@ impl Bound {
     pub fn number(self) -> u8 {
         match self {
             Bound::ImageSize => numbers::IMAGE_SIZE,
+            Bound::P3 => numbers::RECORD_RANGE,
             Bound::AddressOver8191 => numbers::ADDRESS,
             Bound::Excluded(_) => numbers::EXCLUDED,
             Bound::Repetition(_) => numbers::REPETITION,
@@ -77,25 +82,29 @@ impl View {
     }
 }
 
-/// Bounds the handler that starts at an address. With an N its path stands at the beginning of
+/// Bounds the handler that starts at an address, in records with this P3. With an N its path stands at the beginning of
 /// the buffer; "a refusal changes no buffer".
-pub fn bound(image: &[u8], address: u32, path: &mut [u8]) -> Bound {
-    let Ok(image) = whole_image(image) else {
+pub fn bound(device: Device, image: &[u8], p3: u32, address: u32, path: &mut [u8]) -> Bound {
+    let Ok(image) = whole_image(device, image) else {
         return Bound::ImageSize;
     };
-    if address as usize >= IMAGE_SIZE {
+    let Ok(p3) = given_p3(device, p3) else {
+        return Bound::P3;
+    };
+    if address as usize >= ADDRESSES {
         return Bound::AddressOver8191;
     }
+    let handlers = Handlers { device, rom: image.through(p3) };
     let start = Place { address: address as u16, known: true };
-    let found = search(image, start);
+    let found = search(handlers, start);
     if let Some(lowest) = found.lowest_excluded {
         return Bound::Excluded(lowest);
     }
     if let Some(lowest) = found.lowest_repeated {
         return Bound::Repetition(lowest);
     }
-    let most_from = most_cycles(image, &found.finished);
-    let addresses = longest_path(image, start, &most_from);
+    let most_from = most_cycles(handlers, &found.finished);
+    let addresses = longest_path(handlers, start, &most_from);
     let path_bytes = 2 * addresses.len();
     if path.len() < path_bytes {
         return Bound::PathBuffer(path_bytes);
@@ -106,13 +115,20 @@ pub fn bound(image: &[u8], address: u32, path: &mut [u8]) -> Bound {
     Bound::Cycles { most: most_from[start.index()], path_bytes }
 }
 
-fn view(image: &Image, place: Place) -> View {
-    let Ok(decoded) = fetch(image, place.address) else {
+/// Where handlers stand.
+#[derive(Clone, Copy)]
+struct Handlers<'a> {
+    device: Device,
+    rom: Rom<'a>,
+}
+
+fn view(handlers: Handlers, place: Place) -> View {
+    let Ok(decoded) = fetch(handlers.rom, place.address) else {
         return View::Excluded;
     };
     let row = decoded.row;
     let cycles = row.cycles();
-    let next_address = (place.address + row.bytes()) % IMAGE_SIZE as u16;
+    let next_address = (place.address + row.bytes()) % ADDRESSES as u16;
     match row {
         Row::Rti => View::End { cycles },
         Row::Lcall | Row::Scall | Row::Ret => View::Excluded,
@@ -120,6 +136,7 @@ fn view(image: &Image, place: Place) -> View {
         Row::Eicil => View::Excluded,
         // The only rows whose port has the five bits that 16 needs.
         Row::Outa | Row::Outm if decoded.a == 16 => View::Excluded,
+        _ if handlers.device == Device::Em73P982 && writes_p3(decoded) => View::Excluded,
         // "Branches make it known; one at a known place has only its target, at an unknown place
         // also the next instruction."
         Row::Sbr | Row::Lbr | Row::Slbr => {
@@ -132,6 +149,15 @@ fn view(image: &Image, place: Place) -> View {
             let next = Place { address: next_address, known: row.sets_status() };
             View::Step { cycles, next: Some(next), target: None }
         }
+    }
+}
+
+/// "any row writing P3, by set or clear too". CLPL and SEPL name P4 to P7.
+fn writes_p3(decoded: Decoded) -> bool {
+    match decoded.row {
+        Row::Out => decoded.b == 3,
+        Row::Outa | Row::Outm | Row::Sep | Row::Clp => decoded.a == 3,
+        _ => false,
     }
 }
 
@@ -166,7 +192,7 @@ struct Visit {
 /// its component has another place, or where it follows itself. The visits stand in a vector,
 /// because a path can be longer than a thread's stack is deep.
 struct Search<'a> {
-    image: &'a Image,
+    handlers: Handlers<'a>,
     /// When a place was entered, from 1; 0 where it was not.
     entered: Vec<u32>,
     /// The earliest entry known to be reached from a place within its component.
@@ -179,9 +205,9 @@ struct Search<'a> {
     found: Found,
 }
 
-fn search(image: &Image, start: Place) -> Found {
+fn search(handlers: Handlers, start: Place) -> Found {
     let mut search = Search {
-        image,
+        handlers,
         entered: vec![0; PLACES],
         earliest: vec![0; PLACES],
         entries: 0,
@@ -208,7 +234,7 @@ fn search(image: &Image, start: Place) -> Found {
 
 impl Search<'_> {
     fn enter(&mut self, place: Place) {
-        let seen = view(self.image, place);
+        let seen = view(self.handlers, place);
         if seen == View::Excluded {
             self.found.excludes(place.address);
         }
@@ -267,10 +293,10 @@ impl Search<'_> {
 
 /// "The largest sum of cycles to an RTI, RTI included", from every reachable place. Each place
 /// is given after all that follow it.
-fn most_cycles(image: &Image, finished: &[Place]) -> Vec<u32> {
+fn most_cycles(handlers: Handlers, finished: &[Place]) -> Vec<u32> {
     let mut most_from = vec![0; PLACES];
     for &place in finished {
-        most_from[place.index()] = match view(image, place) {
+        most_from[place.index()] = match view(handlers, place) {
             View::Excluded => 0,
             View::End { cycles } => cycles,
             View::Step { cycles, next, target } => {
@@ -284,12 +310,12 @@ fn most_cycles(image: &Image, finished: &[Place]) -> Vec<u32> {
 }
 
 /// "Among equal sums take the next instruction before the target."
-fn longest_path(image: &Image, start: Place, most_from: &[u32]) -> Vec<u16> {
+fn longest_path(handlers: Handlers, start: Place, most_from: &[u32]) -> Vec<u16> {
     let mut addresses = Vec::new();
     let mut at = Some(start);
     while let Some(place) = at {
         addresses.push(place.address);
-        at = match view(image, place).followers() {
+        at = match view(handlers, place).followers() {
             [Some(next), Some(target)] if most_from[next.index()] >= most_from[target.index()] => Some(next),
             [Some(_), Some(target)] => Some(target),
             [next, target] => next.or(target),
@@ -301,6 +327,11 @@ fn longest_path(image: &Image, start: Place, most_from: &[u32]) -> Vec<u16> {
 #[cfg(test)]
 mod tests {
     use super::*;
+    use crate::rom::IMAGE_SIZE;
+
+    fn bound(image: &[u8], address: u32, path: &mut [u8]) -> Bound {
+        super::bound(Device::Em73862, image, 0, address, path)
+    }
 
     fn image_with(codes: &[(usize, &[u8])]) -> Vec<u8> {
         let mut image = vec![0; IMAGE_SIZE];
@@ -358,13 +389,14 @@ mod tests {
         assert_eq!(bound(&[0x4D; 8192], 8191, &mut []), Bound::PathBuffer(2));
         let numbers = [
             Bound::ImageSize,
+            Bound::P3,
             Bound::AddressOver8191,
             Bound::Excluded(0),
             Bound::Repetition(0),
             Bound::PathBuffer(0),
             Bound::Cycles { most: 0, path_bytes: 0 },
         ];
-        assert_eq!(numbers.map(Bound::number), [1, 20, 21, 22, 23, 0]);
+        assert_eq!(numbers.map(Bound::number), [1, 2, 20, 21, 22, 23, 0]);
     }
 
     #[test]

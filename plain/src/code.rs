@@ -1,10 +1,9 @@
 //! The reader and the writer of single instructions.
 
+use crate::device::Device;
 use crate::numbers;
+use crate::rom::{given_p3, whole_image, Rom, ADDRESSES};
 use crate::rows::Row;
-
-pub const IMAGE_SIZE: usize = 8192;
-pub type Image = [u8; IMAGE_SIZE];
 
 /// An instruction in numbers: a row from 1 to 107, and its operands in the order in which its
 /// mnemonic names them. An operand that the row does not have is 0.
@@ -29,18 +28,14 @@ impl Decoded {
     }
 }
 
-/// The image as an array, or 1: "image is not 8,192 bytes".
-pub fn whole_image(image: &[u8]) -> Result<&Image, u8> {
-    image.try_into().map_err(|_| numbers::IMAGE_SIZE)
-}
-
-/// The instruction at an address. Refuses with 1, 20, 30 and 35.
-pub fn read(image: &[u8], address: usize) -> Result<Insn, u8> {
-    let image = whole_image(image)?;
-    if address >= IMAGE_SIZE {
+/// The instruction at an address, through the window of a P3. Refuses with 1, 2, 20, 30 and 35.
+pub fn read(device: Device, image: &[u8], p3: u32, address: usize) -> Result<Insn, u8> {
+    let image = whole_image(device, image)?;
+    let rom = image.through(given_p3(device, p3)?);
+    if address >= ADDRESSES {
         return Err(numbers::ADDRESS);
     }
-    let decoded = fetch(image, address as u16)?;
+    let decoded = fetch(rom, address as u16)?;
     Ok(decoded.insn())
 }
 
@@ -56,13 +51,13 @@ pub fn write(insn: Insn) -> Result<Vec<u8>, u8> {
     }
 }
 
-/// The instruction at an address, or 30 or 35.
-pub fn fetch(image: &Image, address: u16) -> Result<Decoded, u8> {
-    match image[address as usize..] {
-        [first, second, third, ..] => decode([first, second, third]).ok_or(numbers::UNASSIGNED),
-        [first, second] => fetch_last(2, decode([first, second, 0])),
-        [first] => fetch_last(1, (0..=255).find_map(|second| decode([first, second, 0]))),
-        [] => unreachable!("an address is below 8192"),
+/// The instruction at an address, or 30 or 35. "On the EM73P982 the end means address 1FFFh."
+pub fn fetch(rom: Rom, address: u16) -> Result<Decoded, u8> {
+    let first = rom.byte(address);
+    match ADDRESSES as u16 - address {
+        1 => fetch_last(1, (0..=255).find_map(|second| decode([first, second, 0]))),
+        2 => fetch_last(2, decode([first, rom.byte(address + 1), 0])),
+        _ => decode([first, rom.byte(address + 1), rom.byte(address + 2)]).ok_or(numbers::UNASSIGNED),
     }
 }
 
@@ -349,7 +344,12 @@ fn decode_input_output(second: u8) -> Option<Decoded> {
 #[cfg(test)]
 mod tests {
     use super::*;
+    use crate::rom::IMAGE_SIZE;
     use crate::rows::SHEET;
+
+    fn read(image: &[u8], address: usize) -> Result<Insn, u8> {
+        super::read(Device::Em73862, image, 0, address)
+    }
 
     #[test]
     fn as_many_pairs_are_assigned_as_the_readings_count() {

@@ -1,5 +1,6 @@
 //! The display's dots.
 
+use crate::device::Device;
 use crate::machine::{is_valid, Machine};
 use crate::numbers;
 
@@ -10,8 +11,8 @@ const DISPLAY_START: usize = 0x20;
 
 /// "Forty bytes, five a row, low nibble first; all zero unless P27 is 11xx. Later bytes stay."
 /// Refuses with 2 and 5.
-pub fn display(machine: &Machine, buffer: &mut [u8]) -> Result<(), u8> {
-    if !is_valid(machine) {
+pub fn display(device: Device, machine: &Machine, buffer: &mut [u8]) -> Result<(), u8> {
+    if !is_valid(device, machine) {
         return Err(numbers::RECORD_RANGE);
     }
     if buffer.len() < DISPLAY_SIZE {

@@ -6,7 +6,8 @@ pub const IL2: u8 = 1 << 2;
 pub const IL1: u8 = 1 << 1;
 pub const IL0: u8 = 1 << 0;
 
-/// INT0, TRGA, TRGB, TBI, INT1, first to last: latch and entry.
+/// INT0, TRGA, TRGB, TBI, INT1, first to last: latch and entry. On the EM73P982 "INT1 is gone; the speech ending interrupt takes IL0
+/// and 00Ch", and its place.
 const SOURCES: [(u8, u16); 5] = [(IL5, 0x002), (IL3, 0x006), (IL2, 0x008), (IL1, 0x00A), (IL0, 0x00C)];
 
 /// "If .. a latch is set and allowed by its mask, accept the first of INT0, TRGA, TRGB, TBI, INT1": its latch and entry.
@@ -23,7 +24,7 @@ pub fn due_number(il: u8, mask: u8) -> u8 {
     }
 }
 
-/// MASK2 allows TRGA, MASK1 TRGB and TBI, MASK0 INT1; "INT0 needs EI only".
+/// MASK2 allows TRGA, MASK1 TRGB and TBI, MASK0 INT1 or SPI; "INT0 needs EI only".
 fn allowed_latches(mask: u8) -> u8 {
     let mut allowed = IL5;
     if mask & 0b0100 != 0 {

@@ -1,17 +1,19 @@
 //! What each row does. Every check that can stop a row comes before its first change, so that a
 //! stopped row has changed nothing.
 
-use crate::code::{Decoded, Image};
+use crate::code::Decoded;
 use crate::machine::Machine;
 use crate::numbers;
+use crate::rom::{Rom, ADDRESSES};
 use crate::rows::Row;
 use crate::surroundings::Surroundings;
 
 /// Executes one row: changes the record, or gives the number of the stop.
 pub fn execute(m: &mut Machine, around: &Surroundings, decoded: Decoded) -> Result<(), u8> {
     let Decoded { row, a, b } = decoded;
+    let device = around.options.device;
     let own_address = m.pc;
-    let next = (m.pc + row.bytes()) % 8192;
+    let next = (m.pc + row.bytes()) % ADDRESSES as u16;
     let k = a as u8;
     let x = a as u8;
     let y = a as usize;
@@ -19,9 +21,9 @@ pub fn execute(m: &mut Machine, around: &Surroundings, decoded: Decoded) -> Resu
         // Data transfer
         Row::Lda => m.load(m.ram[m.place_by_x(x)?]),
         Row::Ldam => m.load(m.ram[m.place_by_hl()?]),
-        Row::Ldax => m.load(table_byte(around.image, m.dp) & 15),
+        Row::Ldax => m.load(table_byte(around.rom, m.dp) & 15),
         Row::Ldaxi => {
-            m.load(table_byte(around.image, m.dp) >> 4);
+            m.load(table_byte(around.rom, m.dp) >> 4);
             m.dp = (m.dp + 1) % 4096;
         }
         Row::Ldh => {
@@ -207,10 +209,10 @@ pub fn execute(m: &mut Machine, around: &Surroundings, decoded: Decoded) -> Resu
             m.ram[y] = with_bit(m.ram[y], b as u8, true);
             m.sf = true;
         }
-        Row::Clp => m.change_port_bit(a as u8, b as u8, false)?,
-        Row::Sep => m.change_port_bit(a as u8, b as u8, true)?,
-        Row::Clpl => m.change_port_bit(m.port_by_lr(), m.bit_by_lr(), false)?,
-        Row::Sepl => m.change_port_bit(m.port_by_lr(), m.bit_by_lr(), true)?,
+        Row::Clp => m.change_port_bit(device, a as u8, b as u8, false)?,
+        Row::Sep => m.change_port_bit(device, a as u8, b as u8, true)?,
+        Row::Clpl => m.change_port_bit(device, m.port_by_lr(), m.bit_by_lr(), false)?,
+        Row::Sepl => m.change_port_bit(device, m.port_by_lr(), m.bit_by_lr(), true)?,
         Row::Tf => m.sf = !bit_of(m.ram[y], b as u8),
         Row::Tt => m.sf = bit_of(m.ram[y], b as u8),
         Row::Tfa => m.sf = !bit_of(m.acc, a as u8),
@@ -242,9 +244,9 @@ pub fn execute(m: &mut Machine, around: &Surroundings, decoded: Decoded) -> Resu
             m.ram[place] = value;
             m.sf = value != 0;
         }
-        Row::Out => m.write_port(b as u8, k)?,
-        Row::Outa => m.write_port(a as u8, m.acc)?,
-        Row::Outm => m.write_port(a as u8, m.ram[m.place_by_hl()?])?,
+        Row::Out => m.write_port(device, b as u8, k)?,
+        Row::Outa => m.write_port(device, a as u8, m.acc)?,
+        Row::Outm => m.write_port(device, a as u8, m.ram[m.place_by_hl()?])?,
 
         // Flag manipulation
         Row::Tfcfc => {
@@ -331,9 +333,9 @@ pub fn subtract(left: u8, right: u8, borrow_in: u8) -> (u8, bool) {
     (difference & 15, difference > 15)
 }
 
-/// "LDAX reads ROM at 1000h + DP."
-fn table_byte(image: &Image, dp: u16) -> u8 {
-    image[0x1000 + dp as usize]
+/// "LDAX reads ROM at 1000h + DP", and "table reads use the same window".
+fn table_byte(rom: Rom, dp: u16) -> u8 {
+    rom.byte(0x1000 + dp)
 }
 
 /// "SCALL n: 8n + 6, but 86h for n = 0."

@@ -1,7 +1,7 @@
 //! Images as Intel HEX: document 02, Q-3.
 
-use crate::code::IMAGE_SIZE;
 use crate::numbers;
+use crate::rom::IMAGE_SIZE;
 
 /// 512 records of 44 characters, and the end record's 12.
 pub const TEXT_SIZE: usize = 22_540;

@@ -1,7 +1,8 @@
-//! The EM73862 as document 01 describes it, with document 01's numbers as results.
+//! The EM73862 as document 01 describes it and the EM73P982 as request Q-6 does, with document 01's numbers as results.
 
 mod bound;
 mod code;
+mod device;
 mod display;
 mod due;
 mod execute;
@@ -10,6 +11,7 @@ mod hex;
 mod machine;
 mod notation;
 mod ports;
+mod rom;
 mod rows;
 mod sound;
 mod stack;
@@ -20,14 +22,16 @@ mod worst;
 pub mod numbers;
 
 pub use bound::{bound, Bound, MOST_PATH_BYTES};
-pub use code::{read, write, Insn, IMAGE_SIZE};
+pub use code::{read, write, Insn};
+pub use device::Device;
 pub use display::{display, DISPLAY_SIZE};
 pub use due::due_number;
 pub use execute::{add, short_call_target, subtract};
-pub use frame::{Frame, FRAME_LENGTH};
+pub use frame::Frame;
 pub use hex::{hex_record, read_hex, write_hex, HexRefusal, TEXT_SIZE};
 pub use machine::{fresh, is_valid, reset, Machine, Mode, Options, Ports, RAM_SIZE};
 pub use notation::{goes_to, notation};
+pub use rom::{place_in_image, ADDRESSES, IMAGE_SIZE};
 pub use rows::{Row, SheetRow, SHEET};
 pub use sound::{sound_start, Sound, MOST_PULSES, PULSES_OVER_THE_LIMIT, TF_OF_ZERO_WHILE_ON};
 pub use step::{act, look, run, step, Ran, Stepped, MOST_FRAMES};

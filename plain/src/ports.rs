@@ -1,7 +1,9 @@
 //! The ports.
 
+use crate::device::Device;
 use crate::machine::{is_reserved_setting, mode_entered_by, Machine, Mode};
 use crate::numbers;
+use crate::rom::shows_no_bank;
 use crate::surroundings::Surroundings;
 
 impl Machine {
@@ -23,9 +25,9 @@ impl Machine {
     }
 
     /// Writes a port and sets SF; or stops with 33 or 34.
-    pub fn write_port(&mut self, port: u8, value: u8) -> Result<(), u8> {
-        let latch = self.latch(port)?;
-        if (port == 25 || port == 27) && is_reserved_setting(value) {
+    pub fn write_port(&mut self, device: Device, port: u8, value: u8) -> Result<(), u8> {
+        let latch = self.latch(device, port)?;
+        if is_reserved(port, value) {
             return Err(numbers::RESERVED_SETTING);
         }
         *latch = value;
@@ -37,16 +39,21 @@ impl Machine {
     }
 
     /// "Set and clear use the latch."
-    pub fn change_port_bit(&mut self, port: u8, bit: u8, set: bool) -> Result<(), u8> {
-        let old = *self.latch(port)?;
+    pub fn change_port_bit(&mut self, device: Device, port: u8, bit: u8, set: bool) -> Result<(), u8> {
+        let old = *self.latch(device, port)?;
         let new = if set { old | 1 << bit } else { old & !(1 << bit) };
-        self.write_port(port, new)
+        self.write_port(device, port, new)
     }
 
-    /// "Writable, settable and clearable: 4, 8, 9, 16, 23, 24, 25, 27 to 30."
-    fn latch(&mut self, port: u8) -> Result<&mut u8, u8> {
+    /// "Writable, settable and clearable: 4, 8, 9, 16, 23, 24, 25, 27 to 30." On the EM73P982 "ports 3, 5, 6 and 17 are writable".
+    fn latch(&mut self, device: Device, port: u8) -> Result<&mut u8, u8> {
         let ports = &mut self.ports;
+        let added = device == Device::Em73P982;
         match port {
+            3 if added => Ok(&mut ports.p3),
+            5 if added => Ok(&mut ports.p5),
+            6 if added => Ok(&mut ports.p6),
+            17 if added => Ok(&mut ports.p17),
             4 => Ok(&mut ports.p4),
             8 => Ok(&mut ports.p8),
             9 => Ok(&mut ports.p9),
@@ -74,11 +81,20 @@ impl Machine {
     }
 }
 
-/// "P4 reads 1110 plus P4.0, or 15 with SOUND enabled."
+/// 34: P25 and P27 with 10xx, "also when P3 bits 1..0 would become 3".
+fn is_reserved(port: u8, value: u8) -> bool {
+    match port {
+        3 => shows_no_bank(value),
+        25 | 27 => is_reserved_setting(value),
+        _ => false,
+    }
+}
+
+/// "P4 reads 1110 plus P4.0, or 15 with SOUND enabled." On the EM73P982 it "is read whole; bit 0 reads 1 with SOUND enabled".
 fn p4_pins(around: &Surroundings) -> u8 {
-    if around.options.sound {
-        15
-    } else {
-        0b1110 | around.frame.p4_0
+    let sound = around.options.sound as u8;
+    match around.options.device {
+        Device::Em73862 => 0b1110 | around.frame.p4 | sound,
+        Device::Em73P982 => around.frame.p4 | sound,
     }
 }

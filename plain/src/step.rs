@@ -1,11 +1,13 @@
 //! One step, as document 01's "One step" numbers its phases.
 
-use crate::code::{fetch, whole_image, Image};
+use crate::code::fetch;
+use crate::device::Device;
 use crate::due::{due_number, due_source, IL0, IL1, IL2, IL3, IL5};
 use crate::execute::execute;
-use crate::frame::{Frame, FRAME_LENGTH};
+use crate::frame::Frame;
 use crate::machine::{is_valid, Machine, Mode, Options, TIME_BASE_SIZE};
 use crate::numbers;
+use crate::rom::{whole_image, Image};
 use crate::surroundings::Surroundings;
 
 const ACCEPTANCE_CYCLES: u32 = 2;
@@ -37,9 +39,9 @@ pub struct Ran {
 
 /// One step, both its calls. Refuses with 1, 2 and 3.
 pub fn step(image: &[u8], options: Options, machine: &Machine, frame: &[u8]) -> Result<Stepped, u8> {
-    let image = whole_image(image)?;
-    let mut machine = valid(machine)?;
-    let frame = Frame::parse(frame).ok_or(numbers::NO_FRAME)?;
+    let image = whole_image(options.device, image)?;
+    let mut machine = valid(options.device, machine)?;
+    let frame = Frame::parse(options.device, frame).ok_or(numbers::NO_FRAME)?;
     let advanced = advance(&mut machine, image, options, frame);
     Ok(stepped(machine, advanced))
 }
@@ -47,22 +49,22 @@ pub fn step(image: &[u8], options: Options, machine: &Machine, frame: &[u8]) -> 
 /// The first call of a step (request Q-4): "one call takes the frame, updates edges, event counts and waking". Refuses
 /// with 2 and 3.
 pub fn look(options: Options, machine: &Machine, frame: &[u8]) -> Result<Stepped, u8> {
-    let mut machine = valid(machine)?;
-    let frame = Frame::parse(frame).ok_or(numbers::NO_FRAME)?;
+    let mut machine = valid(options.device, machine)?;
+    let frame = Frame::parse(options.device, frame).ok_or(numbers::NO_FRAME)?;
     let cycles = take_frame(&mut machine, options, frame);
     Ok(stepped(machine, Ok(cycles)))
 }
 
 /// The second: "a second accepts or executes and passes time". Refuses with 1 and 2.
 pub fn act(image: &[u8], options: Options, machine: &Machine) -> Result<Stepped, u8> {
-    let image = whole_image(image)?;
-    let mut machine = valid(machine)?;
+    let image = whole_image(options.device, image)?;
+    let mut machine = valid(options.device, machine)?;
     let acted = take_turn(&mut machine, image, options);
     Ok(stepped(machine, acted))
 }
 
-fn valid(machine: &Machine) -> Result<Machine, u8> {
-    if is_valid(machine) {
+fn valid(device: Device, machine: &Machine) -> Result<Machine, u8> {
+    if is_valid(device, machine) {
         Ok(machine.clone())
     } else {
         Err(numbers::RECORD_RANGE)
@@ -79,16 +81,18 @@ fn stepped(machine: Machine, cycles: Result<u32, u8>) -> Stepped {
 /// "A run checks all frames first, makes one step a frame, and ends early at a stop." Refuses
 /// with 1, 2, 4 and 3, in this order.
 pub fn run(image: &[u8], options: Options, machine: &Machine, frames: &[u8]) -> Result<Ran, u8> {
-    let image = whole_image(image)?;
-    let machine = valid(machine)?;
-    if frames.len() > MOST_FRAMES * FRAME_LENGTH {
+    let image = whole_image(options.device, image)?;
+    let machine = valid(options.device, machine)?;
+    let length = options.device.frame_length();
+    if frames.len() > MOST_FRAMES * length {
         return Err(numbers::TOO_MANY_FRAMES);
     }
-    if frames.chunks(FRAME_LENGTH).any(|text| Frame::parse(text).is_none()) {
+    let parse = |text| Frame::parse(options.device, text);
+    if frames.chunks(length).any(|text| parse(text).is_none()) {
         return Err(numbers::NO_FRAME);
     }
     let mut ran = Ran { machine, steps: 0, cycles: 0, stop: numbers::NONE };
-    for frame in frames.chunks(FRAME_LENGTH).filter_map(Frame::parse) {
+    for frame in frames.chunks(length).filter_map(parse) {
         match advance(&mut ran.machine, image, options, frame) {
             Ok(cycles) => {
                 ran.steps += 1;
@@ -104,7 +108,7 @@ pub fn run(image: &[u8], options: Options, machine: &Machine, frames: &[u8]) -> 
 }
 
 /// Makes one step and gives its cycles, or the stop. "A stop now leaves the record as the first call left it."
-fn advance(m: &mut Machine, image: &Image, options: Options, frame: Frame) -> Result<u32, u8> {
+fn advance(m: &mut Machine, image: Image, options: Options, frame: Frame) -> Result<u32, u8> {
     let looking = take_frame(m, options, frame);
     let acting = take_turn(m, image, options)?;
     Ok(looking + acting)
@@ -116,7 +120,7 @@ fn take_frame(m: &mut Machine, options: Options, frame: Frame) -> u32 {
     m.mark = m.mode != Mode::Running;
     let cycles = match m.mode {
         Mode::Running => {
-            look_for_edges(m, frame);
+            look_for_edges(m, options.device, frame);
             0
         }
         Mode::Sleep | Mode::Hold => look_for_wake(m, options, frame),
@@ -128,12 +132,12 @@ fn take_frame(m: &mut Machine, options: Options, frame: Frame) -> u32 {
 
 /// Where there is a mark it "does nothing, spends 0 and clears the mark. In sleep or hold the second always does nothing
 /// and spends 0."
-fn take_turn(m: &mut Machine, image: &Image, options: Options) -> Result<u32, u8> {
+fn take_turn(m: &mut Machine, image: Image, options: Options) -> Result<u32, u8> {
     if m.mark || m.mode != Mode::Running {
         m.mark = false;
         return Ok(0);
     }
-    let around = Surroundings { image, options, frame: m.last_frame };
+    let around = Surroundings { rom: image.through(m.ports.p3), options, frame: m.last_frame };
     let cycles = accept_or_execute(m, &around)?;
     // "Phase 3 is left out" where the row entered sleep or hold.
     if m.mode == Mode::Running {
@@ -144,14 +148,18 @@ fn take_turn(m: &mut Machine, image: &Image, options: Options) -> Result<u32, u8
 }
 
 /// Phase 1: "A falling edge on P8.2 sets IL5, on P8.0 sets IL0. A rising edge on P8.3 (P8.1) adds
-/// one to TA (TB) in event mode."
-fn look_for_edges(m: &mut Machine, frame: Frame) {
+/// one to TA (TB) in event mode." On the EM73P982 IL0 is "raised by a fourth frame digit of 1", whatever the last frame had.
+fn look_for_edges(m: &mut Machine, device: Device, frame: Frame) {
     let falling = m.last_frame.p8 & !frame.p8;
     let rising = !m.last_frame.p8 & frame.p8;
     if falling & 0b0100 != 0 {
         m.il |= IL5;
     }
-    if falling & 0b0001 != 0 {
+    let raises_il0 = match device {
+        Device::Em73862 => falling & 0b0001 != 0,
+        Device::Em73P982 => frame.speech == 1,
+    };
+    if raises_il0 {
         m.il |= IL0;
     }
     if rising & 0b1000 != 0 && timer_mode(m.ports.p28) == TimerMode::Event {
@@ -168,7 +176,7 @@ fn accept_or_execute(m: &mut Machine, around: &Surroundings) -> Result<u32, u8> 
         m.accept(latch, entry)?;
         return Ok(ACCEPTANCE_CYCLES);
     }
-    let decoded = fetch(around.image, m.pc)?;
+    let decoded = fetch(around.rom, m.pc)?;
     execute(m, around, decoded)?;
     Ok(decoded.row.cycles())
 }

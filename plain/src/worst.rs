@@ -1,6 +1,6 @@
 //! Images on which a bound takes long.
 
-use crate::code::IMAGE_SIZE;
+use crate::rom::IMAGE_SIZE;
 
 /// The kinds of them.
 pub const WORST: [&str; 4] = ["chain", "ladder", "knot", "ring"];

@@ -22,7 +22,7 @@ fn the_reader_gives_the_answers() {
 }
 
 fn shown(image: &[u8], address: u16) -> String {
-    let insn = match read(image, address as usize) {
+    let insn = match read(Device::Em73862, image, 0, address as usize) {
         Ok(insn) => insn,
         Err(number) => return format!("refused {number:02}"),
     };

@@ -2,7 +2,8 @@
 
 use plain::*;
 
-const OPTIONS: Options = Options { wake: 0xFF, sound: false };
+const DEVICE: Device = Device::Em73862;
+const OPTIONS: Options = Options { device: DEVICE, wake: 0xFF, sound: false };
 
 fn image_of(code: &[u8]) -> Vec<u8> {
     let mut image = vec![0; IMAGE_SIZE];
@@ -30,13 +31,13 @@ fn sums_and_differences() {
 
 #[test]
 fn rlca_on_8() {
-    let (m, stop) = after(&[0x50], &Machine { acc: 8, ..fresh() });
+    let (m, stop) = after(&[0x50], &Machine { acc: 8, ..fresh(DEVICE) });
     assert_eq!((m.acc, m.cf, m.zf, m.sf, stop), (0, true, true, false, 0));
 }
 
 #[test]
 fn sbcam() {
-    let mut before = Machine { acc: 3, ..fresh() };
+    let mut before = Machine { acc: 3, ..fresh(DEVICE) };
     before.ram[0] = 5;
     let (m, stop) = after(&[0x72], &before);
     assert_eq!((m.acc, m.cf, m.sf, stop), (1, true, true, 0));
@@ -45,7 +46,7 @@ fn sbcam() {
 #[test]
 fn short_calls() {
     for (n, target) in [(0u8, 0x86), (1, 0x0E), (15, 0x7E)] {
-        let (m, stop) = after(&[0xE0 + n], &Machine { sp: 13, ..fresh() });
+        let (m, stop) = after(&[0xE0 + n], &Machine { sp: 13, ..fresh(DEVICE) });
         assert_eq!((m.pc, m.sp, stop), (target, 12, 0));
     }
 }
@@ -53,7 +54,7 @@ fn short_calls() {
 #[test]
 fn stack_levels() {
     for (sp, call_stop, return_stop) in [(0, 32, 0), (1, 0, 0), (12, 0, 0), (13, 0, 32), (14, 32, 32)] {
-        let before = Machine { sp, ..fresh() };
+        let before = Machine { sp, ..fresh(DEVICE) };
         assert_eq!(after(&[0xE1], &before).1, call_stop);
         assert_eq!(after(&[0x4F], &before).1, return_stop);
         assert_eq!(after(&[0x4D], &before).1, return_stop);
@@ -62,7 +63,7 @@ fn stack_levels() {
 
 #[test]
 fn a_call_keeps_the_flag_bits_of_its_nibble_and_ret_restores_no_flag() {
-    let mut before = Machine { sp: 1, pc: 0x1234, cf: true, ..fresh() };
+    let mut before = Machine { sp: 1, pc: 0x1234, cf: true, ..fresh(DEVICE) };
     before.ram[0xC3] = 0b1100;
     let mut image = image_of(&[]);
     image[0x1234] = 0xE1;
@@ -78,7 +79,7 @@ fn a_call_keeps_the_flag_bits_of_its_nibble_and_ret_restores_no_flag() {
 fn the_data_pointer_reads_the_upper_half() {
     let mut image = image_of(&[0x65, 0x67]);
     image[0x1777] = 0x56;
-    let before = Machine { dp: 0x777, ..fresh() };
+    let before = Machine { dp: 0x777, ..fresh(DEVICE) };
     let ran = run(&image, OPTIONS, &before, b"FF1").unwrap();
     assert_eq!((ran.machine.acc, ran.machine.dp), (6, 0x777));
     let ran = run(&image, OPTIONS, &before, b"FF1FF1").unwrap();
@@ -88,7 +89,7 @@ fn the_data_pointer_reads_the_upper_half() {
 #[test]
 fn the_last_nibbles_by_hl() {
     for (p9, hr, lr, stop) in [(0, 15, 3, 0), (0, 15, 4, 31), (8, 7, 15, 0), (8, 8, 0, 31)] {
-        let mut before = Machine { hr, lr, ..fresh() };
+        let mut before = Machine { hr, lr, ..fresh(DEVICE) };
         before.ports.p9 = p9;
         assert_eq!(after(&[0x5A], &before).1, stop);
     }
@@ -96,20 +97,20 @@ fn the_last_nibbles_by_hl() {
 
 #[test]
 fn dots_17_and_19() {
-    let mut machine = fresh();
+    let mut machine = fresh(DEVICE);
     machine.ports.p27 = 12;
     machine.ram[0x24] = 10;
     let mut buffer = [0xEE; 42];
-    assert_eq!(display(&machine, &mut buffer), Ok(()));
+    assert_eq!(display(DEVICE, &machine, &mut buffer), Ok(()));
     let lit: Vec<usize> = (0..320).filter(|dot| buffer[dot / 8] >> (dot % 8) & 1 == 1).collect();
     assert_eq!(lit, [17, 19]);
     assert_eq!(buffer[40..], [0xEE, 0xEE]);
     machine.ports.p27 = 7;
-    assert_eq!(display(&machine, &mut buffer), Ok(()));
+    assert_eq!(display(DEVICE, &machine, &mut buffer), Ok(()));
     assert_eq!(buffer[..40], [0; 40]);
-    assert_eq!(display(&machine, &mut buffer[..39]), Err(5));
+    assert_eq!(display(DEVICE, &machine, &mut buffer[..39]), Err(5));
     machine.acc = 16;
-    assert_eq!(display(&machine, &mut buffer[..39]), Err(2));
+    assert_eq!(display(DEVICE, &machine, &mut buffer[..39]), Err(2));
 }
 
 #[test]
@@ -117,7 +118,7 @@ fn the_listing_of_document_01() {
     let image = image_of(&[0xD0, 0xD3, 0x6E, 0x55, 0x6E, 0x5D, 0x6E, 0x5E, 0x08]);
     let expected =
         [(1, 0, 0b011, 1), (2, 3, 0b001, 1), (4, 8, 0b001, 2), (6, 5, 0b000, 2), (8, 3, 0b000, 2), (9, 3, 0b001, 1)];
-    let mut machine = fresh();
+    let mut machine = fresh(DEVICE);
     for (pc, acc, flags, cycles) in expected {
         let stepped = step(&image, OPTIONS, &machine, b"FF1").unwrap();
         machine = stepped.machine;
@@ -129,31 +130,31 @@ fn the_listing_of_document_01() {
 
 #[test]
 fn refusals_in_the_tables_order() {
-    let bad = Machine { acc: 16, ..fresh() };
+    let bad = Machine { acc: 16, ..fresh(DEVICE) };
     assert_eq!(step(&[0; 8191], OPTIONS, &bad, b"bad"), Err(1));
     assert_eq!(step(&[0; 8192], OPTIONS, &bad, b"bad"), Err(2));
-    assert_eq!(step(&[0; 8192], OPTIONS, &fresh(), b"bad"), Err(3));
-    assert_eq!(step(&[0; 8192], OPTIONS, &fresh(), b"FF1F"), Err(3));
+    assert_eq!(step(&[0; 8192], OPTIONS, &fresh(DEVICE), b"bad"), Err(3));
+    assert_eq!(step(&[0; 8192], OPTIONS, &fresh(DEVICE), b"FF1F"), Err(3));
     let too_many = vec![b'!'; 196_609];
     assert_eq!(run(&[0; 8191], OPTIONS, &bad, &too_many), Err(1));
     assert_eq!(run(&[0; 8192], OPTIONS, &bad, &too_many), Err(2));
-    assert_eq!(run(&[0; 8192], OPTIONS, &fresh(), &too_many), Err(4));
-    assert_eq!(run(&[0; 8192], OPTIONS, &fresh(), &too_many[1..]), Err(3));
-    assert_eq!(run(&[0; 8192], OPTIONS, &fresh(), b"FF1FF"), Err(3));
+    assert_eq!(run(&[0; 8192], OPTIONS, &fresh(DEVICE), &too_many), Err(4));
+    assert_eq!(run(&[0; 8192], OPTIONS, &fresh(DEVICE), &too_many[1..]), Err(3));
+    assert_eq!(run(&[0; 8192], OPTIONS, &fresh(DEVICE), b"FF1FF"), Err(3));
     // A bad frame after a step that would stop.
-    assert_eq!(run(&[0x54; 8192], OPTIONS, &fresh(), b"FF1FF2"), Err(3));
-    let idle = run(&[0; 8192], OPTIONS, &fresh(), b"").unwrap();
-    assert_eq!(idle, Ran { machine: fresh(), steps: 0, cycles: 0, stop: 0 });
+    assert_eq!(run(&[0x54; 8192], OPTIONS, &fresh(DEVICE), b"FF1FF2"), Err(3));
+    let idle = run(&[0; 8192], OPTIONS, &fresh(DEVICE), b"").unwrap();
+    assert_eq!(idle, Ran { machine: fresh(DEVICE), steps: 0, cycles: 0, stop: 0 });
 }
 
 #[test]
 fn sleep_and_waking() {
     let image = image_of(&[0xD4, 0x6F, 0x10, 0x56]);
-    let asleep = run(&image, OPTIONS, &fresh(), b"FF1FF1").unwrap();
+    let asleep = run(&image, OPTIONS, &fresh(DEVICE), b"FF1FF1").unwrap();
     assert_eq!((asleep.machine.mode, asleep.machine.time_base, asleep.cycles), (Mode::Sleep, 0, 3));
     let no_edge = step(&image, OPTIONS, &asleep.machine, b"FF0").unwrap();
     assert_eq!((no_edge.machine.mode, no_edge.cycles), (Mode::Sleep, 0));
-    let masked = step(&image, Options { wake: 0xEF, sound: false }, &asleep.machine, b"FE1").unwrap();
+    let masked = step(&image, Options { wake: 0xEF, ..OPTIONS }, &asleep.machine, b"FE1").unwrap();
     assert_eq!((masked.machine.mode, masked.cycles), (Mode::Sleep, 0));
     let awake = step(&image, OPTIONS, &asleep.machine, b"FE1").unwrap();
     assert_eq!((awake.machine.mode, awake.cycles, awake.machine.il), (Mode::Running, 32_768, 0));
@@ -179,7 +180,7 @@ impl Numbers {
     }
 
     fn machine(&mut self) -> Machine {
-        let mut m = fresh();
+        let mut m = fresh(DEVICE);
         (m.acc, m.hr, m.lr, m.sp, m.mask) = (self.nibble(), self.nibble(), self.nibble(), self.nibble(), self.nibble());
         m.pc = self.below(8192) as u16;
         m.dp = self.below(4096) as u16;
@@ -214,7 +215,7 @@ fn a_stop_gives_the_record_as_the_look_left_it_and_every_record_is_valid() {
         let before = numbers.machine();
         let frame = numbers.frames(1);
         let stepped = step(&image, OPTIONS, &before, &frame).unwrap();
-        assert!(is_valid(&stepped.machine));
+        assert!(is_valid(DEVICE, &stepped.machine));
         seen[stepped.stop as usize] += 1;
         if stepped.stop != 0 {
             let looked = look(OPTIONS, &before, &frame).unwrap();
@@ -232,7 +233,7 @@ fn a_run_is_its_steps() {
         let before = numbers.machine();
         let frames = numbers.frames(40);
         let mut expected = Ran { machine: before.clone(), steps: 0, cycles: 0, stop: 0 };
-        for frame in frames.chunks(FRAME_LENGTH) {
+        for frame in frames.chunks(DEVICE.frame_length()) {
             let stepped = step(&image, OPTIONS, &expected.machine, frame).unwrap();
             expected.machine = stepped.machine;
             expected.cycles += stepped.cycles as u64;
@@ -249,7 +250,7 @@ fn a_run_is_its_steps() {
 #[test]
 fn reset_keeps_what_document_01_lists() {
     let before = Numbers(7).machine();
-    let after = reset(&before).unwrap();
+    let after = reset(DEVICE, &before).unwrap();
     let kept = Machine {
         ram: before.ram,
         acc: before.acc,
@@ -259,7 +260,7 @@ fn reset_keeps_what_document_01_lists() {
         dp: before.dp,
         cf: before.cf,
         zf: before.zf,
-        ..fresh()
+        ..fresh(DEVICE)
     };
     assert_eq!(after, kept);
 }

@@ -5,6 +5,7 @@ use crate::coverage::Coverage;
 use crate::layout::{self, RAM, RECORD_BYTES};
 use crate::plainly;
 use crate::proved::Proved;
+use plain::{place_in_image, Device, ADDRESSES};
 use std::fmt::Write;
 
 /// The first thing in which the two answers to a call are not the same.
@@ -12,6 +13,7 @@ use std::fmt::Write;
 pub struct Difference {
     /// Which call it was, counted from 1 over all kinds.
     pub turn: u64,
+    pub device: Device,
     pub kind: Kind,
     pub inputs: String,
     pub what: String,
@@ -26,12 +28,21 @@ pub struct Asker {
     queue: Vec<(Call, Answer)>,
     queued_bytes: usize,
     compared: u64,
-    pub coverage: Coverage,
+    coverages: [Coverage; 2],
 }
 
 impl Asker {
     pub fn new(proved: Proved) -> Asker {
-        Asker { proved, queue: Vec::new(), queued_bytes: 0, compared: 0, coverage: Coverage::default() }
+        Asker { proved, queue: Vec::new(), queued_bytes: 0, compared: 0, coverages: Device::ALL.map(Coverage::new) }
+    }
+
+    pub fn coverage(&self, device: Device) -> &Coverage {
+        &self.coverages[device as usize]
+    }
+
+    /// How many calls of a kind were put into the queue.
+    pub fn asked(&self, device: Device, kind: Kind) -> u64 {
+        self.coverage(device).asked(kind)
     }
 
     /// Puts a call into the queue and gives the plain answer, so that a walk can go on from it.
@@ -40,7 +51,7 @@ impl Asker {
             self.compare_queued()?;
         }
         let answer = plainly::answer(&call);
-        self.coverage.count(&call, &answer);
+        self.coverages[call.device() as usize].count(&call, &answer);
         self.queued_bytes += call.size();
         self.queue.push((call, answer));
         Ok(&self.queue[self.queue.len() - 1].1)
@@ -55,7 +66,8 @@ impl Asker {
         for ((call, plain), proved) in calls.iter().zip(&plain).zip(&proved) {
             self.compared += 1;
             if let Some(what) = first_difference(call.kind(), ("plain", plain), ("proved", proved)) {
-                return Err(Difference { turn: self.compared, kind: call.kind(), inputs: in_short(call), what });
+                let (device, kind) = (call.device(), call.kind());
+                return Err(Difference { turn: self.compared, device, kind, inputs: in_short(call), what });
             }
         }
         Ok(())
@@ -90,29 +102,32 @@ pub fn first_difference(kind: Kind, one: (&str, &Answer), other: (&str, &Answer)
     (one != other).then(|| "the form of the answers".to_string())
 }
 
+/// The bytes from the address that a call is about, through the window of its P3.
+fn image_in_short(call: &Call, image: &[u8]) -> String {
+    let (p3, start) = match call {
+        Call::Read { p3, address, .. }
+        | Call::Bound { p3, address, .. }
+        | Call::Length { p3, address, .. }
+        | Call::Row { p3, address, .. }
+        | Call::Notation { p3, address, .. } => (*p3, *address as usize),
+        _ => p3_and_pc_of(call.changing()),
+    };
+    let place = |offset| place_in_image(p3 as u8, ((start + offset) % ADDRESSES) as u16);
+    let codes: Vec<u8> = (0..8).filter_map(|offset| image.get(place(offset))).copied().collect();
+    format!("image of {} bytes, P3 {p3}, from {start:04X}h {}; ", image.len(), hexadecimal(&codes))
+}
+
 /// The inputs in one line: what is needed to see the case. The seed and the turn give the rest.
 fn in_short(call: &Call) -> String {
-    let mut text = String::new();
-    if let Some(image) = call.image() {
-        let start = match call {
-            Call::Read { address, .. }
-            | Call::Bound { address, .. }
-            | Call::Length { address, .. }
-            | Call::Row { address, .. }
-            | Call::Notation { address, .. } => *address as usize,
-            _ => pc_of(call.changing()),
-        };
-        let codes: Vec<u8> = (0..8).filter_map(|offset| image.get((start + offset) % 8192)).copied().collect();
-        let _ = write!(text, "image of {} bytes, from {start:04X}h {}; ", image.len(), hexadecimal(&codes));
-    }
+    let mut text = call.image().map_or(String::new(), |image| image_in_short(call, image));
     let _ = match call {
-        Call::Fresh { record } | Call::Reset { record } | Call::IsValid { record } => {
+        Call::Fresh { record, .. } | Call::Reset { record, .. } | Call::IsValid { record, .. } => {
             write!(text, "{}", record_in_short(record))
         }
         Call::Step { wake, sound, record, frame, .. } => {
             write!(text, "wake {wake:02X}h, sound {sound}, frame {}, {}", frame.escape_ascii(), record_in_short(record))
         }
-        Call::Look { wake, sound, record, frame } => {
+        Call::Look { wake, sound, record, frame, .. } => {
             write!(text, "wake {wake:02X}h, sound {sound}, frame {}, {}", frame.escape_ascii(), record_in_short(record))
         }
         Call::Act { wake, sound, record, .. } => {
@@ -128,7 +143,9 @@ fn in_short(call: &Call) -> String {
                 record_in_short(record)
             )
         }
-        Call::Display { record, dots } => write!(text, "{} bytes for dots, {}", dots.len(), record_in_short(record)),
+        Call::Display { record, dots, .. } => {
+            write!(text, "{} bytes for dots, {}", dots.len(), record_in_short(record))
+        }
         Call::Read { address, .. } | Call::Length { address, .. } | Call::Row { address, .. } => {
             write!(text, "address {address:X}h")
         }
@@ -141,8 +158,8 @@ fn in_short(call: &Call) -> String {
     text
 }
 
-fn pc_of(record: &[u8]) -> usize {
-    layout::machine_of(record).map_or(0, |machine| machine.pc as usize)
+fn p3_and_pc_of(record: &[u8]) -> (u32, usize) {
+    layout::machine_of(record).map_or((0, 0), |machine| (machine.ports.p3 as u32, machine.pc as usize))
 }
 
 fn record_in_short(record: &[u8]) -> String {
@@ -171,7 +188,7 @@ mod tests {
             (|answer| answer.number = 30, "number: plain 0, proved 30"),
             (|answer| answer.values[1] = 9, "cycles: plain 8, proved 9"),
             (|answer| answer.buffer[0] = 0, "record, byte 0, ACC: plain 1, proved 0"),
-            (|answer| answer.buffer[410] = 0, "record, byte 410, RAM 17Fh: plain 1, proved 0"),
+            (|answer| answer.buffer[415] = 0, "record, byte 415, RAM 17Fh: plain 1, proved 0"),
             (|answer| answer.others_kept = false, "the proved call changed bytes outside its buffer"),
             (|answer| answer.values[3] = 1, "the form of the answers"),
         ];

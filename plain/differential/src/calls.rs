@@ -1,26 +1,28 @@
-//! The fourteen calls of include/em73862.h and include/em73862_pane.h as values: what goes in, and what comes back.
+//! The calls of include/em73862.h, include/em73862_pane.h and include/em73p982.h as values: what goes in, and what comes back.
 
+use plain::Device;
 use std::sync::Arc;
 
 /// Many calls share an image.
 pub type Image = Arc<[u8]>;
 
+/// P3 goes in only on the EM73P982, and is 0 on the EM73862. The writer serves both devices.
 #[derive(Clone, Debug)]
 pub enum Call {
-    Fresh { record: Vec<u8> },
-    Reset { record: Vec<u8> },
-    IsValid { record: Vec<u8> },
-    Step { image: Image, wake: u8, sound: u8, record: Vec<u8>, frame: Vec<u8> },
-    Look { wake: u8, sound: u8, record: Vec<u8>, frame: Vec<u8> },
-    Act { image: Image, wake: u8, sound: u8, record: Vec<u8> },
-    Run { image: Image, wake: u8, sound: u8, record: Vec<u8>, frames: Vec<u8> },
-    Display { record: Vec<u8>, dots: Vec<u8> },
-    Read { image: Image, address: u32 },
+    Fresh { device: Device, record: Vec<u8> },
+    Reset { device: Device, record: Vec<u8> },
+    IsValid { device: Device, record: Vec<u8> },
+    Step { device: Device, image: Image, wake: u8, sound: u8, record: Vec<u8>, frame: Vec<u8> },
+    Look { device: Device, wake: u8, sound: u8, record: Vec<u8>, frame: Vec<u8> },
+    Act { device: Device, image: Image, wake: u8, sound: u8, record: Vec<u8> },
+    Run { device: Device, image: Image, wake: u8, sound: u8, record: Vec<u8>, frames: Vec<u8> },
+    Display { device: Device, record: Vec<u8>, dots: Vec<u8> },
+    Read { device: Device, image: Image, p3: u32, address: u32 },
     Write { row: u8, a: u16, b: u8 },
-    Bound { image: Image, address: u32, path: Vec<u8> },
-    Length { image: Image, address: u32 },
-    Row { image: Image, address: u32 },
-    Notation { image: Image, address: u32, text: Vec<u8> },
+    Bound { device: Device, image: Image, p3: u32, address: u32, path: Vec<u8> },
+    Length { device: Device, image: Image, p3: u32, address: u32 },
+    Row { device: Device, image: Image, p3: u32, address: u32 },
+    Notation { device: Device, image: Image, p3: u32, address: u32, text: Vec<u8> },
 }
 
 /// What the calls are counted by.
@@ -77,6 +79,11 @@ impl Kind {
             Kind::Row => "row",
             Kind::Notation => "notation",
         }
+    }
+
+    /// Whether the device has a call of this kind.
+    pub fn is_of(self, device: Device) -> bool {
+        device == Device::Em73862 || self != Kind::Write
     }
 
     /// What a number of its calls is called.
@@ -148,6 +155,25 @@ impl Call {
         }
     }
 
+    pub fn device(&self) -> Device {
+        match self {
+            Call::Fresh { device, .. }
+            | Call::Reset { device, .. }
+            | Call::IsValid { device, .. }
+            | Call::Step { device, .. }
+            | Call::Look { device, .. }
+            | Call::Act { device, .. }
+            | Call::Run { device, .. }
+            | Call::Display { device, .. }
+            | Call::Read { device, .. }
+            | Call::Bound { device, .. }
+            | Call::Length { device, .. }
+            | Call::Row { device, .. }
+            | Call::Notation { device, .. } => *device,
+            Call::Write { .. } => Device::Em73862,
+        }
+    }
+
     pub fn image(&self) -> Option<&Image> {
         match self {
             Call::Step { image, .. }
@@ -165,7 +191,7 @@ impl Call {
     /// The buffer of the answer as it goes in. That of is_valid is in it too, though only lent to be read.
     pub fn changing(&self) -> &[u8] {
         match self {
-            Call::Fresh { record } | Call::Reset { record } | Call::IsValid { record } => record,
+            Call::Fresh { record, .. } | Call::Reset { record, .. } | Call::IsValid { record, .. } => record,
             Call::Step { record, .. } | Call::Look { record, .. } => record,
             Call::Act { record, .. } | Call::Run { record, .. } => record,
             Call::Display { dots, .. } => dots,

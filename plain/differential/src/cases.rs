@@ -3,6 +3,9 @@
 pub mod dots;
 pub mod frames;
 pub mod memory;
+pub mod p982_frames;
+pub mod p982_ports;
+pub mod p982_window;
 pub mod paths;
 pub mod record;
 pub mod refused_records;
@@ -14,7 +17,7 @@ use crate::asker::first_difference;
 use crate::calls::{Answer, Call, Image, MOST_VALUES};
 use crate::plainly;
 use crate::proved::Proved;
-use plain::IMAGE_SIZE;
+use plain::Device;
 
 pub const NOP: u8 = 0x56;
 
@@ -44,19 +47,20 @@ pub fn refused(number: u8, call: &Call) -> Answer {
 }
 
 /// An image of NOPs that begins with a code.
-pub fn image_from(code: &[u8]) -> Image {
-    let mut image = vec![NOP; IMAGE_SIZE];
+pub fn image_from(device: Device, code: &[u8]) -> Image {
+    let mut image = vec![NOP; device.image_size()];
     image[..code.len()].copy_from_slice(code);
     image.into()
 }
 
 /// A step at an image of NOPs that begins with `code`.
 pub struct Step<'a> {
+    pub device: Device,
     pub code: &'a [u8],
     pub wake: u8,
     pub sound: u8,
     pub before: Vec<u8>,
-    pub frame: &'a [u8; 3],
+    pub frame: &'a [u8],
 }
 
 impl Step<'_> {
@@ -73,10 +77,27 @@ impl Step<'_> {
     }
 
     fn answered(self, name: &str, expected: Answer) -> Case {
-        let Step { code, wake, sound, before, frame } = self;
-        let call = Call::Step { image: image_from(code), wake, sound, record: before, frame: frame.to_vec() };
+        let Step { device, code, wake, sound, before, frame } = self;
+        let image = image_from(device, code);
+        let call = Call::Step { device, image, wake, sound, record: before, frame: frame.to_vec() };
         Case { name: name.to_string(), call, expected }
     }
+}
+
+/// Every group of cases but those of the rows, with its name.
+pub fn groups() -> Vec<(&'static str, Vec<Case>)> {
+    vec![
+        ("reading P4 with SOUND and without", sound::cases()),
+        ("wake pins and edges", waking::cases()),
+        ("images, frames and runs at their limits", frames::cases()),
+        ("dots", dots::cases()),
+        ("RAM by HL", memory::cases()),
+        ("records outside their ranges, and at the ends of them", refused_records::cases()),
+        ("path buffers", paths::cases()),
+        ("EM73P982: ports, P4 and speech", p982_ports::cases()),
+        ("EM73P982: banks and the window", p982_window::cases()),
+        ("EM73P982: images, frames, fresh and reset", p982_frames::cases()),
+    ]
 }
 
 /// Puts the cases to the proved calls and to the plain emulator; gives what is not as expected.
@@ -94,4 +115,21 @@ pub fn failures(proved: &mut Proved, cases: &[Case]) -> Vec<String> {
         }
     }
     failures
+}
+
+#[cfg(test)]
+mod tests {
+    use super::*;
+
+    #[test]
+    fn the_plain_emulator_gives_every_answer() {
+        let rows = rows::cases();
+        assert_eq!(rows::gaps(&rows), [""; 0]);
+        let rows = rows.into_iter().flat_map(|case| [case.step, case.read]);
+        for case in groups().into_iter().flat_map(|(_, cases)| cases).chain(rows) {
+            let found = plainly::answer(&case.call);
+            let difference = first_difference(case.call.kind(), ("expected", &case.expected), ("plain", &found));
+            assert_eq!(difference, None, "{}", case.name);
+        }
+    }
 }

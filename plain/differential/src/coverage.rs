@@ -2,7 +2,7 @@
 
 use crate::calls::{Answer, Call, Kind};
 use crate::layout::machine_of;
-use plain::{numbers, read, Machine, Mode, Row, MOST_FRAMES, SHEET};
+use plain::{is_valid, numbers, place_in_image, read, Device, Insn, Machine, Mode, Row, MOST_FRAMES, SHEET};
 
 const NUMBERS: usize = 36;
 
@@ -51,6 +51,20 @@ const RUN_AT_LEAST: [(u8, u64); 11] = [
     (35, 2_500),
 ];
 
+/// What comes of the EM73P982 besides: 2 for the P3 that goes in.
+const P982_AT_LEAST: [(Kind, u8, u64); 5] = [
+    (Kind::Read, numbers::RECORD_RANGE, 1_000),
+    (Kind::Bound, numbers::RECORD_RANGE, 100),
+    (Kind::Length, numbers::RECORD_RANGE, 1_000),
+    (Kind::Row, numbers::RECORD_RANGE, 1_000),
+    (Kind::Notation, numbers::RECORD_RANGE, 1_000),
+];
+
+/// The ports that a device's rows can write, each written so often at least by single steps.
+const WRITABLE: [u8; 11] = [4, 8, 9, 16, 23, 24, 25, 27, 28, 29, 30];
+const P982_WRITABLE: [u8; 15] = [3, 4, 5, 6, 8, 9, 16, 17, 23, 24, 25, 27, 28, 29, 30];
+const EACH_PORT: u64 = 300;
+
 /// Each row is executed so often at least by single steps that do not stop.
 const EACH_ROW: u64 = 300;
 
@@ -89,13 +103,27 @@ enum Event {
     TrgbIsDue,
     TbiIsDue,
     Int1IsDue,
+    ExecutesBank0,
+    ExecutesBank1,
+    ExecutesBank2,
+    ExecutesBank3,
+    MovesItsWindow,
+    CrossesBanks,
+    ReadsTable1,
+    ReadsTable2,
+    ReadsTable3,
+    SpeechStays,
+    SpeechAsleep,
+    P8Falls,
+    StopsByP3,
+    RefusedByP3,
 }
 
 /// What is due now and was not, by its number in the record.
 const DUE: [Event; 6] =
     [Event::NothingIsDue, Event::Int0IsDue, Event::TrgaIsDue, Event::TrgbIsDue, Event::TbiIsDue, Event::Int1IsDue];
 
-const EVENTS: [(Event, &str); 32] = [
+const EVENTS: [(Event, &str); 46] = [
     (Event::AcceptsInt0, "accepts INT0"),
     (Event::AcceptsTrga, "accepts TRGA"),
     (Event::AcceptsTrgb, "accepts TRGB"),
@@ -128,7 +156,24 @@ const EVENTS: [(Event, &str); 32] = [
     (Event::TrgbIsDue, "makes TRGB due"),
     (Event::TbiIsDue, "makes TBI due"),
     (Event::Int1IsDue, "makes INT1 due"),
+    (Event::ExecutesBank0, "executes from bank 0"),
+    (Event::ExecutesBank1, "executes from bank 1"),
+    (Event::ExecutesBank2, "executes from bank 2"),
+    (Event::ExecutesBank3, "executes from bank 3"),
+    (Event::MovesItsWindow, "writes another P3 from the window"),
+    (Event::CrossesBanks, "executes a code across 1000h"),
+    (Event::ReadsTable1, "reads a table in bank 1"),
+    (Event::ReadsTable2, "reads a table in bank 2"),
+    (Event::ReadsTable3, "reads a table in bank 3"),
+    (Event::SpeechStays, "sets IL0 by a digit that stays 1"),
+    (Event::SpeechAsleep, "waits on with the fourth digit 1"),
+    (Event::P8Falls, "sees P8.0 fall and leaves IL0"),
+    (Event::StopsByP3, "stops with 34 by P3"),
+    (Event::RefusedByP3, "is refused with 2 by P3"),
 ];
+
+/// The events from here on are the EM73P982's alone; what is INT1 before is SPI there.
+const P982_EVENTS: usize = Event::ExecutesBank0 as usize;
 
 /// Each event comes so often at least in single steps.
 const EACH_EVENT: u64 = 300;
@@ -140,8 +185,11 @@ const LONGEST_RUNS: u64 = 10;
 const BOUNDS_PAST_END: u64 = 2_500;
 
 pub struct Coverage {
+    device: Device,
     answers: [[u64; NUMBERS]; 14],
     rows: [u64; 108],
+    /// How often each port was written.
+    ports: [u64; 32],
     events: [u64; EVENTS.len()],
     longest_runs: u64,
     bounds_past_end: u64,
@@ -149,42 +197,54 @@ pub struct Coverage {
     just_entered: Vec<u8>,
 }
 
-impl Default for Coverage {
-    fn default() -> Coverage {
+impl Coverage {
+    pub fn new(device: Device) -> Coverage {
         Coverage {
+            device,
             answers: [[0; NUMBERS]; 14],
             rows: [0; 108],
+            ports: [0; 32],
             events: [0; EVENTS.len()],
             longest_runs: 0,
             bounds_past_end: 0,
             just_entered: Vec::new(),
         }
     }
-}
 
-impl Coverage {
     pub fn count(&mut self, call: &Call, answer: &Answer) {
         self.answers[call.kind() as usize][answer.number as usize] += 1;
         if call.kind() == Kind::Run && answer.values[0] as usize == MOST_FRAMES {
             self.longest_runs += 1;
         }
-        if let Call::Bound { image, .. } = call {
+        if let Call::Bound { image, p3, .. } = call {
             let excluded = answer.number == numbers::EXCLUDED;
-            let past_end = excluded && read(image, answer.values[0] as usize) == Err(numbers::PAST_END);
+            let lowest = answer.values[0] as usize;
+            let past_end = excluded && read(self.device, image, *p3, lowest) == Err(numbers::PAST_END);
             self.bounds_past_end += past_end as u64;
         }
         if let Call::Step { image, wake, record, .. } = call {
+            let (Some(before), Some(after)) = (machine_of(record), machine_of(&answer.buffer)) else { return };
             if answer.number == 0 {
-                if let (Some(before), Some(after)) = (machine_of(record), machine_of(&answer.buffer)) {
-                    self.count_step(image, &before, &after);
-                    let by_level = wakes_by_level(*wake, &before, &after);
-                    self.count_levels(by_level, record, &before);
-                    if before.mode == Mode::Running && after.mode != Mode::Running {
-                        self.just_entered.clone_from(&answer.buffer);
-                    }
+                self.count_step(image, &before, &after);
+                let by_level = wakes_by_level(*wake, &before, &after);
+                self.count_levels(by_level, record, &before);
+                if before.mode == Mode::Running && after.mode != Mode::Running {
+                    self.just_entered.clone_from(&answer.buffer);
                 }
+            } else if self.device == Device::Em73P982 {
+                self.count_p3(image, &before, answer.number);
             }
         }
+    }
+
+    /// Whether P3 is what stops a step, or refuses its record.
+    fn count_p3(&mut self, image: &[u8], before: &Machine, number: u8) {
+        let insn = read(self.device, image, before.ports.p3 as u32, before.pc as usize);
+        let writes_p3 = insn.is_ok_and(|insn| port_written(insn, before.lr) == Some(3));
+        self.happens(Event::StopsByP3, number == numbers::RESERVED_SETTING && writes_p3);
+        let mut with_another = before.clone();
+        with_another.ports.p3 = 0;
+        self.happens(Event::RefusedByP3, number == numbers::RECORD_RANGE && is_valid(self.device, &with_another));
     }
 
     pub fn asked(&self, kind: Kind) -> u64 {
@@ -200,6 +260,7 @@ impl Coverage {
             self.count_waiting(before, after);
             return;
         }
+        self.count_speech(before, after);
         self.happens(DUE[after.due as usize], after.due != before.due);
         let set = after.il & !before.il;
         for (bit, event) in
@@ -210,21 +271,17 @@ impl Coverage {
         self.happens(Event::TimeBaseWraps, after.time_base < before.time_base && after.mode == Mode::Running);
         // Only an acceptance lowers SP and clears EI.
         if before.ei && !after.ei && after.sp + 1 == before.sp {
-            for (entry, event) in [
-                (0x02, Event::AcceptsInt0),
-                (0x06, Event::AcceptsTrga),
-                (0x08, Event::AcceptsTrgb),
-                (0x0A, Event::AcceptsTbi),
-                (0x0C, Event::AcceptsInt1),
-            ] {
-                self.happens(event, after.pc == entry);
-            }
+            self.count_acceptance(after.pc);
             return;
         }
         self.happens(Event::EntersSleep, after.mode == Mode::Sleep);
         self.happens(Event::EntersHold, after.mode == Mode::Hold);
-        if let Ok(insn) = read(image, before.pc as usize) {
+        if let Ok(insn) = read(self.device, image, before.ports.p3 as u32, before.pc as usize) {
             self.rows[insn.row as usize] += 1;
+            self.count_banks(insn, before, after);
+            if let Some(port) = port_written(insn, before.lr) {
+                self.ports[port as usize] += 1;
+            }
             let row = Row::from_number(insn.row);
             self.happens(Event::CountsTa, after.ta != before.ta && !row.is_some_and(stores_ta));
             self.happens(Event::CountsTb, after.tb != before.tb && !row.is_some_and(stores_tb));
@@ -232,7 +289,43 @@ impl Coverage {
         }
     }
 
+    fn count_acceptance(&mut self, pc: u16) {
+        for (entry, event) in [
+            (0x02, Event::AcceptsInt0),
+            (0x06, Event::AcceptsTrga),
+            (0x08, Event::AcceptsTrgb),
+            (0x0A, Event::AcceptsTbi),
+            (0x0C, Event::AcceptsInt1),
+        ] {
+            self.happens(event, pc == entry);
+        }
+    }
+
+    /// Where a row stands, and where a table read goes.
+    fn count_banks(&mut self, insn: Insn, before: &Machine, after: &Machine) {
+        let p3 = before.ports.p3;
+        let bank_of = |address| place_in_image(p3, address) / 4096;
+        let banks = [Event::ExecutesBank0, Event::ExecutesBank1, Event::ExecutesBank2, Event::ExecutesBank3];
+        self.happens(banks[bank_of(before.pc)], true);
+        self.happens(Event::MovesItsWindow, before.pc >= 0x1000 && (after.ports.p3 ^ p3) & 3 != 0);
+        let row = Row::from_number(insn.row);
+        let ends = before.pc + row.map_or(1, Row::bytes) - 1;
+        self.happens(Event::CrossesBanks, before.pc < 0x1000 && ends >= 0x1000);
+        let tables = [Event::ReadsTable1, Event::ReadsTable2, Event::ReadsTable3];
+        let reads_a_table = matches!(row, Some(Row::Ldax | Row::Ldaxi));
+        self.happens(tables[bank_of(0x1000 + before.dp) - 1], reads_a_table);
+    }
+
+    fn count_speech(&mut self, before: &Machine, after: &Machine) {
+        let (last, frame) = (before.last_frame, after.last_frame);
+        let sets_il0 = before.il & 1 == 0 && after.il & 1 != 0;
+        self.happens(Event::SpeechStays, sets_il0 && last.speech == 1 && frame.speech == 1);
+        let falls = last.p8 & !frame.p8 & 1 != 0 && frame.speech == 0;
+        self.happens(Event::P8Falls, falls && before.il & 1 == 0 && after.il & 1 == 0);
+    }
+
     fn count_waiting(&mut self, before: &Machine, after: &Machine) {
+        self.happens(Event::SpeechAsleep, after.last_frame.speech == 1 && before.il & 1 == 0);
         self.happens(Event::WaitsOn, after.mode != Mode::Running);
         if after.mode == Mode::Running {
             let wakes = [Event::WakesBy0, Event::WakesBy1, Event::WakesBy2, Event::WakesFromHold];
@@ -249,7 +342,7 @@ impl Coverage {
     /// The numbers that came of each call, then the rows and events that came least.
     pub fn report(&self) -> Vec<String> {
         let mut lines = Vec::new();
-        for kind in Kind::ALL {
+        for kind in Kind::ALL.into_iter().filter(|kind| kind.is_of(self.device)) {
             let answers = self.answers[kind as usize].iter().enumerate().filter(|(_, count)| **count > 0);
             let words: Vec<String> = answers.map(|(number, count)| format!("{number}: {count}")).collect();
             lines.push(format!("{} answered {}", kind.name(), words.join(", ")));
@@ -262,22 +355,56 @@ impl Coverage {
             ));
         }
         let words: Vec<String> =
-            EVENTS.iter().map(|(event, name)| format!("{name} {}", self.events[*event as usize])).collect();
+            self.events().map(|(event, name)| format!("{name} {}", self.events[event as usize])).collect();
         lines.push(format!("a step {}", words.join(", ")));
+        let words: Vec<String> =
+            self.writable().iter().map(|port| format!("P{port} {}", self.ports[*port as usize])).collect();
+        lines.push(format!("a step writes {}", words.join(", ")));
         lines.push(format!("a run made {MOST_FRAMES} steps {} times", self.longest_runs));
         lines.push(format!("a bound met a code that passes the end {} times", self.bounds_past_end));
         lines
     }
 
+    /// Those of the device, with their names.
+    fn events(&self) -> impl Iterator<Item = (Event, String)> + '_ {
+        let (count, last) = match self.device {
+            Device::Em73862 => (P982_EVENTS, "INT1"),
+            Device::Em73P982 => (EVENTS.len(), "SPI"),
+        };
+        EVENTS.iter().take(count).map(move |(event, name)| (*event, name.replace("INT1", last)))
+    }
+
+    fn writable(&self) -> &'static [u8] {
+        match self.device {
+            Device::Em73862 => &WRITABLE,
+            Device::Em73P982 => &P982_WRITABLE,
+        }
+    }
+
+    /// Each number that must come of the device's calls, and how often.
+    fn at_least(&self) -> Vec<(Kind, u8, u64)> {
+        let both =
+            AT_LEAST.iter().flat_map(|(kind, least)| least.iter().map(|(number, least)| (*kind, *number, *least)));
+        let both = both.filter(|(kind, _, _)| kind.is_of(self.device));
+        match self.device {
+            Device::Em73862 => both.collect(),
+            Device::Em73P982 => both.chain(P982_AT_LEAST).collect(),
+        }
+    }
+
     /// What came less often than it must.
     pub fn shortfalls(&self) -> Vec<String> {
         let mut found = Vec::new();
-        for (kind, least) in AT_LEAST {
-            for (number, least) in least {
-                let count = self.answers[kind as usize][*number as usize];
-                if count < *least {
-                    found.push(format!("{} answered {number} only {count} times, not {least}", kind.name()));
-                }
+        for (kind, number, least) in self.at_least() {
+            let count = self.answers[kind as usize][number as usize];
+            if count < least {
+                found.push(format!("{} answered {number} only {count} times, not {least}", kind.name()));
+            }
+        }
+        for port in self.writable() {
+            let count = self.ports[*port as usize];
+            if count < EACH_PORT {
+                found.push(format!("P{port} was written only {count} times, not {EACH_PORT}"));
             }
         }
         for sheet in &SHEET {
@@ -286,7 +413,7 @@ impl Coverage {
                 found.push(format!("{} was executed only {count} times, not {EACH_ROW}", sheet.mnemonic));
             }
         }
-        for (event, name) in EVENTS {
+        for (event, name) in self.events() {
             let count = self.events[event as usize];
             if count < EACH_EVENT {
                 found.push(format!("a step {name} only {count} times, not {EACH_EVENT}"));
@@ -307,6 +434,16 @@ impl Coverage {
 fn wakes_by_level(wake: u8, before: &Machine, after: &Machine) -> bool {
     let falling = before.last_frame.wake_pins() & !after.last_frame.wake_pins();
     before.mode != Mode::Running && after.mode == Mode::Running && falling & wake == 0
+}
+
+/// The port that a row writes, sets or clears, by its name or by LR: PORT[LR3-2 + 4].
+fn port_written(insn: Insn, lr: u8) -> Option<u8> {
+    match Row::from_number(insn.row)? {
+        Row::Out => Some(insn.b as u8),
+        Row::Outa | Row::Outm | Row::Sep | Row::Clp => Some(insn.a as u8),
+        Row::Sepl | Row::Clpl => Some((lr >> 2) + 4),
+        _ => None,
+    }
 }
 
 fn stores_ta(row: Row) -> bool {

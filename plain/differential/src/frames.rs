@@ -1,22 +1,23 @@
 //! Frames: pins that change now and then, their characters, and characters that are no frame.
 
 use crate::chance::Chance;
-use plain::{Frame, FRAME_LENGTH};
+use plain::{Device, Frame};
 
 /// Pins of which a step changes some.
 pub struct Pins {
+    device: Device,
     now: Frame,
     /// How seldom they change: one in so many steps.
     seldom: usize,
 }
 
 impl Pins {
-    pub fn new(chance: &mut Chance, last: Frame) -> Pins {
-        Pins { now: last, seldom: chance.pick(&[1, 2, 2, 8, 1000]) }
+    pub fn new(chance: &mut Chance, device: Device, last: Frame) -> Pins {
+        Pins { device, now: last, seldom: chance.pick(&[1, 2, 2, 8, 1000]) }
     }
 
     /// The next frame's characters.
-    pub fn next(&mut self, chance: &mut Chance) -> [u8; FRAME_LENGTH] {
+    pub fn next(&mut self, chance: &mut Chance) -> Vec<u8> {
         if chance.one_in(self.seldom) {
             // P8 has the pins of the interrupts and of the timers.
             self.now.p8 ^= 1 << chance.below(4);
@@ -26,17 +27,41 @@ impl Pins {
             if chance.one_in(4) {
                 self.now.p0 ^= 1 << chance.below(4);
             }
-            if chance.one_in(8) {
-                self.now.p4_0 ^= 1;
+            match self.device {
+                Device::Em73862 if chance.one_in(8) => self.now.p4 ^= 1,
+                Device::Em73862 => {}
+                Device::Em73P982 => self.change_what_is_added(chance),
             }
         }
-        characters(chance, self.now)
+        characters(chance, self.device, self.now)
+    }
+
+    fn change_what_is_added(&mut self, chance: &mut Chance) {
+        if chance.one_in(4) {
+            self.now.p4 = chance.nibble();
+        }
+        if chance.one_in(3) {
+            self.now.speech = chance.one_in(3) as u8;
+        }
     }
 }
 
-fn characters(chance: &mut Chance, frame: Frame) -> [u8; FRAME_LENGTH] {
+/// The frame of the fresh record.
+pub fn idle(device: Device) -> &'static [u8] {
+    match device {
+        Device::Em73862 => b"FF1",
+        Device::Em73P982 => b"FFF0",
+    }
+}
+
+fn characters(chance: &mut Chance, device: Device, frame: Frame) -> Vec<u8> {
     let cases = chance.byte();
-    [digit(frame.p0, cases & 1 != 0), digit(frame.p8, cases & 2 != 0), b'0' + frame.p4_0]
+    let mut text =
+        vec![digit(frame.p0, cases & 1 != 0), digit(frame.p8, cases & 2 != 0), digit(frame.p4, cases & 4 != 0)];
+    if device == Device::Em73P982 {
+        text.push(b'0' + frame.speech);
+    }
+    text
 }
 
 fn digit(value: u8, upper: bool) -> u8 {
@@ -47,22 +72,29 @@ fn digit(value: u8, upper: bool) -> u8 {
     }
 }
 
-/// Three characters of which at least one is no digit in its place.
-pub fn bad(chance: &mut Chance) -> [u8; FRAME_LENGTH] {
+/// As many characters as a frame has, of which at least one is no digit in its place.
+pub fn bad(chance: &mut Chance, device: Device) -> Vec<u8> {
     const AROUND_THE_DIGITS: [u8; 12] = [b'/', b':', b'@', b'G', b'`', b'g', b' ', b'\n', 0, 0xFF, 0x80, 0xB1];
-    let mut frame = [digit(chance.nibble(), false), digit(chance.nibble(), true), b'0' + chance.below(2) as u8];
+    let mut frame = characters(chance, device, Frame::idle(device));
+    frame[..2].copy_from_slice(&[digit(chance.nibble(), false), digit(chance.nibble(), true)]);
+    let last = frame.len() - 1;
     match chance.below(4) {
-        0 => frame[2] = chance.pick(b"239AFaf"),
-        _ => frame[chance.below(3)] = chance.pick(&AROUND_THE_DIGITS),
+        // The last digit is 0 or 1 on both devices.
+        0 => frame[last] = chance.pick(b"239AFaf"),
+        _ => frame[chance.below(last + 1)] = chance.pick(&AROUND_THE_DIGITS),
     }
     frame
 }
 
-/// What a step refuses for a frame: bad characters, or good ones that are not three.
-pub fn bad_of_any_length(chance: &mut Chance) -> Vec<u8> {
+/// What a step refuses for a frame: bad characters, or good ones that are not as many as a frame's.
+pub fn bad_of_any_length(chance: &mut Chance, device: Device) -> Vec<u8> {
     match chance.below(4) {
-        0 => b"FF1FF1"[..chance.pick(&[0, 1, 2, 4, 5, 6])].to_vec(),
-        _ => bad(chance).to_vec(),
+        0 => {
+            let length = chance.below(9);
+            let other = if length == device.frame_length() { length + 1 } else { length };
+            b"FF10FF10F"[..other].to_vec()
+        }
+        _ => bad(chance, device),
     }
 }
 
@@ -73,12 +105,15 @@ mod tests {
     #[test]
     fn bad_frames_are_no_frames_and_the_pins_are() {
         let mut chance = Chance::new(5);
-        let mut pins = Pins::new(&mut chance, Frame::IDLE);
-        for _ in 0..2_000 {
-            assert_eq!(Frame::parse(&bad(&mut chance)), None);
-            assert_eq!(Frame::parse(&bad_of_any_length(&mut chance)), None);
-            let text = pins.next(&mut chance);
-            assert_eq!(Frame::parse(&text), Some(pins.now));
+        for device in Device::ALL {
+            assert_eq!(Frame::parse(device, idle(device)), Some(Frame::idle(device)));
+            let mut pins = Pins::new(&mut chance, device, Frame::idle(device));
+            for _ in 0..2_000 {
+                assert_eq!(Frame::parse(device, &bad(&mut chance, device)), None);
+                assert_eq!(Frame::parse(device, &bad_of_any_length(&mut chance, device)), None);
+                let text = pins.next(&mut chance);
+                assert_eq!(Frame::parse(device, &text), Some(pins.now));
+            }
         }
     }
 }

@@ -1,11 +1,14 @@
-//! Images: any bytes, rows of the sheet with some groups favoured, corners, and wrong sizes.
+//! Images of a device: any bytes, rows of the sheet with some groups favoured, corners, and wrong sizes.
 
 use crate::calls::Image;
 use crate::chance::Chance;
-use plain::{fresh, step, write, Insn, Mode, Options, Row, SheetRow, IMAGE_SIZE, SHEET};
+use crate::frames::idle;
+use crate::records::P3_VALUES;
+use plain::{fresh, place_in_image, step, write, Device, Insn, Mode, Options, Row, SheetRow, ADDRESSES, SHEET};
 
 /// Codes of rows, by the plain writer.
 pub struct Codes {
+    pub device: Device,
     /// By row number less one: codes of that row with any operands.
     any: Vec<Vec<Vec<u8>>>,
     /// Those that go on: no absent port, no reserved setting, no sleep or hold.
@@ -43,7 +46,15 @@ const FAVOURED: [Favoured; 8] = [
             Row::Ldl,
             Row::Ldia,
         ],
-        codes: &[&[0x6F, 0x44], &[0x6F, 0x48], &[0x6D, 0x04], &[0x6D, 0x88]],
+        codes: &[
+            &[0x6F, 0x44],
+            &[0x6F, 0x48],
+            &[0x6D, 0x04],
+            &[0x6D, 0x88],
+            &[0x6F, 0x17],
+            &[0x6F, 0x98],
+            &[0x6F, 0x1E],
+        ],
     },
     // Timers and interrupts: OUTA to P25, P28 and P29.
     Favoured {
@@ -113,15 +124,64 @@ const FAVOURED: [Favoured; 8] = [
     },
 ];
 
+/// The same of the EM73P982 alone.
+const FAVOURED_OF_P982: [Favoured; 3] = [
+    // Sleep and hold, with the window moved before and after.
+    Favoured {
+        rows: &[Row::Ldia, Row::Ldia, Row::Nop, Row::Inca],
+        codes: &[&[0x6F, 0x10], &[0x6F, 0x10], &[0x6F, 0x90], &[0x4A, 0x13], &[0x4A, 0x23]],
+    },
+    // P3, by OUT, OUTA, OUTM, SEP and CLP, and what goes through the window.
+    Favoured {
+        rows: &[Row::Ldia, Row::Nop, Row::Inca, Row::Slbr, Row::Lbr, Row::Ldax, Row::Ldaxi, Row::Lcall, Row::Ret],
+        codes: &[
+            &[0x4A, 0x03],
+            &[0x4A, 0x13],
+            &[0x4A, 0x23],
+            &[0x4A, 0xE3],
+            &[0x4A, 0x33],
+            &[0x6F, 0x03],
+            &[0x6F, 0x83],
+            &[0x6D, 0x43],
+            &[0x6D, 0x53],
+            &[0x6D, 0x63],
+            &[0x6D, 0xC3],
+            &[0x6D, 0xD3],
+            &[0x65],
+            &[0x67],
+        ],
+    },
+    // P5, P6 and P17, with SEPL and CLPL, and P4's pins.
+    Favoured {
+        rows: &[Row::Ldl, Row::Ldl, Row::Sepl, Row::Clpl, Row::Ldia, Row::Inca, Row::Nop],
+        codes: &[
+            &[0x6F, 0x05],
+            &[0x6F, 0x06],
+            &[0x6F, 0x11],
+            &[0x6F, 0x85],
+            &[0x6F, 0x86],
+            &[0x6F, 0x91],
+            &[0x4A, 0x75],
+            &[0x4A, 0x96],
+            &[0x6D, 0x65],
+            &[0x6D, 0xD6],
+            &[0x6F, 0x44],
+            &[0x6F, 0xC4],
+            &[0x6D, 0x04],
+            &[0x6D, 0xA4],
+        ],
+    },
+];
+
 impl Codes {
-    pub fn new(chance: &mut Chance) -> Codes {
+    pub fn new(chance: &mut Chance, device: Device) -> Codes {
         const A_ROW: usize = 64;
-        let mut codes = Codes { any: Vec::new(), calm: Vec::new() };
+        let mut codes = Codes { device, any: Vec::new(), calm: Vec::new() };
         for sheet in &SHEET {
             let fitting = (0..100 * A_ROW).filter_map(|_| write(any_insn(chance, sheet)).ok());
             let any: Vec<Vec<u8>> = fitting.take(A_ROW).collect();
             assert!(any.len() == A_ROW, "the plain writer refuses {} with operands that fit", sheet.mnemonic);
-            codes.calm.push(any.iter().filter(|code| goes_on(code)).cloned().collect());
+            codes.calm.push(any.iter().filter(|code| goes_on(device, code)).cloned().collect());
             codes.any.push(any);
         }
         codes
@@ -155,25 +215,52 @@ fn operand(chance: &mut Chance, letters: &str, place: usize) -> u16 {
         Some(b'p') => chance.below(32) as u16,
         Some(b'r') => chance.below(64) as u16,
         Some(b'x') => chance.below(0xF4) as u16,
-        Some(_) => chance.below(IMAGE_SIZE) as u16 >> chance.pick(&[0, 1, 2, 7]),
+        Some(_) => chance.below(ADDRESSES) as u16 >> chance.pick(&[0, 1, 2, 7]),
     }
 }
 
 /// Whether a code at address 0 neither stops nor ends running, with room on the stack and ACC and RAM 0.
-fn goes_on(code: &[u8]) -> bool {
-    let mut image = [0; IMAGE_SIZE];
+fn goes_on(device: Device, code: &[u8]) -> bool {
+    let mut image = vec![0; device.image_size()];
     image[..code.len()].copy_from_slice(code);
-    let mut machine = fresh();
+    let mut machine = fresh(device);
     machine.sp = 6;
-    let stepped = step(&image, Options { wake: 0, sound: false }, &machine, b"FF1");
+    let stepped = step(&image, Options { device, wake: 0, sound: false }, &machine, idle(device));
     stepped.is_ok_and(|stepped| stepped.stop == 0 && stepped.machine.mode == Mode::Running)
 }
 
-/// An image of 8,192 bytes of any kind.
+/// A P3 of a record, or 0 on the EM73862.
+pub fn any_p3(chance: &mut Chance, device: Device) -> u32 {
+    match device {
+        Device::Em73862 => 0,
+        Device::Em73P982 => chance.pick(&P3_VALUES) as u32,
+    }
+}
+
+/// A P3 that goes into a call of the reader or the bound: one in so many is refused.
+pub fn given_p3(chance: &mut Chance, device: Device, one_in: usize) -> u32 {
+    const REFUSED: [u32; 10] = [3, 7, 11, 15, 16, 17, 255, 256, 0x8000_0000, u32::MAX];
+    if device == Device::Em73P982 && chance.one_in(one_in) {
+        chance.pick(&REFUSED)
+    } else {
+        any_p3(chance, device)
+    }
+}
+
+/// An image that shows these bytes at the addresses through the window of a P3; the other banks have any bytes.
+pub fn shown(chance: &mut Chance, device: Device, p3: u32, bytes: &[u8; ADDRESSES]) -> Image {
+    let mut image = chance.bytes(device.image_size());
+    for (address, byte) in bytes.iter().enumerate() {
+        image[place_in_image(p3 as u8, address as u16)] = *byte;
+    }
+    image.into()
+}
+
+/// A whole image of any kind.
 pub fn whole(chance: &mut Chance, codes: &Codes) -> Image {
     match chance.below(16) {
-        0..=2 => uniform(chance),
-        3 => chance.pick(&[[0; IMAGE_SIZE], [0xFF; IMAGE_SIZE]]).into(),
+        0..=2 => chance.bytes(codes.device.image_size()).into(),
+        3 => vec![chance.pick(&[0, 0xFF]); codes.device.image_size()].into(),
         4..=5 => rows(chance, codes, |chance, codes, image| {
             let row = SHEET[chance.below(SHEET.len())].row;
             image.extend(codes.any_of(chance, row));
@@ -181,10 +268,6 @@ pub fn whole(chance: &mut Chance, codes: &Codes) -> Image {
         6..=8 => calm(chance, codes),
         _ => favouring(chance, codes),
     }
-}
-
-pub fn uniform(chance: &mut Chance) -> Image {
-    chance.bytes(IMAGE_SIZE).into()
 }
 
 /// Rows that go on, so that programs run for long.
@@ -200,7 +283,10 @@ pub fn calm(chance: &mut Chance, codes: &Codes) -> Image {
 
 /// Rows of one group by turns with any that go on.
 fn favouring(chance: &mut Chance, codes: &Codes) -> Image {
-    let group = &FAVOURED[chance.below(FAVOURED.len())];
+    let group = match codes.device {
+        Device::Em73P982 if chance.one_in(3) => &FAVOURED_OF_P982[chance.below(FAVOURED_OF_P982.len())],
+        _ => &FAVOURED[chance.below(FAVOURED.len())],
+    };
     rows(chance, codes, |chance, codes, image| {
         if chance.one_in(4) {
             image.extend(chance.pick(group.codes));
@@ -213,26 +299,30 @@ fn favouring(chance: &mut Chance, codes: &Codes) -> Image {
 
 /// Fills an image; then, half of the time, puts a code at its end, whole or cut.
 fn rows(chance: &mut Chance, codes: &Codes, put: impl Fn(&mut Chance, &Codes, &mut Vec<u8>)) -> Image {
-    let mut image = Vec::with_capacity(IMAGE_SIZE + 3);
-    while image.len() < IMAGE_SIZE {
+    let size = codes.device.image_size();
+    let mut image = Vec::with_capacity(size + 3);
+    while image.len() < size {
         put(chance, codes, &mut image);
     }
-    image.truncate(IMAGE_SIZE);
+    image.truncate(size);
     if chance.one_in(2) {
         put_at_end(chance, codes, &mut image);
     }
     image.into()
 }
 
-/// Puts a code of some bytes at the end of an image, most often cut, and says where it begins.
+/// Puts a code of some bytes at the end of the addresses, whatever P3 is, most often cut, and says where it begins.
 fn put_at_end(chance: &mut Chance, codes: &Codes, image: &mut [u8]) -> usize {
     const LONG: [Row; 9] =
         [Row::Slbr, Row::Slbr, Row::Lbr, Row::Lcall, Row::Sta, Row::Std, Row::Out, Row::Adda, Row::Tt];
     let row = chance.pick(&LONG);
     let code = codes.calm_of(chance, row);
     let left = if chance.one_in(4) { code.len() } else { 1 + chance.below(code.len() - 1) };
-    let start = IMAGE_SIZE - left;
-    image[start..].copy_from_slice(&code[..left]);
+    let start = ADDRESSES - left;
+    for bank in image.chunks_mut(ADDRESSES / 2).skip(1) {
+        let start = bank.len() - left;
+        bank[start..].copy_from_slice(&code[..left]);
+    }
     start
 }
 
@@ -243,9 +333,11 @@ pub fn ending(chance: &mut Chance, codes: &Codes, image: &Image) -> (Image, u16)
     (bytes.into(), start as u16)
 }
 
-/// "Image is not 8,192 bytes."
-pub fn of_wrong_size(chance: &mut Chance) -> Image {
-    const SIZES: [usize; 5] = [0, 1, IMAGE_SIZE - 1, IMAGE_SIZE + 1, 2 * IMAGE_SIZE];
-    let size = if chance.one_in(4) { chance.below(IMAGE_SIZE) } else { chance.pick(&SIZES) };
-    chance.bytes(size).into()
+/// "1 by device size": the other device's size among them.
+pub fn of_wrong_size(chance: &mut Chance, device: Device) -> Image {
+    let size = device.image_size();
+    let other = Device::ALL.map(Device::image_size).into_iter().find(|other| *other != size).unwrap_or(0);
+    let wrong =
+        if chance.one_in(4) { chance.below(size) } else { chance.pick(&[0, 1, size - 1, size + 1, 2 * size, other]) };
+    chance.bytes(if wrong == size { 0 } else { wrong }).into()
 }

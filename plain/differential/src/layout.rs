@@ -1,9 +1,9 @@
-//! The record as the 411 bytes of include/em73862.h.
+//! The record as the 416 bytes of include/em73862.h and include/em73p982.h.
 
 use plain::{Frame, Machine, Mode, Ports, RAM_SIZE};
 use std::ops::Range;
 
-pub const RECORD_BYTES: usize = 411;
+pub const RECORD_BYTES: usize = 416;
 
 pub const PC: usize = 16;
 pub const DP: usize = 18;
@@ -16,12 +16,15 @@ pub const LAST_FRAME: usize = 33;
 pub const MODE: usize = 36;
 pub const MARK: usize = 37;
 pub const DUE: usize = 38;
-pub const RAM: usize = 39;
+pub const P3: usize = 39;
+pub const SPEECH: usize = 43;
+pub const RAM: usize = 44;
 
 const NAMES: [&str; RAM] = [
     "ACC", "HR", "LR", "SP", "mask", "P4", "P8", "P9", "P16", "P23", "P24", "P25", "P27", "P28", "P29", "P30", "PC",
     "PC", "DP", "DP", "TA", "TA", "TB", "TB", "CF", "ZF", "SF", "EI", "IL", "time base", "time base", "time base",
-    "time base", "P0 of the last frame", "P8 of the last frame", "P4.0 of the last frame", "mode", "mark", "due",
+    "time base", "P0 of the last frame", "P8 of the last frame", "P4 of the last frame", "mode", "mark", "due", "P3",
+    "P5", "P6", "P17", "speech of the last frame",
 ];
 
 pub fn record_of(m: &Machine) -> Vec<u8> {
@@ -35,7 +38,7 @@ pub fn record_of(m: &Machine) -> Vec<u8> {
     record.extend([m.cf, m.zf, m.sf, m.ei].map(u8::from));
     record.push(m.il);
     record.extend(m.time_base.to_le_bytes());
-    record.extend([m.last_frame.p0, m.last_frame.p8, m.last_frame.p4_0]);
+    record.extend([m.last_frame.p0, m.last_frame.p8, m.last_frame.p4]);
     record.push(match m.mode {
         Mode::Running => 0,
         Mode::Sleep => 1,
@@ -43,6 +46,7 @@ pub fn record_of(m: &Machine) -> Vec<u8> {
     });
     record.push(m.mark.into());
     record.push(m.due);
+    record.extend([p.p3, p.p5, p.p6, p.p17, m.last_frame.speech]);
     record.extend(m.ram);
     record
 }
@@ -57,14 +61,10 @@ pub fn machine_of(record: &[u8]) -> Option<Machine> {
         1 => Some(true),
         _ => None,
     };
-    let mode = match record[MODE] {
-        0 => Mode::Running,
-        1 => Mode::Sleep,
-        2 => Mode::Hold,
-        _ => return None,
-    };
+    let mode = [Mode::Running, Mode::Sleep, Mode::Hold].get(record[MODE] as usize).copied()?;
     let time_base = [record[TIME_BASE], record[TIME_BASE + 1], record[TIME_BASE + 2], record[TIME_BASE + 3]];
     let [p4, p8, p9, p16, p23, p24, p25, p27, p28, p29, p30] = *record[5..].first_chunk()?;
+    let [p3, p5, p6, p17, speech] = *record[P3..].first_chunk()?;
     let ram: [u8; RAM_SIZE] = record[RAM..].try_into().ok()?;
     Some(Machine {
         acc: record[0],
@@ -83,8 +83,8 @@ pub fn machine_of(record: &[u8]) -> Option<Machine> {
         il: record[LATCHES],
         time_base: u32::from_le_bytes(time_base),
         ram,
-        ports: Ports { p4, p8, p9, p16, p23, p24, p25, p27, p28, p29, p30 },
-        last_frame: Frame { p0: record[LAST_FRAME], p8: record[LAST_FRAME + 1], p4_0: record[LAST_FRAME + 2] },
+        ports: Ports { p3, p4, p5, p6, p8, p9, p16, p17, p23, p24, p25, p27, p28, p29, p30 },
+        last_frame: Frame { p0: record[LAST_FRAME], p8: record[LAST_FRAME + 1], p4: record[LAST_FRAME + 2], speech },
         mode,
         mark: flag(MARK)?,
         due: record[DUE],
@@ -113,14 +113,14 @@ mod tests {
     use super::*;
     use crate::chance::Chance;
     use crate::records::valid;
-    use plain::{fresh, is_valid};
+    use plain::{fresh, is_valid, Device};
 
     #[test]
     fn there_and_back() {
         let mut chance = Chance::new(1);
-        for _ in 0..2000 {
-            let machine = valid(&mut chance);
-            assert!(is_valid(&machine));
+        for device in Device::ALL.into_iter().cycle().take(4000) {
+            let machine = valid(&mut chance, device);
+            assert!(is_valid(device, &machine));
             let record = record_of(&machine);
             assert_eq!(record.len(), RECORD_BYTES);
             assert_eq!(machine_of(&record), Some(machine));
@@ -143,39 +143,42 @@ mod tests {
 
     #[test]
     fn no_machine_holds_these() {
-        let record = record_of(&fresh());
+        let record = record_of(&fresh(Device::Em73862));
         for (place, value) in [(24, 2), (25, 2), (26, 255), (27, 2), (36, 3), (36, 255), (37, 2)] {
             let mut spoilt = record.clone();
             spoilt[place] = value;
             assert_eq!(machine_of(&spoilt), None);
         }
-        assert_eq!(machine_of(&record[..410]), None);
+        assert_eq!(machine_of(&record[..415]), None);
         assert_eq!(machine_of(&[]), None);
         assert_eq!(machine_of(&[&record[..], &[0]].concat()), None);
     }
 
     #[test]
     fn places_are_the_headers() {
-        let mut machine = fresh();
+        let mut machine = fresh(Device::Em73P982);
         machine.dp = 0xABC;
         machine.time_base = 0x123450;
         machine.ports.p30 = 9;
         machine.zf = true;
+        (machine.ports.p3, machine.ports.p5, machine.ports.p6, machine.ports.p17) = (14, 5, 6, 7);
+        machine.last_frame.speech = 1;
         machine.ram[371] = 7;
         let record = record_of(&machine);
         assert_eq!((record[18], record[19]), (0xBC, 0x0A));
         assert_eq!(record[29..33], [0x50, 0x34, 0x12, 0]);
-        assert_eq!((record[15], record[25], record[26], record[410]), (9, 1, 1, 7));
-        assert_eq!(record[33..39], [15, 15, 1, 0, 0, 0]);
-        assert_eq!((field_at(15), field_at(410)), ("P30".to_string(), "RAM 17Fh".to_string()));
-        assert_eq!((field_at(39 + 0xF3), field_at(39 + 0xF4)), ("RAM 0F3h".to_string(), "RAM 100h".to_string()));
+        assert_eq!((record[15], record[25], record[26], record[415]), (9, 1, 1, 7));
+        assert_eq!(record[33..39], [15, 15, 15, 0, 0, 0]);
+        assert_eq!(record[39..44], [14, 5, 6, 7, 1]);
+        assert_eq!((field_at(15), field_at(415)), ("P30".to_string(), "RAM 17Fh".to_string()));
+        assert_eq!((field_at(44 + 0xF3), field_at(44 + 0xF4)), ("RAM 0F3h".to_string(), "RAM 100h".to_string()));
         assert_eq!(
             (places_of("P30"), places_of("DP"), places_of("time base")),
             (Some(15..16), Some(18..20), Some(29..33))
         );
         assert_eq!(
             (places_of("RAM 000h"), places_of("RAM 0F4h"), places_of("RAM 17Fh")),
-            (Some(39..40), None, Some(410..411))
+            (Some(44..45), None, Some(415..416))
         );
     }
 }

@@ -1,4 +1,4 @@
-//! The proved calls of include/em73862.h beside the plain emulator: the same inputs to both, and every number and byte of
+//! The proved calls of include/em73862.h and include/em73p982.h beside the plain emulator: the same inputs to both, and every number and byte of
 //! the two answers compared, with each other and, for the cases of `cases`, with an answer written from the documents.
 
 pub mod ask_bounds;

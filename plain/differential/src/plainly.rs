@@ -2,28 +2,30 @@
 
 use crate::calls::{Answer, Call, MOST_VALUES};
 use crate::layout::{machine_of, record_of, RECORD_BYTES};
-use plain::{goes_to, notation, numbers, Bound, Insn, Machine, Options, Row};
+use plain::{goes_to, notation, numbers, Bound, Device, Insn, Machine, Options, Row};
 
 /// Where a row goes that is neither a branch nor a call.
 const NOWHERE: u16 = 8192;
 
 pub fn answer(call: &Call) -> Answer {
     let refusal = |number| refused(number, call);
+    let device = call.device();
+    let options = |wake: &u8, sound: &u8| Options { device, wake: *wake, sound: *sound != 0 };
     let answered = match call {
-        Call::Fresh { record } => fresh(record),
-        Call::Reset { record } => reset(record),
-        Call::IsValid { record } => machine_of_valid(record).map(|_| record_answer(record.clone(), numbers::NONE, &[])),
-        Call::Step { image, wake, sound, record, frame } => step(image, options(*wake, *sound), record, frame),
-        Call::Look { wake, sound, record, frame } => look(options(*wake, *sound), record, frame),
-        Call::Act { image, wake, sound, record } => act(image, options(*wake, *sound), record),
-        Call::Run { image, wake, sound, record, frames } => run(image, options(*wake, *sound), record, frames),
-        Call::Display { record, dots } => display(record, dots),
-        Call::Read { image, address } => read(image, *address),
+        Call::Fresh { record, .. } => fresh(device, record),
+        Call::Reset { record, .. } => reset(device, record),
+        Call::IsValid { record, .. } => is_valid(device, record),
+        Call::Step { image, wake, sound, record, frame, .. } => step(image, options(wake, sound), record, frame),
+        Call::Look { wake, sound, record, frame, .. } => look(options(wake, sound), record, frame),
+        Call::Act { image, wake, sound, record, .. } => act(image, options(wake, sound), record),
+        Call::Run { image, wake, sound, record, frames, .. } => run(image, options(wake, sound), record, frames),
+        Call::Display { record, dots, .. } => display(device, record, dots),
         Call::Write { row, a, b } => write(*row, *a, *b),
-        Call::Length { image, address } => length(image, *address),
-        Call::Row { image, address } => row(image, *address),
-        Call::Notation { image, address, text } => in_notation(image, *address, text),
-        Call::Bound { image, address, path } => return bound(image, *address, path),
+        Call::Read { image, p3, address, .. } => read(device, image, *p3, *address),
+        Call::Length { image, p3, address, .. } => length(device, image, *p3, *address),
+        Call::Row { image, p3, address, .. } => row(device, image, *p3, *address),
+        Call::Notation { image, p3, address, text, .. } => in_notation(device, image, *p3, *address, text),
+        Call::Bound { image, p3, address, path, .. } => return bound(device, image, *p3, *address, path),
     };
     answered.unwrap_or_else(refusal)
 }
@@ -39,37 +41,32 @@ fn record_answer(buffer: Vec<u8>, number: u8, values: &[u32]) -> Answer {
     Answer { number, values: all_values, buffer, others_kept: true }
 }
 
-fn options(wake: u8, sound: u8) -> Options {
-    Options { wake, sound: sound != 0 }
-}
-
 /// The machine of a record, or one that every call refuses with 2 where the bytes are none.
 fn machine_or_none_valid(record: &[u8]) -> Machine {
     machine_of(record).unwrap_or_else(|| {
-        let mut none_valid = plain::fresh();
+        let mut none_valid = plain::fresh(Device::Em73862);
         none_valid.acc = 16;
         none_valid
     })
 }
 
-fn machine_of_valid(record: &[u8]) -> Result<Machine, u8> {
-    let machine = machine_or_none_valid(record);
-    if plain::is_valid(&machine) {
-        Ok(machine)
+fn is_valid(device: Device, record: &[u8]) -> Result<Answer, u8> {
+    if plain::is_valid(device, &machine_or_none_valid(record)) {
+        Ok(record_answer(record.to_vec(), numbers::NONE, &[]))
     } else {
         Err(numbers::RECORD_RANGE)
     }
 }
 
-fn fresh(record: &[u8]) -> Result<Answer, u8> {
+fn fresh(device: Device, record: &[u8]) -> Result<Answer, u8> {
     if record.len() != RECORD_BYTES {
         return Err(numbers::RECORD_RANGE);
     }
-    Ok(record_answer(record_of(&plain::fresh()), numbers::NONE, &[]))
+    Ok(record_answer(record_of(&plain::fresh(device)), numbers::NONE, &[]))
 }
 
-fn reset(record: &[u8]) -> Result<Answer, u8> {
-    let machine = plain::reset(&machine_or_none_valid(record))?;
+fn reset(device: Device, record: &[u8]) -> Result<Answer, u8> {
+    let machine = plain::reset(device, &machine_or_none_valid(record))?;
     Ok(record_answer(record_of(&machine), numbers::NONE, &[]))
 }
 
@@ -96,14 +93,14 @@ fn run(image: &[u8], options: Options, record: &[u8], frames: &[u8]) -> Result<A
     Ok(record_answer(record_of(&ran.machine), ran.stop, &[ran.steps, cycles]))
 }
 
-fn display(record: &[u8], dots: &[u8]) -> Result<Answer, u8> {
+fn display(device: Device, record: &[u8], dots: &[u8]) -> Result<Answer, u8> {
     let mut dots = dots.to_vec();
-    plain::display(&machine_or_none_valid(record), &mut dots)?;
+    plain::display(device, &machine_or_none_valid(record), &mut dots)?;
     Ok(record_answer(dots, numbers::NONE, &[]))
 }
 
-fn read(image: &[u8], address: u32) -> Result<Answer, u8> {
-    let insn = plain::read(image, address as usize)?;
+fn read(device: Device, image: &[u8], p3: u32, address: u32) -> Result<Answer, u8> {
+    let insn = plain::read(device, image, p3, address as usize)?;
     let (a, b) = slots_of(insn);
     Ok(record_answer(Vec::new(), numbers::NONE, &[insn.row as u32, a as u32, b as u32]))
 }
@@ -114,21 +111,21 @@ fn size_of(insn: Insn) -> [u32; 2] {
     [row.bytes() as u32, row.cycles()]
 }
 
-fn length(image: &[u8], address: u32) -> Result<Answer, u8> {
-    let insn = plain::read(image, address as usize)?;
+fn length(device: Device, image: &[u8], p3: u32, address: u32) -> Result<Answer, u8> {
+    let insn = plain::read(device, image, p3, address as usize)?;
     Ok(record_answer(Vec::new(), numbers::NONE, &size_of(insn)))
 }
 
-fn row(image: &[u8], address: u32) -> Result<Answer, u8> {
-    let insn = plain::read(image, address as usize)?;
+fn row(device: Device, image: &[u8], p3: u32, address: u32) -> Result<Answer, u8> {
+    let insn = plain::read(device, image, p3, address as usize)?;
     let goes = goes_to(insn, address as u16).unwrap_or(NOWHERE);
     let [bytes, cycles] = size_of(insn);
     let values = [insn.row as u32, insn.a as u32, insn.b as u32, goes as u32, bytes, cycles];
     Ok(record_answer(Vec::new(), numbers::NONE, &values))
 }
 
-fn in_notation(image: &[u8], address: u32, text: &[u8]) -> Result<Answer, u8> {
-    let insn = plain::read(image, address as usize)?;
+fn in_notation(device: Device, image: &[u8], p3: u32, address: u32, text: &[u8]) -> Result<Answer, u8> {
+    let insn = plain::read(device, image, p3, address as usize)?;
     let words = notation(insn, address as u16);
     let mut text = text.to_vec();
     if let Some(start) = text.get_mut(..words.len()) {
@@ -146,11 +143,11 @@ fn write(row: u8, a: u16, b: u8) -> Result<Answer, u8> {
     Ok(record_answer(Vec::new(), numbers::NONE, &values))
 }
 
-fn bound(image: &[u8], address: u32, path: &[u8]) -> Answer {
+fn bound(device: Device, image: &[u8], p3: u32, address: u32, path: &[u8]) -> Answer {
     let mut path = path.to_vec();
-    let found = plain::bound(image, address, &mut path);
+    let found = plain::bound(device, image, p3, address, &mut path);
     let value = match found {
-        Bound::ImageSize | Bound::AddressOver8191 => 0,
+        Bound::ImageSize | Bound::P3 | Bound::AddressOver8191 => 0,
         Bound::Excluded(lowest) | Bound::Repetition(lowest) => lowest as u32,
         Bound::PathBuffer(bytes) => bytes as u32,
         Bound::Cycles { most, .. } => most,

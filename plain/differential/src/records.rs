@@ -2,12 +2,15 @@
 
 use crate::chance::Chance;
 use crate::layout::{self, record_of, RECORD_BYTES};
-use plain::{due_number, fresh, Frame, Machine, Mode, Ports, RAM_SIZE};
+use plain::{due_number, fresh, Device, Frame, Machine, Mode, Ports, RAM_SIZE};
 
 const TIME_BASE_SIZE: u32 = 1 << 22;
 
+/// What P3 can hold.
+pub const P3_VALUES: [u8; 12] = [0, 1, 2, 4, 5, 6, 8, 9, 10, 12, 13, 14];
+
 /// A record in which every field has any value of its range, corners more often.
-pub fn valid(chance: &mut Chance) -> Machine {
+pub fn valid(chance: &mut Chance, device: Device) -> Machine {
     let mut machine = Machine {
         acc: nibble(chance),
         hr: nibble(chance),
@@ -29,8 +32,8 @@ pub fn valid(chance: &mut Chance) -> Machine {
         il: latches(chance),
         time_base: time_base(chance),
         ram: ram(chance),
-        ports: ports(chance),
-        last_frame: Frame { p0: nibble(chance), p8: nibble(chance), p4_0: chance.below(2) as u8 },
+        ports: ports(chance, device),
+        last_frame: last_frame(chance, device),
         mode: Mode::Running,
         mark: chance.one_in(8),
         due: 0,
@@ -43,8 +46,8 @@ pub fn valid(chance: &mut Chance) -> Machine {
 }
 
 /// A record in which programs go on for long: running, with room on the stack, in bank 0 and HR in both banks' range.
-pub fn calm(chance: &mut Chance) -> Machine {
-    let mut machine = valid(chance);
+pub fn calm(chance: &mut Chance, device: Device) -> Machine {
+    let mut machine = valid(chance, device);
     machine.mode = Mode::Running;
     machine.sp = 4 + chance.below(6) as u8;
     machine.hr &= 7;
@@ -52,11 +55,11 @@ pub fn calm(chance: &mut Chance) -> Machine {
     machine
 }
 
-pub fn fresh_or_valid(chance: &mut Chance) -> Machine {
+pub fn fresh_or_valid(chance: &mut Chance, device: Device) -> Machine {
     match chance.below(4) {
-        0 => fresh(),
-        1 => calm(chance),
-        _ => valid(chance),
+        0 => fresh(device),
+        1 => calm(chance, device),
+        _ => valid(chance, device),
     }
 }
 
@@ -97,7 +100,7 @@ fn time_base(chance: &mut Chance) -> u32 {
     let exponent = 8 + chance.below(15) as u32;
     let multiple = (chance.number() as u32) << exponent;
     let before = match chance.below(4) {
-        0 => 8 * chance.number() as u32,
+        0 => (chance.number() as u32).wrapping_mul(8),
         _ => 8 * chance.below(4) as u32,
     };
     multiple.wrapping_sub(before) % TIME_BASE_SIZE
@@ -113,9 +116,25 @@ fn ram(chance: &mut Chance) -> [u8; RAM_SIZE] {
     ram
 }
 
-fn ports(chance: &mut Chance) -> Ports {
+fn last_frame(chance: &mut Chance, device: Device) -> Frame {
+    let (p4, speech) = match device {
+        Device::Em73862 => (chance.below(2) as u8, 0),
+        Device::Em73P982 => (nibble(chance), chance.below(2) as u8),
+    };
+    Frame { p0: nibble(chance), p8: nibble(chance), p4, speech }
+}
+
+fn ports(chance: &mut Chance, device: Device) -> Ports {
     const SETTINGS: [u8; 12] = [0, 1, 2, 3, 4, 5, 6, 7, 12, 13, 14, 15];
+    let [p3, p5, p6, p17] = match device {
+        Device::Em73862 => [0; 4],
+        Device::Em73P982 => [chance.pick(&P3_VALUES), nibble(chance), nibble(chance), nibble(chance)],
+    };
     Ports {
+        p3,
+        p5,
+        p6,
+        p17,
         p4: nibble(chance),
         p8: nibble(chance),
         // P9.3 chooses the bank; bank 1 stops every row of timers, DP and SP.
@@ -132,9 +151,9 @@ fn ports(chance: &mut Chance) -> Ports {
 }
 
 /// A record in bytes that one change takes out of its range; now and then a buffer of another length.
-pub fn spoilt(chance: &mut Chance) -> Vec<u8> {
-    let mut record = record_of(&fresh_or_valid(chance));
-    match chance.below(11) {
+pub fn spoilt(chance: &mut Chance, device: Device) -> Vec<u8> {
+    let mut record = record_of(&fresh_or_valid(chance, device));
+    match chance.below(12) {
         0 => return of_another_length(chance, record),
         1 => spoil_mode(chance, &mut record),
         2 => spoil_time_base(chance, &mut record),
@@ -146,14 +165,15 @@ pub fn spoilt(chance: &mut Chance) -> Vec<u8> {
         // P25 and P27.
         8 => record[chance.pick(&[11, 12])] = chance.pick(&[8, 9, 10, 11, 16, 255]),
         9 => spoil_due(chance, &mut record),
-        _ => spoil_nibble(chance, &mut record),
+        10 => spoil_added(chance, device, &mut record),
+        _ => spoil_nibble(chance, device, &mut record),
     }
     record
 }
 
 fn of_another_length(chance: &mut Chance, mut record: Vec<u8>) -> Vec<u8> {
-    let length = if chance.one_in(8) { chance.below(900) } else { chance.pick(&[0, 1, 38, 39, 410, 412]) };
-    record.resize(if length == RECORD_BYTES { 410 } else { length }, 0);
+    let length = if chance.one_in(8) { chance.below(900) } else { chance.pick(&[0, 1, 43, 44, 415, 417]) };
+    record.resize(if length == RECORD_BYTES { 415 } else { length }, 0);
     record
 }
 
@@ -208,14 +228,25 @@ fn spoil_word(chance: &mut Chance, record: &mut [u8]) {
     record[place + 1] = over(chance, limit);
 }
 
-fn spoil_nibble(chance: &mut Chance, record: &mut [u8]) {
-    const P4_0: usize = layout::LAST_FRAME + 2;
+/// P3, P5, P6, P17 or the fourth digit: anything but 0 on the EM73862.
+fn spoil_added(chance: &mut Chance, device: Device, record: &mut [u8]) {
+    let place = if chance.one_in(2) { layout::P3 } else { layout::P3 + chance.below(layout::RAM - layout::P3) };
+    record[place] = match device {
+        Device::Em73862 => 1 + chance.below(255) as u8,
+        Device::Em73P982 if place == layout::P3 && !chance.one_in(3) => chance.pick(&[3, 7, 11, 15]),
+        Device::Em73P982 => over(chance, if place == layout::SPEECH { 2 } else { 16 }),
+    };
+}
+
+fn spoil_nibble(chance: &mut Chance, device: Device, record: &mut [u8]) {
+    const P4: usize = layout::LAST_FRAME + 2;
     const NIBBLES: usize = 16;
     let place = match chance.below(NIBBLES + 3) {
         place if place < NIBBLES => place,
         place => layout::LAST_FRAME + place - NIBBLES,
     };
-    record[place] = over(chance, if place == P4_0 { 2 } else { 16 });
+    let alone = place == P4 && device == Device::Em73862;
+    record[place] = over(chance, if alone { 2 } else { 16 });
 }
 
 #[cfg(test)]
@@ -226,17 +257,17 @@ mod tests {
     #[test]
     fn spoilt_records_are_never_valid() {
         let mut chance = Chance::new(3);
-        for _ in 0..20_000 {
-            let record = spoilt(&mut chance);
-            assert!(!layout::machine_of(&record).is_some_and(|machine| is_valid(&machine)), "{record:?}");
+        for device in Device::ALL.into_iter().cycle().take(40_000) {
+            let record = spoilt(&mut chance, device);
+            assert!(!layout::machine_of(&record).is_some_and(|machine| is_valid(device, &machine)), "{record:?}");
         }
     }
 
     #[test]
     fn the_other_records_are_valid() {
         let mut chance = Chance::new(4);
-        for _ in 0..5_000 {
-            assert!(is_valid(&fresh_or_valid(&mut chance)));
+        for device in Device::ALL.into_iter().cycle().take(10_000) {
+            assert!(is_valid(device, &fresh_or_valid(&mut chance, device)));
         }
     }
 }

@@ -1,9 +1,11 @@
 //! `plain-bench IMAGE RUNS < FRAMES`: makes RUNS runs of the frames, each from the record that
 //! the one before left. Prints the last run's number, and on standard error the steps a second.
 
-use plain::{fresh, numbers, run, Options, FRAME_LENGTH, MOST_FRAMES};
+use plain::{fresh, numbers, run, Device, Options, MOST_FRAMES};
 use std::io::{self, Read};
 use std::time::Instant;
+
+const DEVICE: Device = Device::Em73862;
 
 fn main() {
     let mut words = std::env::args().skip(1);
@@ -25,14 +27,14 @@ fn main() {
 
 fn read_frames() -> io::Result<Vec<u8>> {
     let mut frames = Vec::new();
-    let most_bytes = (MOST_FRAMES * FRAME_LENGTH) as u64;
+    let most_bytes = (MOST_FRAMES * DEVICE.frame_length()) as u64;
     io::stdin().lock().take(most_bytes).read_to_end(&mut frames)?;
     Ok(frames)
 }
 
 fn measure(image: &[u8], frames: &[u8], runs: u32) {
-    let options = Options { wake: 0xFF, sound: false };
-    let mut machine = fresh();
+    let options = Options { device: DEVICE, wake: 0xFF, sound: false };
+    let mut machine = fresh(DEVICE);
     let mut number = numbers::NONE;
     let mut steps = 0u64;
     let start = Instant::now();

@@ -1,7 +1,7 @@
 //! `plain-bound-bench IMAGE RUNS [ADDRESS]`: bounds every address of the image, or the one given
 //! in hexadecimal, RUNS times. Prints the bounds a second, the mean and the slowest single bounds.
 
-use plain::{bound, IMAGE_SIZE, MOST_PATH_BYTES};
+use plain::{bound, Device, ADDRESSES, MOST_PATH_BYTES};
 use std::hint::black_box;
 use std::ops::Range;
 use std::time::{Duration, Instant};
@@ -20,10 +20,10 @@ fn understood(words: &[String]) -> Option<(Vec<u8>, u32, Range<u32>)> {
     let runs = words.get(1)?.parse().ok()?;
     let addresses = match words.get(2) {
         Some(word) => {
-            let address = u32::from_str_radix(word, 16).ok().filter(|address| *address < IMAGE_SIZE as u32)?;
+            let address = u32::from_str_radix(word, 16).ok().filter(|address| *address < ADDRESSES as u32)?;
             address..address + 1
         }
-        None => 0..IMAGE_SIZE as u32,
+        None => 0..ADDRESSES as u32,
     };
     Some((image, runs, addresses))
 }
@@ -39,7 +39,7 @@ fn measure(image: &[u8], runs: u32, addresses: Range<u32>) {
         let mut fastest = Duration::MAX;
         for _ in 0..runs {
             let start = Instant::now();
-            black_box(bound(black_box(image), address, &mut path));
+            black_box(bound(Device::Em73862, black_box(image), 0, address, &mut path));
             let time = start.elapsed();
             bounds += 1;
             spent += time;

@@ -18,14 +18,14 @@ mod linked {
     use differential::layout::{machine_of, record_of};
     use differential::plainly::slots_of;
     use differential::proved::linked::header;
-    use plain::{Insn, Machine, Options, IMAGE_SIZE, MOST_FRAMES, MOST_PATH_BYTES, WORST};
+    use plain::{Device, Insn, Machine, Options, IMAGE_SIZE, MOST_FRAMES, MOST_PATH_BYTES, WORST};
     use std::hint::black_box;
     use std::time::Instant;
 
     /// Each side is timed so often, the two by turns, and the median is told.
     const TURNS: usize = 9;
 
-    const OPTIONS: Options = Options { wake: 0xFF, sound: false };
+    const OPTIONS: Options = Options { device: Device::Em73862, wake: 0xFF, sound: false };
     const FRAME: &[u8; 3] = b"FF1";
 
     pub fn main() {
@@ -47,7 +47,7 @@ mod linked {
         bounds();
         codes();
         println!();
-        println!("A ratio over 1: the proved call is faster. em73862_run and em73862_step take the 410 bytes of the");
+        println!("A ratio over 1: the proved call is faster. em73862_run and em73862_step take the 416 bytes of the");
         println!("record apart and put them together in each call, which counts for a single step and not for a run");
         println!(
             "of 65,536. Plain's step and run copy their Machine instead, but for the line with the record's bytes."
@@ -75,8 +75,8 @@ mod linked {
     fn runs(image: &[u8]) {
         const RUNS: usize = 20;
         let frames = FRAME.repeat(MOST_FRAMES);
-        let mut record = record_of(&plain::fresh());
-        let mut machine = plain::fresh();
+        let mut record = record_of(&plain::fresh(OPTIONS.device));
+        let mut machine = plain::fresh(OPTIONS.device);
         let proved = || {
             for _ in 0..RUNS {
                 let (mut steps, mut cycles) = (0, 0);
@@ -110,7 +110,7 @@ mod linked {
 
     fn single_steps(image: &[u8]) {
         const STEPS: usize = 200_000;
-        let mut record = record_of(&plain::fresh());
+        let mut record = record_of(&plain::fresh(OPTIONS.device));
         let mut proved = || {
             for _ in 0..STEPS {
                 let mut cycles = 0;
@@ -131,14 +131,14 @@ mod linked {
                 assert_eq!(number, 0);
             }
         };
-        let mut machine = plain::fresh();
+        let mut machine = plain::fresh(OPTIONS.device);
         let plain = || {
             for _ in 0..STEPS {
                 machine = stepped(image, &machine);
             }
         };
         compare("em73862_step, plain's step on a Machine", STEPS, &mut proved, plain);
-        let mut bytes = record_of(&plain::fresh());
+        let mut bytes = record_of(&plain::fresh(OPTIONS.device));
         let plain = || {
             for _ in 0..STEPS {
                 let machine = machine_of(&bytes).expect("the bytes are a record");
@@ -179,7 +179,7 @@ mod linked {
     fn bound(what: &str, image: &[u8; IMAGE_SIZE], address: u32, count: usize) {
         let mut path = vec![0; MOST_PATH_BYTES];
         let mut plain_path = path.clone();
-        let expected = plain::bound(image, address, &mut plain_path).number();
+        let expected = plain::bound(OPTIONS.device, image, 0, address, &mut plain_path).number();
         let proved = || {
             for _ in 0..count {
                 let mut value = 0;
@@ -199,7 +199,7 @@ mod linked {
         };
         let plain = || {
             for _ in 0..count {
-                black_box(plain::bound(black_box(image), address, &mut plain_path));
+                black_box(plain::bound(OPTIONS.device, black_box(image), 0, address, &mut plain_path));
             }
         };
         compare(what, count, proved, plain);
@@ -207,11 +207,11 @@ mod linked {
 
     fn codes() {
         let mut chance = Chance::new(1);
-        let codes = Codes::new(&mut chance);
+        let codes = Codes::new(&mut chance, OPTIONS.device);
         let image = calm(&mut chance, &codes);
         let mut read: Vec<Insn> = Vec::new();
         for address in 0..IMAGE_SIZE {
-            read.extend(plain::read(&image, address).ok());
+            read.extend(plain::read(OPTIONS.device, &image, 0, address).ok());
         }
         reads(&image);
         writes(&read);
@@ -230,7 +230,7 @@ mod linked {
         };
         let plain = || {
             for address in (0..PASSES).flat_map(|_| 0..IMAGE_SIZE) {
-                let _ = black_box(plain::read(black_box(image), address));
+                let _ = black_box(plain::read(OPTIONS.device, black_box(image), 0, address));
             }
         };
         compare("em73862_read, every address of an image of rows", PASSES * IMAGE_SIZE, proved, plain);

@@ -1,7 +1,7 @@
 //! `cases`: puts the cases of `differential::cases`, whose answers were written from the documents, to the proved calls and to the
 //! plain emulator. Its last line is 'N passed, M failed'; exit status 0 only where none failed.
 
-use differential::cases::{dots, failures, frames, memory, paths, refused_records, rows, sound, waking, Case};
+use differential::cases::{failures, groups, rows, Case};
 use differential::proved::Proved;
 use std::process::exit;
 
@@ -9,23 +9,13 @@ fn main() {
     let rows = rows::cases();
     let gaps = rows::gaps(&rows);
     let (steps, reads): (Vec<Case>, Vec<Case>) = rows.into_iter().map(|case| (case.step, case.read)).unzip();
-    let groups = [
-        ("every row: steps", steps),
-        ("every row: codes read", reads),
-        ("reading P4 with SOUND and without", sound::cases()),
-        ("wake pins and edges", waking::cases()),
-        ("images, frames and runs at their limits", frames::cases()),
-        ("dots", dots::cases()),
-        ("RAM by HL", memory::cases()),
-        ("records outside their ranges, and at the ends of them", refused_records::cases()),
-        ("path buffers", paths::cases()),
-    ];
+    let rows = [("every row: steps", steps), ("every row: codes read", reads)];
     let mut proved = Proved::default();
     let (mut passed, mut failed) = (0, gaps.len());
     for gap in gaps {
         println!("{gap}");
     }
-    for (name, cases) in groups {
+    for (name, cases) in rows.into_iter().chain(groups()) {
         let failures = failures(&mut proved, &cases);
         for failure in &failures {
             println!("{failure}");

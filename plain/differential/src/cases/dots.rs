@@ -5,7 +5,7 @@ use super::record::{fresh, with};
 use super::{answer, refused, Case};
 use crate::calls::Call;
 use plain::numbers::{DISPLAY_BUFFER, RECORD_RANGE};
-use plain::DISPLAY_SIZE;
+use plain::{Device, DISPLAY_SIZE};
 
 /// What the buffer holds before the call.
 const UNSET: u8 = 0xAA;
@@ -56,7 +56,7 @@ pub fn cases() -> Vec<Case> {
 }
 
 fn call(set: &[(&str, u32)], length: usize) -> Call {
-    Call::Display { record: with(&fresh(), set), dots: vec![UNSET; length] }
+    Call::Display { device: Device::Em73862, record: with(&fresh(), set), dots: vec![UNSET; length] }
 }
 
 fn shown(p27: u32, nibble: (&str, u32), length: usize, dots: [u8; DISPLAY_SIZE]) -> Case {

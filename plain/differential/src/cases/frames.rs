@@ -4,7 +4,10 @@ use super::record::{fresh, with, with_last_frame};
 use super::{answer, image_from, refused, Case, ALL_WAKE, NOP, SOUND_OFF};
 use crate::calls::{Answer, Call, Image};
 use plain::numbers::{IMAGE_SIZE as WRONG_IMAGE_SIZE, NO_FRAME, RECORD_RANGE, TOO_MANY_FRAMES, UNASSIGNED};
-use plain::{FRAME_LENGTH, MOST_FRAMES};
+use plain::{Device, MOST_FRAMES};
+
+const DEVICE: Device = Device::Em73862;
+const FRAME_LENGTH: usize = 3;
 
 /// An ACC outside its range.
 const BAD_ACC: u32 = 16;
@@ -54,11 +57,11 @@ pub fn cases() -> Vec<Case> {
 }
 
 fn step(image: Image, record: Vec<u8>, frame: &[u8]) -> Call {
-    Call::Step { image, wake: ALL_WAKE, sound: SOUND_OFF, record, frame: frame.to_vec() }
+    Call::Step { device: DEVICE, image, wake: ALL_WAKE, sound: SOUND_OFF, record, frame: frame.to_vec() }
 }
 
 fn run(image: Image, record: Vec<u8>, frames: &[u8]) -> Call {
-    Call::Run { image, wake: ALL_WAKE, sound: SOUND_OFF, record, frames: frames.to_vec() }
+    Call::Run { device: DEVICE, image, wake: ALL_WAKE, sound: SOUND_OFF, record, frames: frames.to_vec() }
 }
 
 /// The fresh record after so many NOPs, a cycle each.
@@ -84,7 +87,7 @@ fn images() -> Vec<Case> {
 }
 
 fn step_frames() -> Vec<Case> {
-    let nops = image_from(&[NOP]);
+    let nops = image_from(DEVICE, &[NOP]);
     let case = |frame: &[u8], expected: fn(&Call) -> Answer| {
         let call = step(nops.clone(), fresh(), frame);
         Case { name: format!("frame {}", frame.escape_ascii()), expected: expected(&call), call }
@@ -96,7 +99,7 @@ fn step_frames() -> Vec<Case> {
 }
 
 fn limits() -> Vec<Case> {
-    let nops = image_from(&[NOP]);
+    let nops = image_from(DEVICE, &[NOP]);
     let case = |(bytes, ends_badly, acc, number): (usize, bool, u32, u8)| {
         let mut frames = b"FF1".repeat(MOST_FRAMES + 1);
         if ends_badly {
@@ -111,7 +114,7 @@ fn limits() -> Vec<Case> {
 }
 
 fn stops() -> Vec<Case> {
-    let image = image_from(&NOP_AND_STOP);
+    let image = image_from(DEVICE, &NOP_AND_STOP);
     let case = |(frames, last): (&[u8], Option<&[u8; 3]>)| {
         let call = run(image.clone(), fresh(), frames);
         let expected = match last {

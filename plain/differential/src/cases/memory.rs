@@ -3,6 +3,7 @@
 use super::record::{fresh, with};
 use super::{Case, Step, ALL_WAKE, SOUND_OFF};
 use plain::numbers::ABSENT_RAM;
+use plain::Device;
 
 const LDAM: [u8; 1] = [0x5A];
 
@@ -21,7 +22,8 @@ pub fn cases() -> Vec<Case> {
     let case = |(address, p9, hr, lr, loaded): (&str, u32, u32, u32, Option<u32>)| {
         let set = [("RAM 0F3h", 9), ("RAM 17Fh", 6), ("ACC", 5), ("P9", p9), ("HR", hr), ("LR", lr)];
         let before = with(&fresh(), &set);
-        let step = Step { code: &LDAM, wake: ALL_WAKE, sound: SOUND_OFF, before, frame: b"EF1" };
+        let (device, code) = (Device::Em73862, &LDAM);
+        let step = Step { device, code, wake: ALL_WAKE, sound: SOUND_OFF, before, frame: b"EF1" };
         let name = format!("LDAM at {address}, P9 {p9}");
         match loaded {
             Some(acc) => {

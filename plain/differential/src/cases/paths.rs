@@ -3,7 +3,7 @@
 use super::{answer, Case};
 use crate::calls::Call;
 use plain::numbers::PATH_BUFFER;
-use plain::IMAGE_SIZE;
+use plain::{Device, IMAGE_SIZE};
 
 const HANDLER: [u8; 9] = [0x6A, 0x20, 0x6E, 0x61, 0x18, 0xD1, 0x69, 0x21, 0x4D];
 const HANDLER_START: usize = 0x10;
@@ -26,9 +26,10 @@ pub fn cases() -> Vec<Case> {
         if number == 0 {
             buffer[..PATH.len()].copy_from_slice(&PATH);
         }
+        let (device, image, address) = (Device::Em73862, image.clone().into(), HANDLER_START as u32);
         Case {
             name: format!("a path buffer of {length} bytes"),
-            call: Call::Bound { image: image.clone().into(), address: HANDLER_START as u32, path },
+            call: Call::Bound { device, image, p3: 0, address, path },
             expected: answer(number, &[value], buffer),
         }
     };

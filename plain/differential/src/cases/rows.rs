@@ -5,9 +5,11 @@ use super::{answer, Case, ALL_WAKE, SOUND_OFF, SOUND_ON};
 use crate::calls::{Call, Image};
 use crate::layout::{LAST_FRAME, RECORD_BYTES};
 use crate::plainly;
-use plain::IMAGE_SIZE;
+use plain::{Device, IMAGE_SIZE};
 
 const LINES: &str = include_str!("../../cases/rows.txt");
+
+const DEVICE: Device = Device::Em73862;
 
 const ROWS: u8 = 107;
 
@@ -74,11 +76,12 @@ fn row_case(line: &str, start: &[u8]) -> RowCase {
     }
     let address = value_of(&before, "PC");
     let image = image_with(address as usize, code);
-    let read = Call::Read { image: image.clone(), address };
+    let read = Call::Read { device: DEVICE, image: image.clone(), p3: 0, address };
     // The line has the operands in the sheet's notation only, so the plain reader says which they are.
     let mut insn = plainly::answer(&read);
     (insn.number, insn.values[0]) = (0, row as u32);
-    let step = Call::Step { image, wake: ALL_WAKE, sound, frame: last_frame(&before), record: before };
+    let (device, wake, frame) = (DEVICE, ALL_WAKE, last_frame(&before));
+    let step = Call::Step { device, image, wake, sound, frame, record: before };
     RowCase {
         row,
         read: Case { name: line.to_string(), call: read, expected: insn },
@@ -125,7 +128,7 @@ fn changed(before: &[u8], changes: &str) -> Vec<u8> {
 /// The record with a field's value as a line writes both.
 fn with_field(record: &[u8], name: &str, value: &str) -> Vec<u8> {
     if name == "pins" {
-        return with_last_frame(record, value.as_bytes().try_into().expect("a frame has three digits"));
+        return with_last_frame(record, value.as_bytes());
     }
     let header_name = match name.strip_prefix("RAM[") {
         Some(address) => format!("RAM {}", address.trim_end_matches(']')),

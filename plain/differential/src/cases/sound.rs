@@ -3,6 +3,7 @@
 
 use super::record::{fresh, with};
 use super::{Case, Step, ALL_WAKE, SOUND_OFF, SOUND_ON};
+use plain::Device;
 
 const INA_P4: [u8; 2] = [0x6F, 0x44];
 const TTP_P4_0: [u8; 2] = [0x6D, 0x84];
@@ -17,7 +18,8 @@ const SPENT: [(&str, u32); 2] = [("PC", 2), ("time base", 16)];
 pub fn cases() -> Vec<Case> {
     let mut cases = Vec::new();
     for (sound, frame, acc, sf) in READ {
-        let step = |code| Step { code, wake: ALL_WAKE, sound, before: with(&fresh(), &[("P4", 5)]), frame };
+        let (device, wake) = (Device::Em73862, ALL_WAKE);
+        let step = |code| Step { device, code, wake, sound, before: with(&fresh(), &[("P4", 5)]), frame };
         let setting = format!("SOUND {sound}, frame {}", frame.escape_ascii());
         let read = [&SPENT[..], &[("P4", 15), ("ACC", acc), ("SF", 1)]].concat();
         cases.push(step(&INA_P4).changes(&format!("INA P4, {setting}"), 2, &read));

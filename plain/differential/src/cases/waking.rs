@@ -3,6 +3,9 @@
 
 use super::record::{fresh, with, with_last_frame, HOLD, RUNNING, SLEEP};
 use super::{Case, Step, ALL_WAKE, NOP, SOUND_OFF};
+use plain::Device;
+
+const DEVICE: Device = Device::Em73862;
 
 /// The wake pins, the bit of each, and the frame in which it alone is 0.
 const PINS: [(&str, u8, &[u8; 3]); 8] = [
@@ -60,7 +63,7 @@ fn in_mode(mode: u32, p16: u32) -> Vec<u8> {
 
 /// A step in sleep or hold, which wakes with these cycles or does nothing.
 fn waits(name: &str, wake: u8, before: Vec<u8>, frame: &[u8; 3], wakes: Option<u32>) -> Case {
-    let step = Step { code: &[NOP], wake, sound: SOUND_OFF, before, frame };
+    let step = Step { device: DEVICE, code: &[NOP], wake, sound: SOUND_OFF, before, frame };
     match wakes {
         Some(cycles) => step.changes(name, cycles, &[("mode", RUNNING)]),
         None => step.changes(name, 0, &[]),
@@ -106,13 +109,13 @@ fn levels() -> Vec<Case> {
 fn held_key() -> Vec<Case> {
     const OUTA_P16: [u8; 2] = [0x6F, 0x10];
     let before = with(&with_last_frame(&fresh(), b"EF1"), &[("ACC", 12)]);
-    let step = Step { code: &OUTA_P16, wake: ALL_WAKE, sound: SOUND_OFF, before, frame: b"EF1" };
+    let step = Step { device: DEVICE, code: &OUTA_P16, wake: ALL_WAKE, sound: SOUND_OFF, before, frame: b"EF1" };
     vec![step.changes("a key is held where sleep is entered", 2, &[("PC", 2), ("P16", 12), ("mode", SLEEP)])]
 }
 
 fn latches() -> Vec<Case> {
     let case = |(pin, frame, il): (&str, &[u8; 3], u32)| {
-        let step = Step { code: &[NOP], wake: ALL_WAKE, sound: SOUND_OFF, before: fresh(), frame };
+        let step = Step { device: DEVICE, code: &[NOP], wake: ALL_WAKE, sound: SOUND_OFF, before: fresh(), frame };
         step.changes(&format!("{pin} falls, running"), 1, &[("PC", 1), ("time base", 8), ("IL", il)])
     };
     LATCHES.into_iter().map(case).collect()

@@ -2,6 +2,7 @@
 //! answers are read by another, so that neither pipe can fill up for good.
 
 use crate::calls::{Answer, Call, Image, Kind, MOST_VALUES};
+use plain::Device;
 use std::io::{self, BufReader, BufWriter, Read, Write};
 use std::path::Path;
 use std::process::{Child, ChildStdin, ChildStdout, Command, Stdio};
@@ -70,27 +71,22 @@ fn send(requests: &mut impl Write, held: &mut Option<Image>, calls: &[Call]) -> 
         if let Some(image) = call.image() {
             let is_held = held.as_ref().is_some_and(|held| Arc::ptr_eq(held, image));
             if !is_held {
-                send_request(requests, TAKE_IMAGE, [0; 3], &[], image)?;
+                send_request(requests, [TAKE_IMAGE, 0, 0, 0, 0], &[], image)?;
                 *held = Some(image.clone());
             }
         }
-        send_request(requests, code_of(call.kind()), numbers_of(call), call.changing(), call.steady())?;
+        let [first, second, third] = numbers_of(call);
+        let words = [code_of(call.kind()), device_of(call), first, second, third];
+        send_request(requests, words, call.changing(), call.steady())?;
     }
     requests.flush()
 }
 
 /// server.c's `struct request`, then the two buffers.
-fn send_request(
-    requests: &mut impl Write,
-    code: u32,
-    numbers: [u32; 3],
-    changing: &[u8],
-    steady: &[u8],
-) -> io::Result<()> {
-    let [first, second, third] = numbers;
-    let words = [code, first, second, third, changing.len() as u32, steady.len() as u32];
-    let mut head = [0; 24];
-    for (place, word) in head.chunks_exact_mut(4).zip(words) {
+fn send_request(requests: &mut impl Write, words: [u32; 5], changing: &[u8], steady: &[u8]) -> io::Result<()> {
+    let lengths = [changing.len() as u32, steady.len() as u32];
+    let mut head = [0; 28];
+    for (place, word) in head.chunks_exact_mut(4).zip(words.into_iter().chain(lengths)) {
         place.copy_from_slice(&word.to_le_bytes());
     }
     requests.write_all(&head)?;
@@ -131,17 +127,24 @@ fn code_of(kind: Kind) -> u32 {
     }
 }
 
+fn device_of(call: &Call) -> u32 {
+    match call.device() {
+        Device::Em73862 => 0,
+        Device::Em73P982 => 1,
+    }
+}
+
 fn numbers_of(call: &Call) -> [u32; 3] {
     match call {
         Call::Step { wake, sound, .. }
         | Call::Look { wake, sound, .. }
         | Call::Act { wake, sound, .. }
         | Call::Run { wake, sound, .. } => [*wake as u32, *sound as u32, 0],
-        Call::Read { address, .. }
-        | Call::Bound { address, .. }
-        | Call::Length { address, .. }
-        | Call::Row { address, .. }
-        | Call::Notation { address, .. } => [*address, 0, 0],
+        Call::Read { p3, address, .. }
+        | Call::Bound { p3, address, .. }
+        | Call::Length { p3, address, .. }
+        | Call::Row { p3, address, .. }
+        | Call::Notation { p3, address, .. } => [*address, *p3, 0],
         Call::Write { row, a, b } => [*row as u32, *a as u32, *b as u32],
         Call::Fresh { .. } | Call::Reset { .. } | Call::IsValid { .. } | Call::Display { .. } => [0; 3],
     }
