@@ -64,43 +64,59 @@ module _ (w : Around) (Allowed : Machine → Place → Type 0) where
   AllowedAfter m s (After.flags-of t) = AllowedIn (operationStep m w s .machine) t
   AllowedAfter m s (After.flags-before t) = AllowedIn (operationStep m w s .machine) t
 
--- f of the record is kept by a row where it is kept by reading, by a nibble put at the places allowed, and by the row's end
+-- every place
+abbrev pub Any : Machine → Place → Type 0
+Any m p = Unit
+
+pub any-in : (w : Around) (m : Machine) (s : Step) → AllowedIn w Any m s
+any-in w m (Step.put d o x y) = tt
+any-in w m (Step.exchange d x) = (tt, tt)
+any-in w m Step.DP+1 = tt
+
+pub any-after : (w : Around) (m : Machine) (s : Step) (a : After) → AllowedAfter w Any m s a
+any-after w m s After.alone = tt
+any-after w m s (After.flags-of t) = any-in w _ t
+any-after w m s (After.flags-before t) = any-in w _ t
+
+-- what holds of the record holds after a row where it is kept by reading, by a nibble put at the places allowed, and by the row's end
+module _ (P : Machine → Type 0) (w : Around)
+    (reads : (m : Machine) (q : Port) → P m → P (withPorts m (portRead m w q .ports)))
+    (steps : (m : Machine) (q : Pointers) → P m → P (withPointers m q))
+    (ends : (m : Machine) (r : Registers) (pc : ℕ) → P m → P (withPc (withRegisters m r) pc))
+    (Allowed : Machine → Place → Type 0)
+    (puts : (m : Machine) (p : Place) (v : ℕ) → Allowed m p → P m → P (putOf m w p v .machine)) where
+  step-holds : (m : Machine) (s : Step) → AllowedIn w Allowed m s → P m → P (operationStep m w s .machine)
+  unfolding putStep exchangeStep
+  step-holds m (Step.put d o x y) h p = puts (afterReading m w x) d _ h (reading P m w x p (λ q. reads m q p))
+  step-holds m (Step.exchange d x) h p = puts _ x _ (h .1) (puts m d _ (h .0) p)
+  step-holds m Step.DP+1 h p = steps m _ p
+
+  worked-holds : (m : Machine) (s : Step) (a : After) → AllowedIn w Allowed m s → AllowedAfter w Allowed m s a → P m → P (worked m w s a .machine)
+  worked-holds m s After.alone h k p = step-holds m s h p
+  worked-holds m s (After.flags-of t) h k p = step-holds (operationStep m w s .machine) t k (step-holds m s h p)
+  worked-holds m s (After.flags-before t) h k p = step-holds (operationStep m w s .machine) t k (step-holds m s h p)
+
+  pub work-holds : (m : Machine) (l : Line) (s : Step) (a : After) → AllowedIn w Allowed m s → AllowedAfter w Allowed m s a → P m → P (workOf m w l s a .machine)
+  unfolding workOf
+  work-holds m l s a h k p =
+      picked (λ (x : Done). P (x .machine)) (eqb (worked m w s a .stop) 0) _ _
+      (ends (worked m w s a .machine) _ _ (worked-holds m s a h k p)) p
+
+-- f of the record is kept by a row where each of these keeps it
 module _ {A : Type 0} (f : Machine → A) (w : Around)
     (reads : (m : Machine) (q : Port) → f (withPorts m (portRead m w q .ports)) ≡ f m)
     (steps : (m : Machine) (q : Pointers) → f (withPointers m q) ≡ f m)
     (ends : (m : Machine) (r : Registers) (pc : ℕ) → f (withPc (withRegisters m r) pc) ≡ f m) where
   module _ (Allowed : Machine → Place → Type 0) (puts : (m : Machine) (p : Place) (v : ℕ) → Allowed m p → f (putOf m w p v .machine) ≡ f m) where
-    step-keeps : (m : Machine) (s : Step) → AllowedIn w Allowed m s → f (operationStep m w s .machine) ≡ f m
-    unfolding putStep exchangeStep
-    step-keeps m (Step.put d o x y) h = puts (afterReading m w x) d _ h ∙ reading (λ n. f n ≡ f m) m w x refl (reads m)
-    step-keeps m (Step.exchange d x) h = puts _ x _ (h .1) ∙ puts m d _ (h .0)
-    step-keeps m Step.DP+1 h = steps m _
-
-    worked-keeps : (m : Machine) (s : Step) (a : After) → AllowedIn w Allowed m s → AllowedAfter w Allowed m s a → f (worked m w s a .machine) ≡ f m
-    worked-keeps m s After.alone h k = step-keeps m s h
-    worked-keeps m s (After.flags-of t) h k = step-keeps (operationStep m w s .machine) t k ∙ step-keeps m s h
-    worked-keeps m s (After.flags-before t) h k = step-keeps (operationStep m w s .machine) t k ∙ step-keeps m s h
-
     pub work-keeps : (m : Machine) (l : Line) (s : Step) (a : After) → AllowedIn w Allowed m s → AllowedAfter w Allowed m s a → f (workOf m w l s a .machine) ≡ f m
-    unfolding workOf
     work-keeps m l s a h k =
-        picked (λ (x : Done). f (x .machine) ≡ f m) (eqb (worked m w s a .stop) 0) _ _
-        (ends (worked m w s a .machine) _ _ ∙ worked-keeps m s a h k) refl
+        work-holds (λ n. f n ≡ f m) w (λ n q e. reads n q ∙ e) (λ n q e. steps n q ∙ e) (λ n r pc e. ends n r pc ∙ e)
+        Allowed (λ n p v g e. puts n p v g ∙ e) m l s a h k refl
 
   -- every place is allowed
   module _ (puts : (m : Machine) (p : Place) (v : ℕ) → f (putOf m w p v .machine) ≡ f m) where
-    any-in : (m : Machine) (s : Step) → AllowedIn w (λ m p. Unit) m s
-    any-in m (Step.put d o x y) = tt
-    any-in m (Step.exchange d x) = (tt, tt)
-    any-in m Step.DP+1 = tt
-
-    any-after : (m : Machine) (s : Step) (a : After) → AllowedAfter w (λ m p. Unit) m s a
-    any-after m s After.alone = tt
-    any-after m s (After.flags-of t) = any-in _ t
-    any-after m s (After.flags-before t) = any-in _ t
-
     pub work-keeps-always : (m : Machine) (l : Line) (s : Step) (a : After) → f (workOf m w l s a .machine) ≡ f m
-    work-keeps-always m l s a = work-keeps (λ m p. Unit) (λ m p v _. puts m p v) m l s a (any-in m s) (any-after m s a)
+    work-keeps-always m l s a = work-keeps Any (λ m p v _. puts m p v) m l s a (any-in w m s) (any-after w m s a)
 
   -- the places allowed are those without a property
   module _ (g : Place → Bool) (puts : (m : Machine) (p : Place) (v : ℕ) → g p ≡ false → f (putOf m w p v .machine) ≡ f m) where
