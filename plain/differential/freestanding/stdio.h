@@ -1,4 +1,4 @@
-/* For a compiler without headers of its own, such as the kit's: what examples/pane.c uses. */
+/* For a compiler without headers of its own, such as the kit's: what the programs of examples/ use. */
 #include <stddef.h>
 typedef struct file FILE;
 extern FILE *stderr;
