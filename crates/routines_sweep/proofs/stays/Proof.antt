@@ -1,0 +1,18 @@
+-- `calling_sweep::stays` meets its contract.
+use mathlib.Core.Path.{refl, sym}
+use mathlib.Core.Logic.{inl, inr}
+use Rattle.routines_route.proofs.Moves.{never}
+use Rattle.routines_sweep.proofs.Settling.{not-three}
+use Rattle.routines_sweep.proofs.stays.Statement.{statement}
+use Rattle.routines_sweep.proofs.stays.Tie as tie
+use Rattle.routines_sweep.proofs.stays.Reads as reads
+use Rattle.routines_sweep.proofs.stays.Lts as lts
+
+returns : tie.Need-returns
+returns c = record { neither = λ e. absurd (never (sym e)); one = λ e. inl (c .if1 .taken) }
+
+returns-2 : tie.Need-returns-2
+returns-2 c = not-three _ (c .if1 .left)
+
+pub stays-spec : {M : Type 1} → statement M
+stays-spec = tie.close (tie.spec returns returns-2)
