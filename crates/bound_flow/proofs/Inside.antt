@@ -35,11 +35,11 @@ pub cycles-of : (row : ℕ) → 0 < row → row < 108 → T (both (leb 1 (lineAt
 unfolding lineAt lines
 cycles-of row s h = modus (leb 1 row) _ (at (λ row. implies (leb 1 row) (both (leb 1 (lineAt row .cycles)) (leb (lineAt row .cycles) 3))) 108 tt row h) (le→leb 1 row s)
 
-place-lt : (address : ℕ) (known : Bool) → address < 8192 → place address known < 16384
+pub place-lt : (address : ℕ) (known : Bool) → address < 8192 → place address known < 16384
 place-lt address true h = omega arith
 place-lt address false h = omega arith
 
-excluded-good : Good excluded
+pub excluded-good : Good excluded
 excluded-good = record { next-lt = omega arith; other-lt = omega arith; on-pos = λ e. absurd (omega (arith, e)); end-pos = λ e. absurd (omega (arith, e)); le = omega arith }
 
 module _ (d : Device) (address : ℕ) (known : Bool) (i : Insn) (bytes cycles : ℕ) (pos : 0 < cycles) (few : cycles ≤ 3) where
@@ -50,7 +50,7 @@ module _ (d : Device) (address : ℕ) (known : Bool) (i : Insn) (bytes cycles : 
   forked-good true on target h t = record { next-lt = place-lt target true t; other-lt = place-lt target true t; on-pos = λ e. pos; end-pos = λ e. pos; le = omega arith }
   forked-good false on target h t = record { next-lt = place-lt on true h; other-lt = place-lt target true t; on-pos = λ e. pos; end-pos = λ e. pos; le = omega arith }
 
-  nowhere-good : Good (nodeBy address known i bytes cycles Way.nowhere)
+  pub nowhere-good : Good (nodeBy address known i bytes cycles Way.nowhere)
   nowhere-good = excluded-good
 
   onward-good : (k : Bool) → Good (nodeBy address known i bytes cycles (Way.onward k))
@@ -60,7 +60,7 @@ module _ (d : Device) (address : ℕ) (known : Bool) (i : Insn) (bytes cycles : 
   picked-good true k = nowhere-good
   picked-good false k = onward-good k
 
-  way-good : (n : ℕ) → i .a < n → address < 8192 → (s : Mark) (o : Operation) → T (fitsOperation n o) → Good (nodeBy address known i bytes cycles (wayBy d i s o))
+  pub way-good : (n : ℕ) → i .a < n → address < 8192 → (s : Mark) (o : Operation) → T (fitsOperation n o) → Good (nodeBy address known i bytes cycles (wayBy d i s o))
   way-good n h l s (Operation.work to a) f = picked-good (writesGuarded d i (Operation.work to a)) (isOne s)
   way-good n h l s (Operation.branch t) f = forked-good known (wrapped address bytes) (targetOf t address (i .a)) wrapped-lt (target-lt n t address (i .a) l h f)
   way-good n h l s (Operation.call e) f = nowhere-good

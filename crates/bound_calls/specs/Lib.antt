@@ -1,0 +1,2 @@
+pub mod CallFlow
+pub mod CallAnswer
