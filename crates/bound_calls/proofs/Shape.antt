@@ -58,13 +58,13 @@ pub record GoodCall (x : CallNode) : Type 0 where
   pub le : x .cost ≤ 3
 
 -- document 01's kinds are no calls and no returns
-few-kinds : (at : ℕ) (known : Bool) (i : Insn) (bytes cycles : ℕ) (w : Way) → nodeBy at known i bytes cycles w .kind ≤ 2
+pub few-kinds : (at : ℕ) (known : Bool) (i : Insn) (bytes cycles : ℕ) (w : Way) → nodeBy at known i bytes cycles w .kind ≤ 2
 few-kinds at known i bytes cycles Way.nowhere = omega arith
 few-kinds at known i bytes cycles Way.end = omega arith
 few-kinds at known i bytes cycles (Way.onward k) = omega arith
 few-kinds at known i bytes cycles (Way.branches t) = omega arith
 
-on-or-end : (k : ℕ) → 1 ≤ k → k ≤ 2 → (k ≡ 1) ⊎ (k ≡ 2)
+pub on-or-end : (k : ℕ) → 1 ≤ k → k ≤ 2 → (k ≡ 1) ⊎ (k ≡ 2)
 on-or-end k l h = go (ℕ-discrete k 1)
   where
     go : Dec (k ≡ 1) → (k ≡ 1) ⊎ (k ≡ 2)
@@ -155,10 +155,10 @@ by-read d at (Read.Row i) = let l = lineAt (i .row) in by-way at i (l .bytes) (l
 by-read d at Read.Unassigned = same-node _
 by-read d at Read.PastEnd = same-node _
 
-known-of : (at : ℕ) → isKnown (place at true) ≡ true
+pub known-of : (at : ℕ) → isKnown (place at true) ≡ true
 known-of at = eq-eqb (place at true % 2) 1 (omega arith)
 
-unknown-of : (at : ℕ) → isKnown (place at false) ≡ false
+pub unknown-of : (at : ℕ) → isKnown (place at false) ≡ false
 unknown-of at = ne-eqb (place at false % 2) 1 (λ e. omega (arith, e))
 
 half-true : (at : ℕ) → addressOf (place at true) ≡ at
@@ -172,7 +172,7 @@ unfolding callNodeOf
 at-address d rom at = rw (half-true at, half-false at, known-of at, unknown-of at) (by-read d at (readAt rom at))
 
 -- both places after a call are those of one address
-record AfterCall (x : CallNode) : Type 0 where
+pub record AfterCall (x : CallNode) : Type 0 where
   pub at : ℕ
   pub next : x .next ≡ place at false
   pub other : x .other ≡ place at true
@@ -187,7 +187,7 @@ after-read d at known (Read.Row i) k = let l = lineAt (i .row) in after-way at k
 after-read d at known Read.Unassigned k = absurd (omega (arith, k))
 after-read d at known Read.PastEnd k = absurd (omega (arith, k))
 
-after-call : (d : Device) (rom : ℕ → ℕ) (v : ℕ) → callNodeOf d rom v .kind ≡ 3 → AfterCall (callNodeOf d rom v)
+pub after-call : (d : Device) (rom : ℕ → ℕ) (v : ℕ) → callNodeOf d rom v .kind ≡ 3 → AfterCall (callNodeOf d rom v)
 unfolding callNodeOf
 after-call d rom v k = after-read d (addressOf v) (isKnown v) (readAt rom (addressOf v)) k
 

@@ -36,7 +36,7 @@ pub data StepFollows (rom : ℕ → ℕ → ℕ) (o : Options) (m : Machine) (pi
 
 module _ (rom : ℕ → ℕ → ℕ) (o : Options) (m : Machine) (pins : Pins) (p3 v : ℕ) (stands : Standing (m .core) p3 v) where
   -- the record, having seen the frame
-  abbrev looking : Machine
+  abbrev pub looking : Machine
   looking = record { core = seen (o .device) (m .core) pins; ram = m .ram }
 
   -- it runs and accepts nothing, in the ROM that P3 shows
@@ -48,14 +48,14 @@ module _ (rom : ℕ → ℕ → ℕ) (o : Options) (m : Machine) (pins : Pins) (
   step-is = step-runs rom o m pins (ap isRunning (stands .running)) ∙ acts-so
 
   module _ (i : Insn) (read : readAt (rom p3) (m .core .pc) ≡ Read.Row i) where
-    abbrev around : Around
+    abbrev pub around : Around
     around = record { rom = rom p3; options = o; insn = i }
 
     -- the row there is executed
-    row-is : stepOf rom o m pins ≡ afterTime (executed around looking)
+    pub row-is : stepOf rom o m pins ≡ afterTime (executed around looking)
     row-is = step-is ∙ ap (λ (r : Read). afterTime (runRead (rom p3) o looking r)) read
 
-    stop-is : stepOf rom o m pins .stop ≡ executed around looking .stop
+    pub stop-is : stepOf rom o m pins .stop ≡ executed around looking .stop
     stop-is = ap (λ (d : Done). d .stop) row-is
 
     place-is : nodeOf (o .device) (rom p3) v ≡ nodeRow (o .device) (m .core .pc) (isKnown v) i (lineAt (i .row))

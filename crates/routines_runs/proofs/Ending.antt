@@ -16,7 +16,7 @@ use Rattle.routines.specs.Answer.{bounds, Judged, HasBound, PathAnswer, FlowAns
 use Rattle.routines.proofs.Within.{Kind, kind-of, edge-on, edge-call, out-excluded}
 use Rattle.routines.proofs.Done.{Nested, none, inner, in-lt}
 use Rattle.routines.proofs.Exists.{path-head, has-path}
-use Rattle.routines_runs.specs.Runs.{Machine, EndsAt, now, later, Spares, SparesStack, Standard, Follows, OneStep, EndsWithin}
+use Rattle.routines_runs.specs.Runs.{Machine, GoesPast, EndsAt, now, later, Spares, SparesStack, Standard, Follows, OneStep, EndsWithin}
 
 -- the levels from i up to the top hold the addresses of these places
 Holds : (ℕ → ℕ) → (ℕ → ℕ) → ℕ → ℕ → List ℕ → Type 0
@@ -84,7 +84,7 @@ module _ (M : Machine) (f : Flow) (cycles address : ℕ → ℕ) (At : M .State 
       (standard .costs v (in-lt f K small live i) (a .0) (a .1), omega (arith, most (p .0) (p .1), first-cost cycles (p .1)))
 
   -- a run that ends, after a step that does not end it
-  ends-later : (s : M .State) (x : M .Frame) (xs : List (M .Frame)) (v B : ℕ) → 0 < cycles v → cycles v ≤ B → (M .Ends s x → ⊥) → M .spends s x ≡ cycles v
+  ends-later : (s : M .State) (x : M .Frame) (xs : List (M .Frame)) (v B : ℕ) → 0 < cycles v → cycles v ≤ B → GoesPast M s x → M .spends s x ≡ cycles v
       → EndsWithin M (M .step s x) xs (B - cycles v) → EndsWithin M s (x ∷ xs) B
   ends-later s x xs v B pos le goes-on spends q =
       record { steps = suc (q .steps); spent = M .spends s x + q .spent; ends = later goes-on (q .ends); steps-most = omega (arith, q .steps-most); spent-most = omega (arith, q .spent-most) }
@@ -168,11 +168,11 @@ module _ (M : Machine) (f : Flow) (cycles address : ℕ → ℕ) (At : M .State 
   step-on s x xs r ks v B h most (Follows.ends e c) spares cost ih =
       record { steps = 1; spent = M .spends s x; ends = now e; steps-most = omega (arith, cost); spent-most = omega (arith, cost) }
   step-on s x xs r ks v B h most (Follows.goes {w = w} k e on calls c at same) spares cost ih =
-      ends-later s x xs v B (cost .0) (cost .1) on c (ih on (goes-on s x r ks v w B h most k e at same (spares on .0 calls)))
+      ends-later s x xs v B (cost .0) (cost .1) on c (ih (on .0) (goes-on s x r ks v w B h most k e at same (spares (on .0) .0 calls)))
   step-on s x xs r ks v B h most (Follows.calls k on c at lower stored kept) spares cost ih =
-      ends-later s x xs v B (cost .0) (cost .1) on c (ih on (goes-in s x r ks v B h most k at lower stored kept))
+      ends-later s x xs v B (cost .0) (cost .1) on c (ih (on .0) (goes-in s x r ks v B h most k at lower stored kept))
   step-on s x xs r ks v B h most (Follows.returns k on calls c at higher) spares cost ih =
-      ends-later s x xs v B (cost .0) (cost .1) on c (ih on (goes-back s x r ks v B h most k at higher (spares on .0 calls)))
+      ends-later s x xs v B (cost .0) (cost .1) on c (ih (on .0) (goes-back s x r ks v B h most k at higher (spares (on .0) .0 calls)))
 
   -- with at most B left to spend, and B frames or more
   run-from : (frames : List (M .Frame)) (s : M .State) (r : Routine) (ks : List ℕ) (v B : ℕ) → Stands s r ks v → AtMost ks v B → B ≤ length frames → SparesStack M top s frames → EndsWithin M s frames B

@@ -8,7 +8,7 @@ use Prim.Native.Nat.{ℕ, suc, _+_, _≤_, _<_}
 use lib.ListN.{length}
 use Rattle.routines.specs.Calling.{Flow}
 
--- a machine that steps once a frame: the state after the step and its cycles; whether the step ends the handler ("the return or a named stop"), and whether it executes a call;
+-- a machine that steps once a frame: the state after the step and its cycles; whether the step ends the handler ("the return or a named stop"), whether it completes, and whether it executes a call;
 -- SP, and the address that each level of the stack holds
 pub record Machine : Type 1 where
   pub State : Type 0
@@ -16,14 +16,19 @@ pub record Machine : Type 1 where
   pub step : State → Frame → State
   pub spends : State → Frame → ℕ
   pub Ends : State → Frame → Type 0
+  pub Completes : State → Frame → Type 0
   pub Calls : State → Frame → Type 0
   pub sp : State → ℕ
   pub level : State → ℕ → ℕ
 
+-- the step completes and does not end the handler
+abbrev pub GoesPast : (M : Machine) → M .State → M .Frame → Type 0
+GoesPast M s x = (M .Ends s x → ⊥) × M .Completes s x
+
 -- the run ends with its k-th step, having spent so many cycles
 pub data EndsAt (M : Machine) : M .State → List (M .Frame) → ℕ → ℕ → Type 0 where
   now : {s : M .State} {x : M .Frame} {xs : List (M .Frame)} → M .Ends s x → EndsAt M s (x ∷ xs) 1 (M .spends s x)
-  later : {s : M .State} {x : M .Frame} {xs : List (M .Frame)} {k n : ℕ} → (M .Ends s x → ⊥) → EndsAt M (M .step s x) xs k n → EndsAt M s (x ∷ xs) (suc k) (M .spends s x + n)
+  later : {s : M .State} {x : M .Frame} {xs : List (M .Frame)} {k n : ℕ} → GoesPast M s x → EndsAt M (M .step s x) xs k n → EndsAt M s (x ∷ xs) (suc k) (M .spends s x + n)
 
 -- the step leaves what the stack's levels hold "from SP at that time (included) up to the SP at the start (not included)". A step that stores into none of them does
 abbrev pub Spares : (M : Machine) → ℕ → M .State → M .Frame → Type 0
@@ -43,14 +48,14 @@ pub record Standard (f : Flow) (n : ℕ) (cycles address : ℕ → ℕ) : Type 0
 -- what a step does from a state that stands at the place v (At): the one lemma that the chip has to supply
 pub data Follows (M : Machine) (f : Flow) (cycles address : ℕ → ℕ) (At : M .State → ℕ → Type 0) (s : M .State) (x : M .Frame) (v : ℕ) : Type 0 where
   ends : M .Ends s x → M .spends s x ≤ cycles v → Follows M f cycles address At s x v
-  goes : {w : ℕ} → f .kind v ≡ 1 → (w ≡ f .next v) ⊎ (w ≡ f .other v) → (M .Ends s x → ⊥) → (M .Calls s x → ⊥) → M .spends s x ≡ cycles v
+  goes : {w : ℕ} → f .kind v ≡ 1 → (w ≡ f .next v) ⊎ (w ≡ f .other v) → GoesPast M s x → (M .Calls s x → ⊥) → M .spends s x ≡ cycles v
       → At (M .step s x) w → M .sp (M .step s x) ≡ M .sp s → Follows M f cycles address At s x v
   -- "A call or acceptance lowers SP first": it stores below the levels in use
-  calls : f .kind v ≡ 3 → (M .Ends s x → ⊥) → M .spends s x ≡ cycles v
+  calls : f .kind v ≡ 3 → GoesPast M s x → M .spends s x ≡ cycles v
       → At (M .step s x) (f .from (f .entry v)) → suc (M .sp (M .step s x)) ≡ M .sp s → M .level (M .step s x) (M .sp (M .step s x)) ≡ address (f .next v)
       → ((i : ℕ) → M .sp s ≤ i → M .level (M .step s x) i ≡ M .level s i) → Follows M f cycles address At s x v
   -- "RET .. read level SP, then raise it"; SF stays: it is known set where it was
-  returns : f .kind v ≡ 4 → (M .Ends s x → ⊥) → (M .Calls s x → ⊥) → M .spends s x ≡ cycles v
+  returns : f .kind v ≡ 4 → GoesPast M s x → (M .Calls s x → ⊥) → M .spends s x ≡ cycles v
       → ((w : ℕ) → address w ≡ M .level s (M .sp s) → (f .known w ≡ true → f .known v ≡ true) → At (M .step s x) w) → M .sp (M .step s x) ≡ suc (M .sp s)
       → Follows M f cycles address At s x v
 

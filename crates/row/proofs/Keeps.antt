@@ -78,10 +78,31 @@ any-after w m s After.alone = tt
 any-after w m s (After.flags-of t) = any-in w _ t
 any-after w m s (After.flags-before t) = any-in w _ t
 
+-- every place without a property
+abbrev pub But : (Place → Bool) → Machine → Place → Type 0
+But g m p = g p ≡ false
+
+module _ (w : Around) (g : Place → Bool) where
+  none-in : (m : Machine) (s : Step) → stepPuts g s ≡ false → AllowedIn w (But g) m s
+  none-in m (Step.put d o x y) e = e
+  none-in m (Step.exchange d x) e = (neither-left (g d) (g x) e, neither-right (g d) (g x) e)
+  none-in m Step.DP+1 e = tt
+
+  none-after : (m : Machine) (s : Step) (a : After) → afterPuts g a ≡ false → AllowedAfter w (But g) m s a
+  none-after m s After.alone e = tt
+  none-after m s (After.flags-of t) e = none-in _ t e
+  none-after m s (After.flags-before t) e = none-in _ t e
+
+  pub but-in : (m : Machine) (s : Step) (a : After) → workPuts g s a ≡ false → AllowedIn w (But g) m s
+  but-in m s a e = none-in m s (neither-left (stepPuts g s) (afterPuts g a) e)
+
+  pub but-after : (m : Machine) (s : Step) (a : After) → workPuts g s a ≡ false → AllowedAfter w (But g) m s a
+  but-after m s a e = none-after m s a (neither-right (stepPuts g s) (afterPuts g a) e)
+
 -- what holds of the record holds after a row where it is kept by reading, by a nibble put at the places allowed, and by the row's end
 module _ (P : Machine → Type 0) (w : Around)
     (reads : (m : Machine) (q : Port) → P m → P (withPorts m (portRead m w q .ports)))
-    (steps : (m : Machine) (q : Pointers) → P m → P (withPointers m q))
+    (steps : (m : Machine) (dp : ℕ) → P m → P (withPointers m (record { sp = m .core .ptrs .sp; dp = dp })))
     (ends : (m : Machine) (r : Registers) (pc : ℕ) → P m → P (withPc (withRegisters m r) pc))
     (Allowed : Machine → Place → Type 0)
     (puts : (m : Machine) (p : Place) (v : ℕ) → Allowed m p → P m → P (putOf m w p v .machine)) where
@@ -110,7 +131,7 @@ module _ {A : Type 0} (f : Machine → A) (w : Around)
   module _ (Allowed : Machine → Place → Type 0) (puts : (m : Machine) (p : Place) (v : ℕ) → Allowed m p → f (putOf m w p v .machine) ≡ f m) where
     pub work-keeps : (m : Machine) (l : Line) (s : Step) (a : After) → AllowedIn w Allowed m s → AllowedAfter w Allowed m s a → f (workOf m w l s a .machine) ≡ f m
     work-keeps m l s a h k =
-        work-holds (λ n. f n ≡ f m) w (λ n q e. reads n q ∙ e) (λ n q e. steps n q ∙ e) (λ n r pc e. ends n r pc ∙ e)
+        work-holds (λ n. f n ≡ f m) w (λ n q e. reads n q ∙ e) (λ n dp e. steps n _ ∙ e) (λ n r pc e. ends n r pc ∙ e)
         Allowed (λ n p v g e. puts n p v g ∙ e) m l s a h k refl
 
   -- every place is allowed
@@ -120,17 +141,5 @@ module _ {A : Type 0} (f : Machine → A) (w : Around)
 
   -- the places allowed are those without a property
   module _ (g : Place → Bool) (puts : (m : Machine) (p : Place) (v : ℕ) → g p ≡ false → f (putOf m w p v .machine) ≡ f m) where
-    none-in : (m : Machine) (s : Step) → stepPuts g s ≡ false → AllowedIn w (λ m p. g p ≡ false) m s
-    none-in m (Step.put d o x y) e = e
-    none-in m (Step.exchange d x) e = (neither-left (g d) (g x) e, neither-right (g d) (g x) e)
-    none-in m Step.DP+1 e = tt
-
-    none-after : (m : Machine) (s : Step) (a : After) → afterPuts g a ≡ false → AllowedAfter w (λ m p. g p ≡ false) m s a
-    none-after m s After.alone e = tt
-    none-after m s (After.flags-of t) e = none-in _ t e
-    none-after m s (After.flags-before t) e = none-in _ t e
-
     pub work-keeps-but : (m : Machine) (l : Line) (s : Step) (a : After) → workPuts g s a ≡ false → f (workOf m w l s a .machine) ≡ f m
-    work-keeps-but m l s a e =
-        work-keeps (λ m p. g p ≡ false) puts m l s a (none-in m s (neither-left (stepPuts g s) (afterPuts g a) e))
-        (none-after m s a (neither-right (stepPuts g s) (afterPuts g a) e))
+    work-keeps-but m l s a e = work-keeps (But g) puts m l s a (but-in w g m s a e) (but-after w g m s a e)

@@ -1,0 +1,5 @@
+pub mod Levels
+pub mod StackPointer
+pub mod CallRows
+pub mod CallSteps
+pub mod CallDemand

@@ -1,0 +1,53 @@
+-- Request Q-9, demand 3 of handlers that call: "The statement about emulated runs then holds for runs in which no instruction but a call stores into a stack level from SP at that time (included) up to the SP at the start (not included)." One statement for both devices.
+use mathlib.Core.Path.{_≡_}
+use mathlib.Core.Bool.{Bool, false}
+use mathlib.Core.List.{List, [], _∷_}
+use Prim.Native.Nat.{ℕ, _+_, _≤_, _<_}
+use lib.ListN.{length, getD}
+use Rattle.numbers.specs.Sizes.{addresses}
+use Rattle.device.specs.declared.Options.{Options}
+use Rattle.sheet.specs.Operation.{Entry, Operation}
+use Rattle.sheet.specs.Table.{lineAt}
+use Rattle.sheet.specs.Reading.{readAt}
+use Rattle.sheet.specs.declared.Insn.{Insn}
+use Rattle.sheet.specs.declared.Read.{Read}
+use Rattle.frame.specs.declared.Pins.{Pins}
+use Rattle.ports.specs.declared.Mode.the-variants.{Running}
+use Rattle.machine.specs.Stack.{level}
+use Rattle.machine.specs.declared.Machine.{Machine}
+use Rattle.step_act.specs.Act.{shown}
+use Rattle.step.specs.Step.{stepOf}
+use Rattle.routines.specs.Answer.{Judged, HasBound}
+use Rattle.bound_calls.specs.CallFlow.{callFlow, callCycles}
+use Rattle.bound_runs.specs.Handler.{Enters, Ends, EndsWithin, AllInRange}
+
+-- the step executes a call: it runs, accepts nothing since EI is clear, and does not stop
+pub record ExecutesCall (rom : ℕ → ℕ → ℕ) (o : Options) (m : Machine) (pins : Pins) : Type 0 where
+  pub running : m .core .mode ≡ Running
+  pub accepts-nothing : m .core .ints .ei ≡ false
+  pub insn : Insn
+  pub entry : Entry
+  pub read : readAt (shown rom m) (m .core .pc) ≡ Read.Row insn
+  pub is-call : lineAt (insn .row) .operation ≡ Operation.call entry
+  pub completes : stepOf rom o m pins .stop ≡ 0
+
+-- the four nibbles of each level "from SP at that time (included) up to the SP at the start (not included)" hold in n what they held in m. A step that stores into none of them leaves them so
+abbrev pub LevelsKept : ℕ → Machine → Machine → Type 0
+LevelsKept start m n = (i k : ℕ) → m .core .ptrs .sp ≤ i → i < start → k < 4 → getD (n .ram) (level i + k) 0 ≡ getD (m .ram) (level i + k) 0
+
+-- "runs in which no instruction but a call stores into" one, up to the step that ends the handler
+abbrev pub SparesStack : (ℕ → ℕ → ℕ) → Options → ℕ → Machine → List Pins → Type 0
+SparesStack rom o start m [] = Unit
+SparesStack rom o start m (pins ∷ others) =
+    (Ends rom o m pins → ⊥)
+    → ((ExecutesCall rom o m pins → ⊥) → LevelsKept start m (stepOf rom o m pins .machine)) × SparesStack rom o start (stepOf rom o m pins .machine) others
+
+-- "Every emulated run from there (running, SF set, EI clear, frames enough) reaches the return or a named stop having spent at most N, for any pins."
+abbrev pub Demand3WithCalls : Type 0
+Demand3WithCalls =
+    (rom : ℕ → ℕ → ℕ) → ((p3 at : ℕ) → rom p3 at < 256) → (o : Options) (p3 start : ℕ) → start < addresses
+    → (K : ℕ → Bool) (N depth : ℕ) (path deep : List ℕ) → Judged (callFlow (o .device) (rom p3) start) K
+    → HasBound (callFlow (o .device) (rom p3) start) (callCycles (o .device) (rom p3)) K N depth path deep
+    → (m : Machine) → Enters (o .device) m p3 start
+    → (frames : List Pins) → AllInRange (o .device) frames → N ≤ length frames → SparesStack rom o (m .core .ptrs .sp) m frames
+    → EndsWithin rom o m frames N
