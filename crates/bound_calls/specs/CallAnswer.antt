@@ -34,3 +34,18 @@ pub data CallAnswer (d : Device) (image : List ℕ) (p3 start : ℕ) (path path�
   gives-20 : length image ≡ imageSize d → Banked d p3 → lastAddress < start → Kept path path′ deep deep′ → CallAnswer d image p3 start path path′ deep deep′ (refused address-over-8191)
   by-flow : {x : Found} → length image ≡ imageSize d → Banked d p3 → start ≤ lastAddress
       → Answer (callFlow d (romOf image p3) start) (callCycles d (romOf image p3)) addressOf path path′ deep deep′ x → CallAnswer d image p3 start path path′ deep deep′ (paperOfFound x)
+
+-- what comes back, and what the buffers become
+pub record Answered (d : Device) (image : List ℕ) (p3 start : ℕ) (path deep : List ℕ) : Type 0 where
+  pub paper : Paper
+  pub path′ : List ℕ
+  pub deep′ : List ℕ
+  pub answer : CallAnswer d image p3 start path path′ deep deep′ paper
+
+-- every image of bytes, P3, start and pair of buffers has an answer, and only one
+pub record ExactlyOne (d : Device) (image : List ℕ) (p3 start : ℕ) (path deep : List ℕ) : Type 0 where
+  pub some : Answered d image p3 start path deep
+  pub one : (a b : Answered d image p3 start path deep) → (a .paper ≡ b .paper) × (a .path′ ≡ b .path′) × (a .deep′ ≡ b .deep′)
+
+abbrev pub OneAnswerWithCalls : Type 0
+OneAnswerWithCalls = (d : Device) (image : List ℕ) (p3 start : ℕ) (path deep : List ℕ) → ((p3 at : ℕ) → romOf image p3 at < 256) → ExactlyOne d image p3 start path deep
