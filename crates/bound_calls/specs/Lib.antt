@@ -1,2 +1,3 @@
 pub mod CallFlow
 pub mod CallAnswer
+pub mod OldAnswer
