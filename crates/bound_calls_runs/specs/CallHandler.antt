@@ -1,25 +1,30 @@
 -- Request Q-9, demand 3 of handlers that call: "The statement about emulated runs then holds for runs in which no instruction but a call stores into a stack level from SP at that time (included) up to the SP at the start (not included)." One statement for both devices.
 use mathlib.Core.Path.{_≡_}
-use mathlib.Core.Bool.{Bool, false}
+use mathlib.Core.Bool.{Bool, true, false}
 use mathlib.Core.List.{List, [], _∷_}
-use Prim.Native.Nat.{ℕ, _+_, _≤_, _<_}
+use Prim.Native.Nat.{ℕ, _+_, _*_, _≤_, _<_}
 use lib.ListN.{length, getD}
 use Rattle.numbers.specs.Sizes.{addresses}
+use Rattle.numbers.specs.ComesBack.{answered}
+use Rattle.device.specs.Device.{frameSize, romOf}
 use Rattle.device.specs.declared.Options.{Options}
 use Rattle.sheet.specs.Operation.{Entry, Operation}
 use Rattle.sheet.specs.Table.{lineAt}
 use Rattle.sheet.specs.Reading.{readAt}
 use Rattle.sheet.specs.declared.Insn.{Insn}
 use Rattle.sheet.specs.declared.Read.{Read}
+use Rattle.frame.specs.Frame.{areFrames, framesOf}
 use Rattle.frame.specs.declared.Pins.{Pins}
 use Rattle.ports.specs.declared.Mode.the-variants.{Running}
 use Rattle.machine.specs.Stack.{level}
 use Rattle.machine.specs.declared.Machine.{Machine}
 use Rattle.step_act.specs.Act.{shown}
 use Rattle.step.specs.Step.{stepOf}
+use Rattle.run.specs.Answers.{mostFrames}
 use Rattle.routines.specs.Answer.{Judged, HasBound}
 use Rattle.bound_calls.specs.CallFlow.{callFlow, callCycles}
-use Rattle.bound_runs.specs.Handler.{Enters, Ends, EndsWithin, AllInRange}
+use Rattle.bound_calls.specs.CallAnswer.{CallAnswer}
+use Rattle.bound_runs.specs.Handler.{Enters, Ends, EndsWithin, AllInRange, RunEndsWithin}
 
 -- the step executes a call: it runs, accepts nothing since EI is clear, and does not stop
 pub record ExecutesCall (rom : ℕ → ℕ → ℕ) (o : Options) (m : Machine) (pins : Pins) : Type 0 where
@@ -51,3 +56,13 @@ Demand3WithCalls =
     → (m : Machine) → Enters (o .device) m p3 start
     → (frames : List Pins) → AllInRange (o .device) frames → N ≤ length frames → SparesStack rom o (m .core .ptrs .sp) m frames
     → EndsWithin rom o m frames N
+
+-- the same of the answers: the bound answers N with a depth, and the call run is given a buffer of frames that it does not refuse
+abbrev pub Demand3OfCallsWithCalls : Type 0
+Demand3OfCallsWithCalls =
+    (image : List ℕ) → ((p3 at : ℕ) → romOf image p3 at < 256) → (o : Options) (p3 start N depth : ℕ) (path path′ deep deep′ : List ℕ)
+    → CallAnswer (o .device) image p3 start path path′ deep deep′ (answered (N ∷ depth ∷ []))
+    → (m : Machine) → Enters (o .device) m p3 start
+    → (frames : List ℕ) → areFrames (o .device) frames ≡ true → length frames ≤ mostFrames * frameSize (o .device) → N ≤ length (framesOf (o .device) frames)
+    → SparesStack (romOf image) o (m .core .ptrs .sp) m (framesOf (o .device) frames)
+    → RunEndsWithin image o m frames N

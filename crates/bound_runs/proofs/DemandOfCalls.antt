@@ -51,7 +51,7 @@ module _ (image : List ℕ) (o : Options) (m : Machine) (frames : List ℕ) (len
   answer-is : (k : ℕ) (l : List Pins) (r : Ran) → frameSize (o .device) * k ≤ length frames → take k (framesOf (o .device) frames) ≡ l → RunOf image o m (take (frameSize (o .device) * k) frames) r → r ≡ runOf (romOf image) o m l
   answer-is k l r h e a = a .runs len valid (rw length-take (omega arith)) (are-take (o .device) k frames h good) ∙ ap (runOf (romOf image) o m) (frames-take (o .device) k frames h ∙ e)
 
-  ends-by-call : (N : ℕ) → N ≤ length (framesOf (o .device) frames) → EndsWithin (romOf image) o m (framesOf (o .device) frames) N → RunEndsWithin image o m frames N
+  pub ends-by-call : (N : ℕ) → N ≤ length (framesOf (o .device) frames) → EndsWithin (romOf image) o m (framesOf (o .device) frames) N → RunEndsWithin image o m frames N
   ends-by-call N enough e =
       let k = length (e .before) in
       let many : N ≤ length frames / frameSize (o .device) = rw (← length-frames (o .device) frames good) enough in
@@ -78,7 +78,7 @@ pub record Bounds (d : Device) (image : List ℕ) (p3 start N : ℕ) : Type 0 wh
   pub bound : HasBound d (romOf image p3) start N path
 
 -- a refusal's number is not 0
-not-0 : {p q : Paper} → p ≡ q → T (eqb (q .number) 0) → eqb (p .number) 0 ≡ false → ⊥
+pub not-0 : {p q : Paper} → p ≡ q → T (eqb (q .number) 0) → eqb (p .number) 0 ≡ false → ⊥
 not-0 {p} {q} same t f = subst T (sym (ap (λ (r : Paper). eqb (r .number) 0) same) ∙ f) t
 
 bounds-by-flow : (d : Device) (image : List ℕ) (p3 start N : ℕ) (path path′ : List ℕ) (p : Paper) → length image ≡ imageSize d → start < 8192 → FlowAnswer d (romOf image p3) start path path′ p → p ≡ answered (N ∷ []) → Bounds d image p3 start N

@@ -1,0 +1,57 @@
+-- Demand 3 of the answers, for handlers that call.
+use mathlib.Core.Path.{_≡_, refl, ap, subst}
+use mathlib.Core.Bool.{Bool}
+use mathlib.Core.List.{List, [], _∷_}
+use Prim.Native.Nat.{ℕ, _<_}
+use native.Mathlib.Omega.{arith}
+use lib.ListN.{length, getD}
+use Rattle.numbers.specs.ComesBack.{Paper, answered}
+use Rattle.device.specs.Device.{imageSize, romOf}
+use Rattle.device.specs.declared.Device.{Device}
+use Rattle.device.specs.declared.Options.{Options}
+use Rattle.frame.specs.Frame.{framesOf}
+use Rattle.routines.specs.Answer.{Found, Judged, HasBound, PathAnswer, FlowAnswer, Answer}
+use Rattle.bound_flow.specs.Flow.{addressOf}
+use Rattle.bound_runs.proofs.Buffers.{all-in-range}
+use Rattle.bound_runs.proofs.DemandOfCalls.{ends-by-call, not-0}
+use Rattle.bound_calls.specs.CallFlow.{callFlow, callCycles}
+use Rattle.bound_calls.specs.CallAnswer.{paperOfFound, CallAnswer, gives-1, gives-2, gives-20, by-flow}
+use Rattle.bound_calls_runs.specs.CallHandler.{Demand3OfCallsWithCalls}
+use Rattle.bound_calls_runs.proofs.CallDemand.{demand-3-with-calls}
+
+-- where the answer is N, the image and the start are good and N bounds the handler
+record Bounds (d : Device) (image : List ℕ) (p3 start N : ℕ) : Type 0 where
+  pub size : length image ≡ imageSize d
+  pub inside : start < 8192
+  pub K : ℕ → Bool
+  pub depth : ℕ
+  pub path : List ℕ
+  pub deep : List ℕ
+  pub judged : Judged (callFlow d (romOf image p3) start) K
+  pub bound : HasBound (callFlow d (romOf image p3) start) (callCycles d (romOf image p3)) K N depth path deep
+
+module _ (d : Device) (image : List ℕ) (p3 start N depth : ℕ) (path path′ deep deep′ : List ℕ) where
+  abbrev N-is : Paper → Type 0
+  N-is p = p ≡ answered (N ∷ depth ∷ [])
+
+  by-answer : length image ≡ imageSize d → start < 8192 → {x : Found} → Answer (callFlow d (romOf image p3) start) (callCycles d (romOf image p3)) addressOf path path′ deep deep′ x → N-is (paperOfFound x) → Bounds d image p3 start N
+  by-answer len lt (Answer.gives-24 l k) same = absurd (not-0 same tt refl)
+  by-answer len lt (Answer.judged j (FlowAnswer.gives-21 l k)) same = absurd (not-0 same tt refl)
+  by-answer len lt (Answer.judged j (FlowAnswer.gives-22 n l k)) same = absurd (not-0 same tt refl)
+  by-answer len lt (Answer.judged j (FlowAnswer.bounded b (PathAnswer.gives-25 l k))) same = absurd (not-0 same tt refl)
+  by-answer len lt (Answer.judged j (FlowAnswer.bounded b (PathAnswer.gives-23 l s k))) same = absurd (not-0 same tt refl)
+  by-answer len lt (Answer.judged j (FlowAnswer.bounded b (PathAnswer.gives-23-depth l r s k))) same = absurd (not-0 same tt refl)
+  by-answer len lt (Answer.judged {K = K} j (FlowAnswer.bounded {N = n} {d = e} {path = l} {deep = k} b (PathAnswer.gives-N h r s x y))) same =
+      record { size = len; inside = lt; K = K; depth = e; path = l; deep = k; judged = j; bound = subst (λ z. HasBound (callFlow d (romOf image p3) start) (callCycles d (romOf image p3)) K z e l k) (ap (λ (q : Paper). getD (q .values) 0 0) same) b }
+
+  bounds-by : {p : Paper} → CallAnswer d image p3 start path path′ deep deep′ p → N-is p → Bounds d image p3 start N
+  bounds-by (gives-1 n k) same = absurd (not-0 same tt refl)
+  bounds-by (gives-2 len n k) same = absurd (not-0 same tt refl)
+  bounds-by (gives-20 len b over k) same = absurd (not-0 same tt refl)
+  bounds-by (by-flow len b le a) same = by-answer len (omega arith) a same
+
+pub demand-3-of-calls-with-calls : Demand3OfCallsWithCalls
+demand-3-of-calls-with-calls image bytes o p3 start N depth path path′ deep deep′ answer m enters frames good few enough spared =
+    let b = bounds-by (o .device) image p3 start N depth path path′ deep deep′ answer refl in
+    ends-by-call image o m frames (b .size) (enters .valid) good few N enough
+    (demand-3-with-calls (romOf image) bytes o p3 start (b .inside) (b .K) N (b .depth) (b .path) (b .deep) (b .judged) (b .bound) m enters (framesOf (o .device) frames) (all-in-range (o .device) frames good) enough spared)
