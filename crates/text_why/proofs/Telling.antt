@@ -1,5 +1,5 @@
 -- A line of the script answered: refused, or its step told.
-use mathlib.Core.Path.{_≡_, refl, ap, _∙_}
+use mathlib.Core.Path.{_≡_, refl, sym, ap, subst, _∙_}
 use mathlib.Core.Bool.{Bool, true, not}
 use mathlib.Core.List.{List}
 use Prim.Native.Nat.{ℕ, _<_}
@@ -33,5 +33,5 @@ module _ (d : Device) (rom : ℕ → ℕ → ℕ) (only step : ℕ) (m : Core) (
         wrote = w;
         machine = ap (λ (x : Done). x .machine) (g .same);
         ended = last ∙ ap (λ (x : Done). lastStep only step (x .stop)) (g .same);
-        valid = step-valid rom (options d) (assembled m ram) pins valid p bytes;
+        valid = subst (Valid d) (sym (ap (λ (x : Done). x .machine) (g .same))) (step-valid rom (options d) (assembled m ram) pins valid p bytes);
       })

@@ -47,4 +47,4 @@ pub record TellsWhy (d : Device) (a : Answer) (before after : List ℕ) (from : 
   pub wrote : Wrote before after from (r .at) (a .text)
   pub machine : assembled (r .core) ram ≡ a .machine
   pub ended : r .ended ≡ a .ends
-  pub valid : Valid d (a .machine)
+  pub valid : Valid d (assembled (r .core) ram)
