@@ -48,8 +48,13 @@ fn why_then_step(asker: &mut Asker, chance: &mut Chance, device: Device, image: 
 fn interruptible(chance: &mut Chance, device: Device) -> Machine {
     let mut machine = valid(chance, device);
     machine.ei = !chance.one_in(6);
-    machine.il = chance.pick(&[0, 0, 0xFF, 0xFF, 0x0F, 0x03]) & chance.byte() & 0b10_1111;
-    machine.mask = chance.byte() & chance.pick(&[0, 15, 15]);
+    machine.il = match chance.below(4) {
+        0 => 0,
+        1 => 1 << chance.pick(&[0, 1, 2, 3, 5]),
+        2 => chance.byte() & 0b00_1111,
+        _ => chance.byte() & 0b10_1111,
+    };
+    machine.mask = if chance.one_in(2) { chance.byte() & 15 } else { 15 };
     machine.sp = if chance.one_in(3) { chance.pick(&[0, 14, 15]) } else { 1 + chance.below(13) as u8 };
     machine.due = due_number(machine.il, machine.mask);
     machine

@@ -188,7 +188,7 @@ const BOUNDS_PAST_END: u64 = 2_500;
 /// What a why says, by its case from 1 on, and the last one by its source from IL0 up, with none waiting and with some: each comes so often at least.
 const REASONS: [&str; 5] = ["waits", "has EI clear", "has nothing latched", "has all masked", "has no stack level"];
 const SOURCES: [&str; 6] = ["INT1", "TBI", "TRGB", "TRGA", "", "INT0"];
-const EACH_REASON: u64 = 1_000;
+const EACH_REASON: u64 = 500;
 
 pub struct Coverage {
     device: Device,
@@ -263,6 +263,7 @@ impl Coverage {
         let mut found: Vec<(String, u64)> =
             REASONS.iter().zip(self.reasons).map(|(name, count)| (name.to_string(), count)).collect();
         for (latch, name) in SOURCES.iter().enumerate().filter(|(latch, _)| *latch != 4) {
+            let name = self.in_its_words(name);
             found.push((format!("accepts {name} alone"), self.accepted[latch][0]));
             if latch > 0 {
                 found.push((format!("accepts {name} while others wait"), self.accepted[latch][1]));
@@ -403,11 +404,19 @@ impl Coverage {
 
     /// Those of the device, with their names.
     fn events(&self) -> impl Iterator<Item = (Event, String)> + '_ {
-        let (count, last) = match self.device {
-            Device::Em73862 => (P982_EVENTS, "INT1"),
-            Device::Em73P982 => (EVENTS.len(), "SPI"),
+        let count = match self.device {
+            Device::Em73862 => P982_EVENTS,
+            Device::Em73P982 => EVENTS.len(),
         };
-        EVENTS.iter().take(count).map(move |(event, name)| (*event, name.replace("INT1", last)))
+        EVENTS.iter().take(count).map(|(event, name)| (*event, self.in_its_words(name)))
+    }
+
+    /// What is INT1 is SPI on the EM73P982.
+    fn in_its_words(&self, name: &str) -> String {
+        match self.device {
+            Device::Em73862 => name.to_string(),
+            Device::Em73P982 => name.replace("INT1", "SPI"),
+        }
     }
 
     fn writable(&self) -> &'static [u8] {
