@@ -4,7 +4,7 @@ use mathlib.Core.List.{List}
 use Prim.Native.Nat.{ℕ}
 use native.Mathlib.Decide.{ℕ-discrete}
 use lib.Dec.{eqb}
-use lib.ListN.{length, getD}
+use lib.ListN.{length}
 use Rattle.laws.specs.Choice.{pick}
 use Rattle.numbers.specs.ComesBack.{Paper, answered, valueAt}
 use Rattle.device.specs.Device.{imageSize}

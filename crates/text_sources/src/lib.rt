@@ -3,7 +3,6 @@ use device::Device;
 use device::ends_speech;
 use text_digits::put;
 use text_digits::put_text;
-ghost use mathlib.Core.Path.{_≡_};
 ghost use Prim.Native.Nat.{_+_, _<_, _≤_};
 ghost use lib.ListN.{length};
 ghost use Rattle.laws.specs.Writing.{Wrote};

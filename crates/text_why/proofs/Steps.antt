@@ -1,9 +1,8 @@
 -- The digits of a step's number: one alone, and the last after those before it.
-use mathlib.Core.Path.{_≡_, refl, sym, ap, _∙_}
-use mathlib.Core.List.{List, [], _∷_, _++_}
+use mathlib.Core.Path.{_≡_}
+use mathlib.Core.List.{_++_}
 use Prim.Native.Nat.{ℕ, _/_, _%_, _<_, _≤_}
 use native.Mathlib.Nat.{mod-mod}
-use native.Mathlib.Omega.{arith}
 use Rattle.text_digits.specs.Digits.{digit, inBase, decimal}
 use Rattle.text_digits.proofs.Numbers.{places-one, places-more}
 

@@ -1,8 +1,8 @@
 -- The answers of the call by whether the buffer holds a record.
 use Prim.Native.Nat.{ℕ}
 use mathlib.Core.List.{List}
-use mathlib.Core.Path.{_≡_, refl, ap, subst}
-use Rattle.numbers.specs.ComesBack.{Paper, refused}
+use mathlib.Core.Path.{_≡_, ap, subst}
+use Rattle.numbers.specs.ComesBack.{refused}
 use Rattle.device.specs.declared.Options.{Options}
 use Rattle.machine.specs.declared.Machine.{Machine}
 use Rattle.machine_bytes.specs.Layout.{Holds, HoldsNone}
