@@ -3,7 +3,7 @@
  * Every call answers document 01's number: 0, a refusal or a stop; beside each stand those that it can give, in their order. A refusal changes no buffer, and sets the numbers
  * that come back to 0.
  * A slice is a pointer and a length; a slice of no bytes may have any pointer. No two arguments of a call overlap.
- * crates/calls/specs/Calls.antt says what each call answers, and crates/machine_bytes/specs/Layout.antt the bytes of a record.
+ * crates/calls/specs/Calls.antt says what each call answers, crates/why_calls/specs/Call.antt em73862_why's, and crates/machine_bytes/specs/Layout.antt the bytes of a record.
  *
  * A record is 416 bytes, each number in one byte unless said otherwise:
  *   0 ACC, 1 HR, 2 LR, 3 SP, 4 mask,
@@ -44,6 +44,14 @@
 #define EM73862_ABSENT_PORT 33
 #define EM73862_RESERVED_10XX 34
 
+/* What em73862_why answers: sleeping or holding, EI clear, nothing latched, latched but all masked, due but the stack level refuses it, accepted. */
+#define EM73862_WAITING 1
+#define EM73862_EI_CLEAR 2
+#define EM73862_NOTHING_LATCHED 3
+#define EM73862_ALL_MASKED 4
+#define EM73862_LEVEL_REFUSES 5
+#define EM73862_ACCEPTED 6
+
 #ifdef __cplusplus
 extern "C" {
 #endif
@@ -66,6 +74,13 @@ uint8_t em73862_look(uint8_t wake, uint8_t sound, uint8_t *record, size_t record
  * which leave the record. */
 uint8_t em73862_act(const uint8_t *image, size_t image_length, uint8_t wake, uint8_t sound,
                     uint8_t *record, size_t record_length, uint32_t *cycles);
+/* Why a step with this frame takes an interrupt or does not; the record stays. holds is the first of EM73862_WAITING .. EM73862_ACCEPTED that holds.
+ * sources has bit n where the source of ILn is in it: those latched with EM73862_ALL_MASKED, those due with EM73862_LEVEL_REFUSES, the due ones that must wait with
+ * EM73862_ACCEPTED; source is the latch's number n of the one accepted. Both are 0 elsewhere. 1, 2, 3. It is in libwhy_calls.a. */
+uint8_t em73862_why(const uint8_t *image, size_t image_length, uint8_t wake, uint8_t sound,
+                    const uint8_t *record, size_t record_length,
+                    const uint8_t *frame, size_t frame_length,
+                    uint8_t *holds, uint8_t *source, uint8_t *sources);
 /* One step a frame, up to a stop. 1, 2, 4, 3; stops 30 to 35. It is in librun_calls.a, the pane's calls are in libpane.a, all others are in libcalls.a. */
 uint8_t em73862_run(const uint8_t *image, size_t image_length, uint8_t wake, uint8_t sound,
                     uint8_t *record, size_t record_length,

@@ -4,7 +4,7 @@
  * Every call answers document 01's number: 0, a refusal or a stop; beside each stand those that it can give, in their order. They have the names of em73862.h and
  * em73862_pane.h. A refusal changes no buffer, and sets the numbers that come back to 0, but for the value that comes with 21, 22 and 23.
  * A slice is a pointer and a length; a slice of no bytes may have any pointer. No two arguments of a call overlap.
- * The calls on a record are in libcalls_p982.a, but the run, which is in librun_calls_p982.a; those on an image, p3 and an address are in libpane_p982.a.
+ * The calls on a record are in libcalls_p982.a, but the run, which is in librun_calls_p982.a, and why; those on an image, p3 and an address are in libpane_p982.a.
  *
  * An image is four banks of 4,096 bytes. Addresses 0000h to 0FFFh are bank 0; 1000h to 1FFFh are bank 1, 2 or 3 where bits 1..0 of P3 are 0, 1, 2.
  *
@@ -48,6 +48,11 @@ uint8_t em73p982_look(uint8_t wake, uint8_t sound, uint8_t *record, size_t recor
  * which leave the record. */
 uint8_t em73p982_act(const uint8_t *image, size_t image_length, uint8_t wake, uint8_t sound,
                      uint8_t *record, size_t record_length, uint32_t *cycles);
+/* Why a step with this frame takes an interrupt or does not, as em73862_why: the source of IL0 is SPI. 1, 2, 3. It is in libwhy_calls.a. */
+uint8_t em73p982_why(const uint8_t *image, size_t image_length, uint8_t wake, uint8_t sound,
+                     const uint8_t *record, size_t record_length,
+                     const uint8_t *frame, size_t frame_length,
+                     uint8_t *holds, uint8_t *source, uint8_t *sources);
 /* One step a frame, up to a stop; EM73862_MOST_FRAMES frames at most. 1, 2, 4, 3; stops 30 to 35. */
 uint8_t em73p982_run(const uint8_t *image, size_t image_length, uint8_t wake, uint8_t sound,
                      uint8_t *record, size_t record_length,

@@ -1,5 +1,5 @@
-//! Chooses how the proved calls are reached. The archives of `rt staticlib` pane, calls, run_calls, pane_p982, calls_p982 and
-//! run_calls_p982 are x86-64 code: there they are linked, and elsewhere a server that holds them is asked (tools/build-server).
+//! Chooses how the proved calls are reached. The archives of `rt staticlib` pane, calls, run_calls, pane_p982, calls_p982,
+//! run_calls_p982 and why_calls are x86-64 code: there they are linked, and elsewhere a server that holds them is asked (tools/build-server).
 
 use std::path::Path;
 
@@ -10,7 +10,7 @@ fn main() {
         return;
     }
     let folder = Path::new(env!("CARGO_MANIFEST_DIR")).join("../../target/staticlib");
-    for name in ["pane", "calls", "run_calls", "pane_p982", "calls_p982", "run_calls_p982"] {
+    for name in ["pane", "calls", "run_calls", "pane_p982", "calls_p982", "run_calls_p982", "why_calls"] {
         let archive = folder.join(format!("lib{name}.a"));
         println!("cargo:rerun-if-changed={}", archive.display());
         if !archive.exists() {

@@ -88,13 +88,14 @@ struct device {
     uint8_t (*act)(const uint8_t *, size_t, uint8_t, uint8_t, uint8_t *, size_t, uint32_t *);
     uint8_t (*run)(const uint8_t *, size_t, uint8_t, uint8_t, uint8_t *, size_t, const uint8_t *, size_t, uint32_t *, uint32_t *);
     uint8_t (*display)(const uint8_t *, size_t, uint8_t *, size_t);
+    uint8_t (*why)(const uint8_t *, size_t, uint8_t, uint8_t, const uint8_t *, size_t, const uint8_t *, size_t, uint8_t *, uint8_t *, uint8_t *);
 };
 
 enum { EM73862, EM73P982, DEVICES };
 
 static const struct device devices[DEVICES] = {
-    {em73862_fresh, em73862_reset, em73862_is_valid, em73862_step, em73862_look, em73862_act, em73862_run, em73862_display},
-    {em73p982_fresh, em73p982_reset, em73p982_is_valid, em73p982_step, em73p982_look, em73p982_act, em73p982_run, em73p982_display},
+    {em73862_fresh, em73862_reset, em73862_is_valid, em73862_step, em73862_look, em73862_act, em73862_run, em73862_display, em73862_why},
+    {em73p982_fresh, em73p982_reset, em73p982_is_valid, em73p982_step, em73p982_look, em73p982_act, em73p982_run, em73p982_display, em73p982_why},
 };
 
 /* The calls on a record. The numbers that come back hold AAh before a call: one that a call leaves alone shows. */
@@ -102,6 +103,7 @@ static int ask_record(const struct request *r, struct answer *answer) {
     const struct device *d = &devices[r->device];
     size_t n = r->changing_length, m = r->steady_length;
     uint32_t first = 0xAAAAAAAA, second = 0xAAAAAAAA;
+    uint8_t b[3] = {0xAA, 0xAA, 0xAA};
     switch (r->call) {
     case 1: answer->number = d->fresh(changing, n); return 1;
     case 2: answer->number = d->reset(changing, n); return 1;
@@ -114,6 +116,10 @@ static int ask_record(const struct request *r, struct answer *answer) {
     case 6: answer->number = d->display(steady, m, changing, n); return 1;
     case 10: answer->number = d->look(r->first, r->second, changing, n, steady, m, &first); break;
     case 11: answer->number = d->act(image, image_length, r->first, r->second, changing, n, &first); break;
+    case 15:
+        answer->number = d->why(image, image_length, r->first, r->second, changing, n, steady, m, &b[0], &b[1], &b[2]);
+        answer->values[0] = b[0], answer->values[1] = b[1], answer->values[2] = b[2];
+        return 1;
     default: return 0;
     }
     answer->values[0] = first;

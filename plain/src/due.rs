@@ -12,8 +12,13 @@ const SOURCES: [(u8, u16); 5] = [(IL5, 0x002), (IL3, 0x006), (IL2, 0x008), (IL1,
 
 /// "If .. a latch is set and allowed by its mask, accept the first of INT0, TRGA, TRGB, TBI, INT1": its latch and entry.
 pub fn due_source(il: u8, mask: u8) -> Option<(u8, u16)> {
-    let due = il & allowed_latches(mask);
+    let due = due_latches(il, mask);
     SOURCES.into_iter().find(|(latch, _)| due & latch != 0)
+}
+
+/// The latches that are set and allowed by their mask bits.
+pub fn due_latches(il: u8, mask: u8) -> u8 {
+    il & allowed_latches(mask)
 }
 
 /// "the source that would be accepted were EI set, or none" (request Q-11): 0 none, else its place in the list from 1 on.

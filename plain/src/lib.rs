@@ -17,6 +17,7 @@ mod sound;
 mod stack;
 mod step;
 mod surroundings;
+mod why;
 mod worst;
 
 pub mod numbers;
@@ -35,4 +36,5 @@ pub use rom::{place_in_image, ADDRESSES, IMAGE_SIZE};
 pub use rows::{Row, SheetRow, SHEET};
 pub use sound::{sound_start, Sound, MOST_PULSES, PULSES_OVER_THE_LIMIT, TF_OF_ZERO_WHILE_ON};
 pub use step::{act, look, run, step, Ran, Stepped, MOST_FRAMES};
+pub use why::{why, Why};
 pub use worst::{worst_of, Worst, WORST};

@@ -18,7 +18,7 @@ use text_bounder::path_line;
 use text_bounder::summary;
 use text_digits::number;
 use text_digits::put;
-use text_digits::put_text;
+use text_sources::source_name;
 use text_words::Address;
 ghost use mathlib.Core.Path.{_≡_};
 ghost use Prim.Native.Nat.{_+_, _*_, _%_, _<_, _≤_};
@@ -120,33 +120,24 @@ fn bound_at(d: Device, image: &[u8], p3: u8, at: u16)
     list_path(image, p3, &path, most as u32);
 }
 
-fn entry(d: Device, image: &[u8], p3: u8, at: u32, name: &[u8])
-    requires { ⌜ length (now name) ≤ 4 ⌝ }
-{
+// The entry of the source of a latch.
+fn entry(d: Device, image: &[u8], p3: u8, at: u32, latch: u8) {
     let mut path = [0u8; 32768];
     let answer = bound(d, image, p3 as u32, at, &mut path);
     let mut out = io::buffer();
     let address = number(&mut out, 0, 16, 4, at);
     let gap = put(&mut out, address, b' ');
-    let named = put_text(&mut out, gap, name);
+    let named = source_name(&mut out, gap, d, latch);
     let from = put(&mut out, named, b' ');
     show_answer(&mut out, from, answer);
 }
 
-// The fifth entry is of IL0.
-fn fifth(d: Device, image: &[u8], p3: u8) {
-    match d {
-        Device::Em73862 => entry(d, image, p3, 0x00C, b"INT1"),
-        Device::Em73P982 => entry(d, image, p3, 0x00C, b"SPI"),
-    }
-}
-
 fn entries(d: Device, image: &[u8], p3: u8) {
-    entry(d, image, p3, 0x002, b"INT0");
-    entry(d, image, p3, 0x006, b"TRGA");
-    entry(d, image, p3, 0x008, b"TRGB");
-    entry(d, image, p3, 0x00A, b"TBI");
-    fifth(d, image, p3);
+    entry(d, image, p3, 0x002, 5);
+    entry(d, image, p3, 0x006, 3);
+    entry(d, image, p3, 0x008, 2);
+    entry(d, image, p3, 0x00A, 1);
+    entry(d, image, p3, 0x00C, 0);
 }
 
 fn bound_image(d: Device, image: &[u8], p3: u8, before: u8)

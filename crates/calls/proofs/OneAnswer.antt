@@ -27,14 +27,14 @@ use Rattle.display.proofs.Answers.{one-answer as one-shown}
 use Rattle.calls.specs.Calls.{Judged, no-record, record-of, unheld, FreshCall, wrong-length, fresh, ResetCall, ValidAnswer, ValidCall, NotStepped, Answers, StepCall, LookCall, ActCall, RunCall, DisplayCall, WriteCall}
 
 -- two values that are each f of something, where the somethings are equal
-via : {A B : Type 0} (f : A → B) {x y : A} {a b : B} → x ≡ y → a ≡ f x → b ≡ f y → a ≡ b
+pub via : {A B : Type 0} (f : A → B) {x y : A} {a b : B} → x ≡ y → a ≡ f x → b ≡ f y → a ≡ b
 via f e p q = p ∙ (ap f e ∙ sym q)
 
-agree : {A : Type 0} {x a b : A} → a ≡ x → b ≡ x → a ≡ b
+pub agree : {A : Type 0} {x a b : A} → a ≡ x → b ≡ x → a ≡ b
 agree p q = p ∙ sym q
 
 -- a buffer holds one record or none, so two answers are both its refusal or both about that record
-judged : {bytes : List ℕ} {R R′ Same : Type 0} {A A′ : Machine → Type 0} → (R → R′ → Same) → ((m : Machine) → A m → A′ m → Same) → Judged bytes R A → Judged bytes R′ A′ → Same
+pub judged : {bytes : List ℕ} {R R′ Same : Type 0} {A A′ : Machine → Type 0} → (R → R′ → Same) → ((m : Machine) → A m → A′ m → Same) → Judged bytes R A → Judged bytes R′ A′ → Same
 judged f g (no-record n r) (no-record n′ r′) = f r r′
 judged f g (no-record n r) (record-of m h a) = absurd (n m h)
 judged f g (record-of m h a) (no-record n r) = absurd (n m h)

@@ -1,5 +1,5 @@
 // runner [--device NAME] IMAGE: the listing of an image for the script on standard input.
-// All that it has to say is written before it reads on, so that a person at a terminal sees each answer. The script is read in parts; of a line that is not whole yet at most as many characters are kept as a frame has.
+// All that it has to say is written before it reads on, so that a person at a terminal sees each answer.
 use device::Device;
 use device::frame_size;
 use device::image_size;
@@ -8,18 +8,18 @@ use device_words::Chosen;
 use image_file::chosen_device;
 use image_file::read_image;
 use libc::STDERR_FILENO;
-use libc::STDIN_FILENO;
-use libc::STDOUT_FILENO;
 use listing::feed;
 use listing::tell;
 use machine::Core;
 use machine::Ram;
 use machine_start::fresh;
+use script_input::refill;
+use script_input::show;
 use text_runner::header;
 use text_runner::refused;
 ghost use mathlib.Core.Path.{_≡_};
 ghost use mathlib.Core.Bool.{true, false};
-ghost use Prim.Native.Nat.{_+_, _≤_};
+ghost use Prim.Native.Nat.{_≤_};
 ghost use lib.ListN.{length};
 ghost use Rattle.device.specs.Device.{imageSize};
 ghost use Rattle.machine.specs.Valid.{ValidCore, Nibbles};
@@ -39,38 +39,10 @@ fn usage() {
     );
 }
 
-// The first n characters.
-fn show(out: &[u8], n: usize)
-    requires { ⌜ n ≤ length (now out) ⌝ }
-{
-    io::write_all(STDOUT_FILENO, &out[..n]);
-}
-
 fn refuse_image() {
     let mut out = io::buffer();
     let n = refused(&mut out, 0, 1);
     show(&out, n);
-}
-
-// The characters from a place on, moved to the front.
-fn to_front(part: &mut [u8], from: usize, count: usize)
-    requires { ⌜ from + count ≤ length (now part) ⌝ }
-{
-    let mut i = 0;
-    while i < count {
-        part[i] = part[from + i];
-        i += 1;
-    }
-}
-
-// How many characters more were read behind those that are kept: none at the end of the script.
-fn read_behind(part: &mut [u8], kept: usize) -> usize
-    requires { ⌜ kept ≤ length (now part) ⌝ }
-    ensures { λ r. ⌜ kept + r ≤ length (now (part .entry)) ⌝ }
-{
-    let behind = &mut part[kept..];
-    let got = libc::read(STDIN_FILENO, behind);
-    io::count(got, behind)
 }
 
 // What no LF ends: the last line, if there is one, or the beginning of a line that is too long.
@@ -96,7 +68,7 @@ fn over(m: Core) -> Rest
     }
 }
 
-// No whole line is left: the rest of the part goes to its front, and more is read behind it. A line that is longer than a frame is bad however it goes on.
+// No whole line is left in the part: more of the script, or the last line.
 fn more(
     d: Device,
     image: &[u8],
@@ -110,22 +82,17 @@ fn more(
     requires { ⌜ (length (now image) ≡ imageSize d) × (ValidCore d m) × (Nibbles (now ram)) × (from ≤ to) × (to ≤ length (now part)) × (26 ≤ length (now out)) ⌝ }
     ensures { λ r. ⌜ (r .ended ≡ false → (ValidCore d (r .core)) × (Nibbles (now (ram .exit)))) × (r .from ≤ r .to) × (r .to ≤ length (now (part .entry))) ⌝ }
 {
-    let kept = to - from;
-    if kept > frame_size(d) {
-        tell_last(d, image, m, ram, &part[from..to], out);
-        return over(m);
-    }
-    to_front(part, from, kept);
-    let n = read_behind(part, kept);
-    if n == 0 {
-        tell_last(d, image, m, ram, &part[..kept], out);
+    let r = refill(frame_size(d), part, from, to);
+    let count = r.count;
+    if r.last {
+        tell_last(d, image, m, ram, &part[..count], out);
         return over(m);
     }
     Rest {
         core: m,
         ended: false,
         from: 0,
-        to: kept + n,
+        to: count,
     }
 }
 

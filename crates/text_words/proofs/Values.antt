@@ -1,4 +1,4 @@
--- The value of digits, a digit at a time and at most 8192: no image has more addresses or lines.
+-- The value of digits, a digit at a time and at most a bound: 8192 in this crate, since no image has more addresses or lines.
 use mathlib.Core.Path.{_≡_, refl, sym, _∙_}
 use mathlib.Core.Bool.{Bool, true, false}
 use mathlib.Core.List.{List, [], _∷_}
@@ -27,27 +27,27 @@ value-up : (base : ℕ) (l : List ℕ) (v : ℕ) → 0 < base → v ≤ valueAft
 value-up base [] v h = omega arith
 value-up base (c ∷ l) v h = omega (arith, le-mul-of-pos-right v h, value-up base l (v * base + digitOf c) h)
 
-bounded : (base : ℕ) (l : List ℕ) (x : ℕ) → 0 < base → Dec (x < 8192) → min 8192 (valueAfter base (min 8192 x) l) ≡ min 8192 (valueAfter base x l)
-bounded base l x h (yes b) = let e : min 8192 x ≡ x = omega arith in rw e
-bounded base l x h (no b) = omega (arith, value-up base l (min 8192 x) h, value-up base l x h)
+bounded : (cap base : ℕ) (l : List ℕ) (x : ℕ) → 0 < base → Dec (x < cap) → min cap (valueAfter base (min cap x) l) ≡ min cap (valueAfter base x l)
+bounded cap base l x h (yes b) = let e : min cap x ≡ x = omega arith in rw e
+bounded cap base l x h (no b) = omega (arith, value-up base l (min cap x) h, value-up base l x h)
 
--- the digits before i make the value v
-pub record Parsed (base : ℕ) (word : List ℕ) (v i : ℕ) : Type 0 where
+-- the digits before i make the value v, which is cap at most
+pub record Parsed (cap base : ℕ) (word : List ℕ) (v i : ℕ) : Type 0 where
   pub digits : allDigits base word ≡ allDigits base (drop i word)
-  pub value : min 8192 (wordValue base word) ≡ min 8192 (valueAfter base v (drop i word))
-  pub small : v ≤ 8192
+  pub value : min cap (wordValue base word) ≡ min cap (valueAfter base v (drop i word))
+  pub small : v ≤ cap
 
-pub parsed-none : (base : ℕ) (word : List ℕ) → Parsed base word 0 0
-parsed-none base word = record { digits = refl; value = refl; small = omega arith }
+pub parsed-none : (cap base : ℕ) (word : List ℕ) → Parsed cap base word 0 0
+parsed-none cap base word = record { digits = refl; value = refl; small = omega arith }
 
-module _ {base : ℕ} {word : List ℕ} {v i : ℕ} (p : Parsed base word v i) where
-  pub parsed-more : 0 < base → i < length word → digitOf (getD word i 0) < base → Parsed base word (min 8192 (v * base + digitOf (getD word i 0))) (i + 1)
+module _ {cap base : ℕ} {word : List ℕ} {v i : ℕ} (p : Parsed cap base word v i) where
+  pub parsed-more : 0 < base → i < length word → digitOf (getD word i 0) < base → Parsed cap base word (min cap (v * base + digitOf (getD word i 0))) (i + 1)
   parsed-more h l d =
       record {
         digits = p .digits ∙ rw (drop-cons word i 0 l, lt-ltb (digitOf (getD word i 0)) base d, add-one);
         value =
             p .value
-            ∙ rw (drop-cons word i 0 l, add-one) (sym (bounded base (drop (suc i) word) (v * base + digitOf (getD word i 0)) h (decLt (v * base + digitOf (getD word i 0)) 8192)));
+            ∙ rw (drop-cons word i 0 l, add-one) (sym (bounded cap base (drop (suc i) word) (v * base + digitOf (getD word i 0)) h (decLt (v * base + digitOf (getD word i 0)) cap)));
         small = omega arith;
       }
 
@@ -57,7 +57,7 @@ module _ {base : ℕ} {word : List ℕ} {v i : ℕ} (p : Parsed base word v i) w
   pub parsed-digits : length word ≤ i → allDigits base word ≡ true
   parsed-digits l = p .digits ∙ rw (drop-of-length-le word l)
 
-  pub parsed-value : length word ≤ i → min 8192 (wordValue base word) ≡ v
+  pub parsed-value : length word ≤ i → min cap (wordValue base word) ≡ v
   parsed-value l = p .value ∙ (rw (drop-of-length-le word l) (min-eq-right (p .small)))
 
 up-to-8192 : (t : Bool) (x v : ℕ) → pick t (Value (min 8192 x)) Nothing ≡ Value v → v ≤ 8192

@@ -130,7 +130,7 @@ fn refused_apart(asker: &mut Asker, chance: &mut Chance, device: Device, image: 
     Ok(())
 }
 
-fn options(chance: &mut Chance) -> (u8, u8) {
+pub fn options(chance: &mut Chance) -> (u8, u8) {
     let wake = match chance.below(3) {
         0 => chance.pick(&[0, 0xFF, 0x0F, 0xF0]),
         1 => 1 << chance.below(8),
@@ -139,7 +139,7 @@ fn options(chance: &mut Chance) -> (u8, u8) {
     (wake, chance.pick(&[0, 0, 0, 1, 2, 255]))
 }
 
-fn pins_after(chance: &mut Chance, device: Device, record: &[u8]) -> Pins {
+pub fn pins_after(chance: &mut Chance, device: Device, record: &[u8]) -> Pins {
     let of_the_device = |machine: &plain::Machine| machine.last_frame.is_valid(device);
     let last = machine_of(record).filter(of_the_device).map_or(Frame::idle(device), |machine| machine.last_frame);
     Pins::new(chance, device, last)

@@ -127,7 +127,7 @@ fn in_short(call: &Call) -> String {
         Call::Step { wake, sound, record, frame, .. } => {
             write!(text, "wake {wake:02X}h, sound {sound}, frame {}, {}", frame.escape_ascii(), record_in_short(record))
         }
-        Call::Look { wake, sound, record, frame, .. } => {
+        Call::Look { wake, sound, record, frame, .. } | Call::Why { wake, sound, record, frame, .. } => {
             write!(text, "wake {wake:02X}h, sound {sound}, frame {}, {}", frame.escape_ascii(), record_in_short(record))
         }
         Call::Act { wake, sound, record, .. } => {

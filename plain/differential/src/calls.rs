@@ -16,6 +16,7 @@ pub enum Call {
     Look { device: Device, wake: u8, sound: u8, record: Vec<u8>, frame: Vec<u8> },
     Act { device: Device, image: Image, wake: u8, sound: u8, record: Vec<u8> },
     Run { device: Device, image: Image, wake: u8, sound: u8, record: Vec<u8>, frames: Vec<u8> },
+    Why { device: Device, image: Image, wake: u8, sound: u8, record: Vec<u8>, frame: Vec<u8> },
     Display { device: Device, record: Vec<u8>, dots: Vec<u8> },
     Read { device: Device, image: Image, p3: u32, address: u32 },
     Write { row: u8, a: u16, b: u8 },
@@ -42,14 +43,16 @@ pub enum Kind {
     Length,
     Row,
     Notation,
+    Why,
 }
 
 impl Kind {
-    pub const ALL: [Kind; 14] = [
+    pub const ALL: [Kind; 15] = [
         Kind::Step,
         Kind::Look,
         Kind::Act,
         Kind::Run,
+        Kind::Why,
         Kind::Display,
         Kind::Read,
         Kind::Write,
@@ -78,6 +81,7 @@ impl Kind {
             Kind::Length => "length",
             Kind::Row => "row",
             Kind::Notation => "notation",
+            Kind::Why => "why",
         }
     }
 
@@ -103,6 +107,7 @@ impl Kind {
             Kind::Length => "lengths",
             Kind::Row => "rows",
             Kind::Notation => "notations",
+            Kind::Why => "whys",
         }
     }
 
@@ -118,6 +123,7 @@ impl Kind {
             Kind::Length => &["bytes", "cycles"],
             Kind::Row => &["row", "first", "second", "goes", "bytes", "cycles"],
             Kind::Notation => &["length"],
+            Kind::Why => &["holds", "source", "sources"],
         }
     }
 }
@@ -152,6 +158,7 @@ impl Call {
             Call::Length { .. } => Kind::Length,
             Call::Row { .. } => Kind::Row,
             Call::Notation { .. } => Kind::Notation,
+            Call::Why { .. } => Kind::Why,
         }
     }
 
@@ -164,6 +171,7 @@ impl Call {
             | Call::Look { device, .. }
             | Call::Act { device, .. }
             | Call::Run { device, .. }
+            | Call::Why { device, .. }
             | Call::Display { device, .. }
             | Call::Read { device, .. }
             | Call::Bound { device, .. }
@@ -179,6 +187,7 @@ impl Call {
             Call::Step { image, .. }
             | Call::Act { image, .. }
             | Call::Run { image, .. }
+            | Call::Why { image, .. }
             | Call::Read { image, .. }
             | Call::Bound { image, .. }
             | Call::Length { image, .. }
@@ -188,12 +197,12 @@ impl Call {
         }
     }
 
-    /// The buffer of the answer as it goes in. That of is_valid is in it too, though only lent to be read.
+    /// The buffer of the answer as it goes in. Those of is_valid and why are in it too, though only lent to be read.
     pub fn changing(&self) -> &[u8] {
         match self {
             Call::Fresh { record, .. } | Call::Reset { record, .. } | Call::IsValid { record, .. } => record,
             Call::Step { record, .. } | Call::Look { record, .. } => record,
-            Call::Act { record, .. } | Call::Run { record, .. } => record,
+            Call::Act { record, .. } | Call::Run { record, .. } | Call::Why { record, .. } => record,
             Call::Display { dots, .. } => dots,
             Call::Bound { path, .. } => path,
             Call::Notation { text, .. } => text,
@@ -204,7 +213,7 @@ impl Call {
     /// The other buffer besides the image, which no call may change.
     pub fn steady(&self) -> &[u8] {
         match self {
-            Call::Step { frame, .. } | Call::Look { frame, .. } => frame,
+            Call::Step { frame, .. } | Call::Look { frame, .. } | Call::Why { frame, .. } => frame,
             Call::Run { frames, .. } => frames,
             Call::Display { record, .. } => record,
             _ => &[],

@@ -12,6 +12,7 @@ pub mod refused_records;
 pub mod rows;
 pub mod sound;
 pub mod waking;
+pub mod why;
 
 use crate::asker::first_difference;
 use crate::calls::{Answer, Call, Image, MOST_VALUES};
@@ -94,6 +95,7 @@ pub fn groups() -> Vec<(&'static str, Vec<Case>)> {
         ("RAM by HL", memory::cases()),
         ("records outside their ranges, and at the ends of them", refused_records::cases()),
         ("path buffers", paths::cases()),
+        ("why an interrupt is taken or not", why::cases()),
         ("EM73P982: ports, P4 and speech", p982_ports::cases()),
         ("EM73P982: banks and the window", p982_window::cases()),
         ("EM73P982: images, frames, fresh and reset", p982_frames::cases()),

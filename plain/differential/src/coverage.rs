@@ -7,11 +7,12 @@ use plain::{is_valid, numbers, place_in_image, read, Device, Insn, Machine, Mode
 const NUMBERS: usize = 36;
 
 /// Each answer's number, and how often it comes at least in a whole comparison (with the factor 1).
-const AT_LEAST: [(Kind, &[(u8, u64)]); 14] = [
+const AT_LEAST: [(Kind, &[(u8, u64)]); Kind::ALL.len()] = [
     (Kind::Step, &STEP_AT_LEAST),
     (Kind::Look, &[(0, 30_000), (2, 3_000), (3, 3_000)]),
     (Kind::Act, &ACT_AT_LEAST),
     (Kind::Run, &RUN_AT_LEAST),
+    (Kind::Why, &[(0, 80_000), (1, 4_000), (2, 2_000), (3, 1_000)]),
     (Kind::Display, &[(0, 30_000), (2, 10_000), (5, 10_000)]),
     (Kind::Read, &[(0, 60_000), (1, 500), (20, 5_000), (30, 1_500), (35, 3_000)]),
     (Kind::Write, &[(0, 10_000), (11, 50_000)]),
@@ -184,13 +185,21 @@ const LONGEST_RUNS: u64 = 10;
 /// So many bounds at least meet a code that passes the end, as the lowest excluded place.
 const BOUNDS_PAST_END: u64 = 2_500;
 
+/// What a why says, by its case from 1 on, and the last one by its source from IL0 up, with none waiting and with some: each comes so often at least.
+const REASONS: [&str; 5] = ["waits", "has EI clear", "has nothing latched", "has all masked", "has no stack level"];
+const SOURCES: [&str; 6] = ["INT1", "TBI", "TRGB", "TRGA", "", "INT0"];
+const EACH_REASON: u64 = 500;
+
 pub struct Coverage {
     device: Device,
-    answers: [[u64; NUMBERS]; 14],
+    answers: [[u64; NUMBERS]; Kind::ALL.len()],
     rows: [u64; 108],
     /// How often each port was written.
     ports: [u64; 32],
     events: [u64; EVENTS.len()],
+    reasons: [u64; REASONS.len()],
+    /// By the source, with none waiting and with some.
+    accepted: [[u64; 2]; SOURCES.len()],
     longest_runs: u64,
     bounds_past_end: u64,
     /// The record after a step that entered sleep or hold, to see whether the next step wakes it.
@@ -201,10 +210,12 @@ impl Coverage {
     pub fn new(device: Device) -> Coverage {
         Coverage {
             device,
-            answers: [[0; NUMBERS]; 14],
+            answers: [[0; NUMBERS]; Kind::ALL.len()],
             rows: [0; 108],
             ports: [0; 32],
             events: [0; EVENTS.len()],
+            reasons: [0; REASONS.len()],
+            accepted: [[0; 2]; SOURCES.len()],
             longest_runs: 0,
             bounds_past_end: 0,
             just_entered: Vec::new(),
@@ -215,6 +226,9 @@ impl Coverage {
         self.answers[call.kind() as usize][answer.number as usize] += 1;
         if call.kind() == Kind::Run && answer.values[0] as usize == MOST_FRAMES {
             self.longest_runs += 1;
+        }
+        if call.kind() == Kind::Why && answer.number == 0 {
+            self.count_why(answer.values[0] as usize, answer.values[1] as usize, answer.values[2]);
         }
         if let Call::Bound { image, p3, .. } = call {
             let excluded = answer.number == numbers::EXCLUDED;
@@ -235,6 +249,27 @@ impl Coverage {
                 self.count_p3(image, &before, answer.number);
             }
         }
+    }
+
+    fn count_why(&mut self, holds: usize, source: usize, sources: u32) {
+        match self.reasons.get_mut(holds - 1) {
+            Some(count) => *count += 1,
+            None => self.accepted[source][(sources != 0) as usize] += 1,
+        }
+    }
+
+    /// Each thing that a why says, with its count. Nothing waits behind the last source.
+    fn reasons(&self) -> Vec<(String, u64)> {
+        let mut found: Vec<(String, u64)> =
+            REASONS.iter().zip(self.reasons).map(|(name, count)| (name.to_string(), count)).collect();
+        for (latch, name) in SOURCES.iter().enumerate().filter(|(latch, _)| *latch != 4) {
+            let name = self.in_its_words(name);
+            found.push((format!("accepts {name} alone"), self.accepted[latch][0]));
+            if latch > 0 {
+                found.push((format!("accepts {name} while others wait"), self.accepted[latch][1]));
+            }
+        }
+        found
     }
 
     /// Whether P3 is what stops a step, or refuses its record.
@@ -360,6 +395,8 @@ impl Coverage {
         let words: Vec<String> =
             self.writable().iter().map(|port| format!("P{port} {}", self.ports[*port as usize])).collect();
         lines.push(format!("a step writes {}", words.join(", ")));
+        let words: Vec<String> = self.reasons().iter().map(|(name, count)| format!("{name} {count}")).collect();
+        lines.push(format!("a record asked why {}", words.join(", ")));
         lines.push(format!("a run made {MOST_FRAMES} steps {} times", self.longest_runs));
         lines.push(format!("a bound met a code that passes the end {} times", self.bounds_past_end));
         lines
@@ -367,11 +404,19 @@ impl Coverage {
 
     /// Those of the device, with their names.
     fn events(&self) -> impl Iterator<Item = (Event, String)> + '_ {
-        let (count, last) = match self.device {
-            Device::Em73862 => (P982_EVENTS, "INT1"),
-            Device::Em73P982 => (EVENTS.len(), "SPI"),
+        let count = match self.device {
+            Device::Em73862 => P982_EVENTS,
+            Device::Em73P982 => EVENTS.len(),
         };
-        EVENTS.iter().take(count).map(move |(event, name)| (*event, name.replace("INT1", last)))
+        EVENTS.iter().take(count).map(|(event, name)| (*event, self.in_its_words(name)))
+    }
+
+    /// What is INT1 is SPI on the EM73P982.
+    fn in_its_words(&self, name: &str) -> String {
+        match self.device {
+            Device::Em73862 => name.to_string(),
+            Device::Em73P982 => name.replace("INT1", "SPI"),
+        }
     }
 
     fn writable(&self) -> &'static [u8] {
@@ -418,6 +463,9 @@ impl Coverage {
             if count < EACH_EVENT {
                 found.push(format!("a step {name} only {count} times, not {EACH_EVENT}"));
             }
+        }
+        for (name, count) in self.reasons().into_iter().filter(|(_, count)| *count < EACH_REASON) {
+            found.push(format!("a record asked why {name} only {count} times, not {EACH_REASON}"));
         }
         if self.longest_runs < LONGEST_RUNS {
             found.push(format!("a run made {MOST_FRAMES} steps only {} times, not {LONGEST_RUNS}", self.longest_runs));

@@ -5,6 +5,7 @@ pub mod ask_bounds;
 pub mod ask_codes;
 pub mod ask_records;
 pub mod ask_steps;
+pub mod ask_whys;
 pub mod asker;
 pub mod calls;
 pub mod cases;

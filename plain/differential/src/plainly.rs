@@ -2,7 +2,7 @@
 
 use crate::calls::{Answer, Call, MOST_VALUES};
 use crate::layout::{machine_of, record_of, RECORD_BYTES};
-use plain::{goes_to, notation, numbers, Bound, Device, Insn, Machine, Options, Row};
+use plain::{goes_to, notation, numbers, Bound, Device, Insn, Machine, Options, Row, Why};
 
 /// Where a row goes that is neither a branch nor a call.
 const NOWHERE: u16 = 8192;
@@ -19,6 +19,7 @@ pub fn answer(call: &Call) -> Answer {
         Call::Look { wake, sound, record, frame, .. } => look(options(wake, sound), record, frame),
         Call::Act { image, wake, sound, record, .. } => act(image, options(wake, sound), record),
         Call::Run { image, wake, sound, record, frames, .. } => run(image, options(wake, sound), record, frames),
+        Call::Why { image, wake, sound, record, frame, .. } => why(image, options(wake, sound), record, frame),
         Call::Display { record, dots, .. } => display(device, record, dots),
         Call::Write { row, a, b } => write(*row, *a, *b),
         Call::Read { image, p3, address, .. } => read(device, image, *p3, *address),
@@ -91,6 +92,19 @@ fn run(image: &[u8], options: Options, record: &[u8], frames: &[u8]) -> Result<A
     let ran = plain::run(image, options, &machine_or_none_valid(record), frames)?;
     let cycles = u32::try_from(ran.cycles).expect("65,536 steps spend fewer than 2^32 cycles");
     Ok(record_answer(record_of(&ran.machine), ran.stop, &[ran.steps, cycles]))
+}
+
+/// Which of the six holds, the source that is accepted, and the set of sources, as the header numbers them.
+fn why(image: &[u8], options: Options, record: &[u8], frame: &[u8]) -> Result<Answer, u8> {
+    let values = match plain::why(image, options, &machine_or_none_valid(record), frame)? {
+        Why::Waiting => [1, 0, 0],
+        Why::EiClear => [2, 0, 0],
+        Why::NothingLatched => [3, 0, 0],
+        Why::AllMasked { latched } => [4, 0, latched],
+        Why::LevelRefuses { due } => [5, 0, due],
+        Why::Accepted { source, waiting } => [6, source, waiting],
+    };
+    Ok(record_answer(record.to_vec(), numbers::NONE, &values.map(u32::from)))
 }
 
 fn display(device: Device, record: &[u8], dots: &[u8]) -> Result<Answer, u8> {

@@ -27,11 +27,11 @@ slice-aggregate-put c = search needs
 put-requires : tie.Need-put-requires
 put-requires c κs = search needs
 
-slice-aggregate-put-text : tie.Need-slice-aggregate-put-text
-slice-aggregate-put-text c = search needs
+slice-aggregate-source-name : tie.Need-slice-aggregate-source-name
+slice-aggregate-source-name c = search needs
 
-put-text-requires : tie.Need-put-text-requires
-put-text-requires c κs = search needs
+source-name-requires : tie.Need-source-name-requires
+source-name-requires c κs = search needs
 
 slice-aggregate-put-2 : tie.Need-slice-aggregate-put-2
 slice-aggregate-put-2 c = search needs
@@ -43,7 +43,7 @@ slice-aggregate-show-answer : tie.Need-slice-aggregate-show-answer
 slice-aggregate-show-answer c = search needs
 
 show-answer-requires : tie.Need-show-answer-requires
-show-answer-requires c κs = (answer-small (λ at. c .before .before .before .before .before .before .before .before .before .before .before .before .before .before .before .before .before .before .shared-slice-known .given (inImage (c .before .before .before .before .before .before .before .before .before .before .before .before .before .before .before .before .before .before .before .args .p3) at) .fits) (c .before .before .before .before .before .before .before .before .before .before .before .before .before .before .before .bound .ensures), omega (arith, c .before .before .put2 .ensures .end, c .before .before .put2 .ensures .size, c .before .before .before .before .before .put-text .ensures .end, c .before .before .before .before .before .put-text .ensures .size, c .before .before .before .before .before .before .before .before .put .ensures .end, c .before .before .before .before .before .before .before .before .put .ensures .size, c .before .before .before .before .before .before .before .before .before .before .before .number .ensures .1, c .before .before .before .before .before .before .before .before .before .before .before .number .ensures .0 .size, c .before .before .before .before .before .before .before .before .before .before .before .before .before .buffer .ensures, c .before .before .before .before .before .before .before .before .before .before .before .before .before .before .before .before .before .before .before .pre))
+show-answer-requires c κs = (answer-small (λ at. c .before .before .before .before .before .before .before .before .before .before .before .before .before .before .before .before .before .shared-slice-known .given (inImage (c .before .before .before .before .before .before .before .before .before .before .before .before .before .before .before .before .before .before .args .p3) at) .fits) (c .before .before .before .before .before .before .before .before .before .before .before .before .before .before .before .bound .ensures), omega (arith, c .before .before .put2 .ensures .end, c .before .before .put2 .ensures .size, c .before .before .before .before .before .source-name .ensures .1, c .before .before .before .before .before .source-name .ensures .0 .size, c .before .before .before .before .before .before .before .before .put .ensures .end, c .before .before .before .before .before .before .before .before .put .ensures .size, c .before .before .before .before .before .before .before .before .before .before .before .number .ensures .1, c .before .before .before .before .before .before .before .before .before .before .before .number .ensures .0 .size, c .before .before .before .before .before .before .before .before .before .before .before .before .before .buffer .ensures))
 
 returns : tie.Need-returns
 returns c = search needs
@@ -59,8 +59,8 @@ entry-spec =
     number-requires
     slice-aggregate-put
     put-requires
-    slice-aggregate-put-text
-    put-text-requires
+    slice-aggregate-source-name
+    source-name-requires
     slice-aggregate-put-2
     put-requires-2
     slice-aggregate-show-answer

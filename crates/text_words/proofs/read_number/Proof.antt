@@ -11,7 +11,7 @@ use Rattle.text_words.proofs.read_number.Statement.{statement}
 use Rattle.text_words.proofs.read_number.Tie as tie
 
 abbrev Inv-loop : tie.InvT-loop
-Inv-loop word base value₀ i₀ value i = Parsed base word value i × (i ≤ length word)
+Inv-loop word base value₀ i₀ value i = Parsed 8192 base word value i × (i ≤ length word)
 
 abbrev μ-loop : tie.MeasureT-loop
 μ-loop word base value₀ i₀ value i = length word - i
@@ -21,7 +21,7 @@ unfolding numberOf
 returns c = rw (le-ltb 0 (length (now (c .before .before .args .word))) (omega arith))
 
 loop-holds : tie.Need-loop-holds Inv-loop μ-loop
-loop-holds c = (parsed-none _ _, omega arith)
+loop-holds c = (parsed-none _ _ _, omega arith)
 
 shared-slice-read-digit-value : tie.Need-shared-slice-read-digit-value Inv-loop μ-loop
 shared-slice-read-digit-value c = omega arith

@@ -7,7 +7,7 @@ use differential::calls::Kind;
 use differential::chance::Chance;
 use differential::images::Codes;
 use differential::proved::Proved;
-use differential::{ask_bounds, ask_codes, ask_records, ask_steps};
+use differential::{ask_bounds, ask_codes, ask_records, ask_steps, ask_whys};
 use plain::Device;
 use std::process::exit;
 
@@ -70,5 +70,6 @@ fn ask_all(asker: &mut Asker, device: Device, seed: u64, factor: u64) -> Result<
     ask_steps::steps(asker, &mut chance, &codes, STEPS * factor)?;
     ask_steps::apart(asker, &mut chance, &codes, others)?;
     ask_steps::runs(asker, &mut chance, &codes, others)?;
+    ask_whys::whys(asker, &mut chance, &codes, others)?;
     ask_bounds::bounds(asker, &mut chance, &codes, others)
 }

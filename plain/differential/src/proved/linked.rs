@@ -39,6 +39,19 @@ pub mod header {
             record_length: usize,
             cycles: *mut u32,
         ) -> u8;
+        pub fn em73862_why(
+            image: *const u8,
+            image_length: usize,
+            wake: u8,
+            sound: u8,
+            record: *const u8,
+            record_length: usize,
+            frame: *const u8,
+            frame_length: usize,
+            holds: *mut u8,
+            source: *mut u8,
+            sources: *mut u8,
+        ) -> u8;
         pub fn em73862_run(
             image: *const u8,
             image_length: usize,
@@ -126,6 +139,19 @@ pub mod header {
             record: *mut u8,
             record_length: usize,
             cycles: *mut u32,
+        ) -> u8;
+        pub fn em73p982_why(
+            image: *const u8,
+            image_length: usize,
+            wake: u8,
+            sound: u8,
+            record: *const u8,
+            record_length: usize,
+            frame: *const u8,
+            frame_length: usize,
+            holds: *mut u8,
+            source: *mut u8,
+            sources: *mut u8,
         ) -> u8;
         pub fn em73p982_run(
             image: *const u8,
@@ -248,6 +274,7 @@ fn ask(call: &Call, buffer: &mut [u8]) -> (u8, [u32; MOST_VALUES]) {
         }
         Call::Step { .. } | Call::Look { .. } | Call::Act { .. } => ask_step(call, buffer),
         Call::Run { .. } => ask_run(call, buffer),
+        Call::Why { .. } => ask_why(call, buffer),
         Call::Read { .. } | Call::Length { .. } | Call::Row { .. } => ask_row(call),
         Call::Bound { .. } | Call::Notation { .. } => ask_size(call, buffer),
         Call::Write { row, a, b } => {
@@ -338,6 +365,23 @@ fn ask_run(call: &Call, buffer: &mut [u8]) -> (u8, [u32; MOST_VALUES]) {
         run(image, size, *wake, *sound, changing, length, pins, characters, &mut steps, &mut cycles)
     };
     (number, values_of([steps, cycles]))
+}
+
+type Why =
+    unsafe extern "C" fn(*const u8, usize, u8, u8, *const u8, usize, *const u8, usize, *mut u8, *mut u8, *mut u8) -> u8;
+
+fn ask_why(call: &Call, buffer: &mut [u8]) -> (u8, [u32; MOST_VALUES]) {
+    let Call::Why { device, image, wake, sound, frame, .. } = call else { unreachable!("this is no why") };
+    let why = of::<Why>(*device, header::em73862_why, header::em73p982_why);
+    let (record, length) = (buffer.as_ptr(), buffer.len());
+    let (pins, characters) = (frame.as_ptr(), frame.len());
+    let [mut holds, mut source, mut sources] = [UNSET; 3];
+    // SAFETY: each pointer is that of a whole slice with its length beside it, or of a number; only the numbers change.
+    let number = unsafe {
+        let (image, size) = (image.as_ptr(), image.len());
+        why(image, size, *wake, *sound, record, length, pins, characters, &mut holds, &mut source, &mut sources)
+    };
+    (number, values_of([holds, source, sources].map(u32::from)))
 }
 
 fn ask_row(call: &Call) -> (u8, [u32; MOST_VALUES]) {

@@ -124,6 +124,7 @@ fn code_of(kind: Kind) -> u32 {
         Kind::Length => 12,
         Kind::Row => 13,
         Kind::Notation => 14,
+        Kind::Why => 15,
     }
 }
 
@@ -139,7 +140,8 @@ fn numbers_of(call: &Call) -> [u32; 3] {
         Call::Step { wake, sound, .. }
         | Call::Look { wake, sound, .. }
         | Call::Act { wake, sound, .. }
-        | Call::Run { wake, sound, .. } => [*wake as u32, *sound as u32, 0],
+        | Call::Run { wake, sound, .. }
+        | Call::Why { wake, sound, .. } => [*wake as u32, *sound as u32, 0],
         Call::Read { p3, address, .. }
         | Call::Bound { p3, address, .. }
         | Call::Length { p3, address, .. }

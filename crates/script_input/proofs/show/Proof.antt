@@ -1,10 +1,10 @@
--- `runner::show` meets its contract.
+-- `script_input::show` meets its contract.
 use mathlib.Core.Path.{sym}
 use native.Mathlib.Omega.{arith}
 use lib.Seq.{length-take-le}
 use borrow.Author.Needs.{needs}
-use Rattle.runner.proofs.show.Statement.{statement}
-use Rattle.runner.proofs.show.Tie as tie
+use Rattle.script_input.proofs.show.Statement.{statement}
+use Rattle.script_input.proofs.show.Tie as tie
 
 slice-aggregate-write-all : tie.Need-slice-aggregate-write-all
 slice-aggregate-write-all c = sym (length-take-le _ _ (omega arith))

@@ -1,0 +1,4 @@
+pub mod Sources
+pub mod Reasons
+pub mod Answering
+pub mod Accepting

@@ -1,0 +1,73 @@
+-- Request Q-7: what the answer says of the step. "The last holds exactly when the step accepts that source."
+use Prim.Native.Nat.{ℕ, _<_}
+use mathlib.Core.Bool.{true}
+use mathlib.Core.Path.{_≡_}
+use Rattle.bits.specs.Bits.{highestBit}
+use Rattle.numbers.specs.ComesBack.{stack-level}
+use Rattle.device.specs.declared.Options.{Options}
+use Rattle.frame.specs.Frame.{PinsInRange}
+use Rattle.frame.specs.declared.Pins.{Pins}
+use Rattle.due.specs.Due.{dueSource, latchOf}
+use Rattle.machine.specs.Stack.{CanPush, accepted}
+use Rattle.machine.specs.Valid.{Valid}
+use Rattle.machine.specs.declared.Machine.{Machine}
+use Rattle.row.specs.Rows.{Done, spent, stops}
+use Rattle.step_look.specs.Look.{isRunning}
+use Rattle.step_act.specs.Act.{runOne, afterTime}
+use Rattle.step.specs.Step.{lookStep, unmarked, stepOf}
+use Rattle.step_why.specs.declared.Reason.{Reason}
+use Rattle.step_why.specs.declared.Taken.{Taken}
+use Rattle.step_why.specs.Why.{dueSet, whyOf}
+
+-- "If EI is set and a latch is set and allowed by its mask, accept the first of INT0, TRGA, TRGB, TBI, INT1", "lowers SP first, so SP must be 1 to 13": of a record that has seen the frame
+pub record Accepts (m : Machine) (source : ℕ) : Type 0 where
+  pub ei : m .core .ints .ei ≡ true
+  pub first : dueSource (m .core .ints .il) (m .core .ints .mask) ≡ source
+  pub some : source < 6
+  pub level : CanPush (m .core)
+
+-- what the step does by the answer, m having seen the frame: it accepts the source; where the stack level refuses that it stops with 32; else one instruction runs
+abbrev pub actedBy : (ℕ → ℕ → ℕ) → Options → Machine → Reason → Done
+actedBy rom o m (Reason.Accepted t) = afterTime (spent 2 (accepted m (t .source)))
+actedBy rom o m (Reason.Level due) = stops stack-level m
+actedBy rom o m (Reason.Masked latched) = afterTime (runOne rom o m)
+actedBy rom o m Reason.Nothing = afterTime (runOne rom o m)
+actedBy rom o m Reason.Disabled = afterTime (runOne rom o m)
+actedBy rom o m Reason.Waiting = spent 0 (unmarked m)
+
+module _ (o : Options) (m : Machine) (pins : Pins) where
+  -- the record after the first call of Q-4, which has seen the frame
+  abbrev pub sighted : Machine
+  sighted = lookStep o m pins .machine
+
+  abbrev pub SaysAccepted : ℕ → Type 0
+  SaysAccepted source = (waiting : ℕ) × (whyOf o (m .core) pins ≡ Reason.Accepted (record { source = source; waiting = waiting }))
+
+  abbrev pub StepAccepts : ℕ → Type 0
+  StepAccepts source = (isRunning (m .core .mode) ≡ true) × Accepts sighted source
+
+  -- "exactly when", both ways
+  pub record LastExactly : Type 0 where
+    pub only-then : (source : ℕ) → SaysAccepted source → StepAccepts source
+    pub always-then : (source : ℕ) → StepAccepts source → SaysAccepted source
+
+  -- a step is what its answer says; and where it accepts a source it is the acceptance and its two cycles
+  pub record StepByAnswer (rom : ℕ → ℕ → ℕ) : Type 0 where
+    pub acts : isRunning (m .core .mode) ≡ true → stepOf rom o m pins ≡ actedBy rom o sighted (whyOf o (m .core) pins)
+    pub waits : whyOf o (m .core) pins ≡ Reason.Waiting → stepOf rom o m pins ≡ spent (lookStep o m pins .cycles) (unmarked sighted)
+    pub accepts : (source : ℕ) → StepAccepts source → stepOf rom o m pins ≡ afterTime (spent 2 (accepted sighted source))
+
+  -- "Store it in the record: the source that would be accepted were EI set" (Q-11): after the first call it is the first of the due ones, which stand in the order of priority from the highest latch down, and so it is of those that the answer names
+  pub record StoredIsFirst : Type 0 where
+    pub of-all : latchOf (sighted .core .ints .due) ≡ highestBit (dueSet (sighted .core .ints .il) (sighted .core .ints .mask))
+    pub of-refused : (due : ℕ) → whyOf o (m .core) pins ≡ Reason.Level due → latchOf (sighted .core .ints .due) ≡ highestBit due
+    pub of-accepted : (t : Taken) → whyOf o (m .core) pins ≡ Reason.Accepted t → latchOf (sighted .core .ints .due) ≡ t .source
+
+-- of any valid record and frame, on either device
+pub record WhyTells (o : Options) (m : Machine) (pins : Pins) : Type 0 where
+  pub last-exactly : LastExactly o m pins
+  pub step-by-answer : (rom : ℕ → ℕ → ℕ) → StepByAnswer o m pins rom
+  pub stored-is-first : StoredIsFirst o m pins
+
+abbrev pub AnswerTellsStep : Type 0
+AnswerTellsStep = (o : Options) (m : Machine) (pins : Pins) → Valid (o .device) m → PinsInRange (o .device) pins → WhyTells o m pins
