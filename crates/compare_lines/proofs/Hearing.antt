@@ -67,7 +67,7 @@ rest-parts : (n : ℕ) {line : List ℕ} → OneLine line → (at : ℕ) → at 
 rest-parts n o at h [] k ne ours more = absurd (omega arith)
 rest-parts n o at h (c ∷ r) k ne ours more = parts n o at c (r ++ more) ours h ne
 
-pick-same : {A : Type 0} (t : Bool) (a : A) → pick t a a ≡ a
+pub pick-same : {A : Type 0} (t : Bool) (a : A) → pick t a a ≡ a
 pick-same true a = refl
 pick-same false a = refl
 
@@ -130,7 +130,7 @@ module _ {n : ℕ} {line part : List ℕ} where
       record {
         same = λ ours rest. ap (λ (x : List ℕ). differFrom n (cut (line ++ ours)) (cut x)) (g .same rest);
         used = g .used;
-        all = λ l. eq-eqb (at + k) (length line) (w l);
+        all = λ l. ap Matching (w l);
         placed = g .placed;
       }
 

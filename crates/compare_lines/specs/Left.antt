@@ -15,6 +15,7 @@ use Rattle.compare_lines.specs.declared.Form.the-variants.{Open, Spaced,
 use Rattle.compare_lines.specs.declared.Phase.{Phase}
 use Rattle.compare_lines.specs.declared.Phase.the-variants.{Matching, Judging, Found}
 use Rattle.compare_lines.specs.declared.Heard.{Heard}
+use Rattle.compare_lines.specs.declared.Turned.{Turned}
 
 -- the spacing of the rest of a line, so many blanks being left and the present field being empty or not
 abbrev pub spacedFrom : ℕ → Bool → List ℕ → Bool
@@ -72,9 +73,21 @@ pub record Runs (line : List ℕ) (at : ℕ) (part : List ℕ) (r : ℕ) : Type 
   pub used : r ≤ length part
   pub parted : at + r < length line → r < length part → getD line (at + r) 0 ≡ getD part r 0 → ⊥
 
--- of a part of theirs some characters are used: whatever ours and theirs go on with, the answer stays; and where characters are left, nothing of our line is waited for
+-- of a part of theirs some characters are used: whatever ours and theirs go on with, the answer stays; and where characters are left, our line is matched to its end
 pub record Hears (phase : Phase) (n : ℕ) (line part : List ℕ) (r : Heard) : Type 0 where
   pub same : (ours rest : List ℕ) → leftOf phase n line ours (part ++ rest) ≡ leftOf (r .phase) n line ours (drop (r .used) part ++ rest)
   pub used : r .used ≤ length part
-  pub all : r .used < length part → settled (r .phase) (length line) ≡ true
+  pub all : r .used < length part → r .phase ≡ Matching (length line)
   pub placed : Placed (r .phase) (length line)
+
+-- theirs has ended: whatever ours goes on with, the answer stays, and nothing of our line is waited for
+pub record CutShort (phase : Phase) (size : ℕ) (r : Phase) : Type 0 where
+  pub same : (n : ℕ) (line ours : List ℕ) → OneLine line → length line ≡ size → leftOf phase n line ours [] ≡ leftOf r n line ours []
+  pub settles : settled r size ≡ true
+  pub placed : Placed r size
+
+-- our next line comes
+pub record Onward (phase : Phase) (n size : ℕ) (r : Turned) : Type 0 where
+  pub same : (line next ours theirs : List ℕ) → OneLine line → length line ≡ size → leftOf phase n line (next ++ ours) theirs ≡ leftOf (r .phase) (r .line) next ours theirs
+  pub placed : (other : ℕ) → Placed (r .phase) other
+  pub line : r .line ≤ n + 1

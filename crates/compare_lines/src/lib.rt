@@ -1,10 +1,11 @@
 // Document 02, Q-13: a line of ours against a part of their listing, which is not held: where in our line theirs has come to, or which field differs and how the line is spaced so far.
 ghost use mathlib.Core.Path.{_≡_};
+ghost use mathlib.Core.Bool.{true, false};
 ghost use mathlib.Core.List.{List, [], _∷_, _++_};
 ghost use Prim.Native.Nat.{ℕ, suc, _+_, _<_, _≤_};
 ghost use lib.ListN.{length, getD};
 ghost use Rattle.laws.specs.Choice.{pick};
-ghost use Rattle.compare_lines.specs.Left.{spacedFrom, spacedOf, leftOf, OneLine, blanksIn, clash, Placed, Runs, Hears};
+ghost use Rattle.compare_lines.specs.Left.{spacedFrom, spacedOf, leftOf, OneLine, blanksIn, clash, settled, Placed, Runs, Hears, CutShort, Onward};
 
 pub enum Compared {
     ImageOfAnotherSize,
@@ -30,6 +31,12 @@ pub enum Phase {
 pub struct Heard {
     pub phase: Phase,
     pub used: usize,
+}
+
+// How our next line is compared, and its number.
+pub struct Turned {
+    pub phase: Phase,
+    pub line: u64,
 }
 
 fn after_blank(left: u8, empty: bool) -> Form
@@ -242,6 +249,84 @@ pub fn hear(phase: Phase, n: u64, line: &[u8], part: &[u8]) -> Heard
         Phase::Found { field } => Heard {
             phase: Phase::Found { field: field },
             used: part.len(),
+        },
+    }
+}
+
+// Their listing ends here: what our line still waits for is missing.
+pub fn cut_short(phase: Phase, size: usize) -> Phase
+    requires { ⌜ Placed phase size ⌝ }
+    ensures { λ r. ⌜ CutShort phase size r ⌝ }
+{
+    match phase {
+        Phase::Matching { at } => {
+            if at == size {
+                return Phase::Matching { at: at };
+            }
+            Phase::Found { field: 0 }
+        }
+        Phase::Judging { field, left, empty } => Phase::Found { field: 0 },
+        Phase::Found { field } => Phase::Found { field: field },
+    }
+}
+
+// After line n of ours the next.
+pub fn onward(phase: Phase, n: u64, size: usize) -> Turned
+    requires { ⌜ (settled phase size ≡ true) × (n + 1 < 18446744073709551616) ⌝ }
+    ensures { λ r. ⌜ Onward phase n size r ⌝ }
+{
+    match phase {
+        Phase::Matching { at } => Turned {
+            phase: Phase::Matching { at: 0 },
+            line: n + 1,
+        },
+        Phase::Judging { field, left, empty } => Turned {
+            phase: Phase::Judging {
+                field: field,
+                left: left,
+                empty: empty,
+            },
+            line: n,
+        },
+        Phase::Found { field } => Turned {
+            phase: Phase::Found { field: field },
+            line: n,
+        },
+    }
+}
+
+pub fn is_settled(phase: Phase, size: usize) -> bool
+    ensures { λ r. ⌜ r ≡ settled phase size ⌝ }
+{
+    match phase {
+        Phase::Matching { at } => at == size,
+        Phase::Judging { field, left, empty } => true,
+        Phase::Found { field } => true,
+    }
+}
+
+// The answer where line n is the last of ours and theirs has ended, or has characters more behind the line.
+pub fn verdict(phase: Phase, n: u64, size: usize, more: bool) -> Compared
+    requires { ⌜ (Placed phase size) × (n + 1 < 18446744073709551616) × (more ≡ true → phase ≡ Phase.Matching size) ⌝ }
+    ensures { λ r. ⌜ ((line rest : List ℕ) → OneLine line → length line ≡ size → (more ≡ true → 0 < length rest) → (more ≡ false → rest ≡ []) → leftOf phase n line [] rest ≡ r) ⌝ }
+{
+    if more {
+        return Compared::Differs {
+            line: n + 1,
+            field: 0,
+        };
+    }
+    match phase {
+        Phase::Matching { at } => {
+            if at == size {
+                return Compared::Same;
+            }
+            Compared::Differs { line: n, field: 0 }
+        }
+        Phase::Judging { field, left, empty } => Compared::Differs { line: n, field: 0 },
+        Phase::Found { field } => Compared::Differs {
+            line: n,
+            field: field,
         },
     }
 }

@@ -31,7 +31,7 @@ loop-less : tie.Need-loop-less Inv-loop μ-loop
 loop-less c = omega arith
 
 loop-again : tie.Need-loop-again Inv-loop μ-loop
-loop-again c = 
+loop-again c =
     let e = blanks-next (now (c .before .before .before .before .before .args .text)) (c .before .before .before .loop .i) (c .before .before .loop-test .taken) in
     (omega (arith, e, c .field-on .ensures), omega arith, omega (arith, c .field-on .ensures, at-most-one (getD (now (c .before .before .before .before .before .args .text)) (c .before .before .before .loop .i) 0)))
 
