@@ -4,16 +4,20 @@ use mathlib.Core.Bool.{Bool, true, false}
 use mathlib.Core.List.{List, [], _∷_, _++_, append-assoc, append-nil}
 use Prim.Native.Nat.{ℕ, _+_, _<_, _≤_}
 use native.Mathlib.Omega.{arith}
-use borrow.Author.Tests.{eq-eqb, eqb-true}
-use lib.Dec.{eqb}
-use lib.ListN.{length, take, drop, length-append, take-append-drop}
+use native.Mathlib.Decide.{ℕ-discrete}
+use borrow.Author.Tests.{eq-eqb, eqb-true, ltb-true, ltb-false}
+use lib.Dec.{eqb, ltb}
+use lib.ListN.{length, take, drop, length-append, length-drop, drop-of-length-le, take-append-drop}
 use lib.Seq.{take-append-le, take-all}
 use Rattle.laws.specs.Choice.{pick}
+use Rattle.laws.proofs.Computed.{true→T}
 use Rattle.text_script.specs.Script.{isLF}
 use Rattle.compare_lines.specs.Lines.{Line, whole, cut, sameText, differFrom}
-use Rattle.compare_lines.specs.Left.{plain, OneLine, leftOf, CutShort, Onward}
+use Rattle.compare_lines.specs.Left.{plain, OneLine, leftOf, settled, Hears, Heeds, CutShort, Onward}
 use Rattle.compare_lines.specs.declared.Compared.{Compared}
 use Rattle.compare_lines.specs.declared.Compared.the-variants.{Same, Differs}
+use Rattle.compare_lines.specs.declared.Heard.{Heard}
+use Rattle.compare_lines.specs.declared.Phase.{Phase}
 use Rattle.compare_lines.specs.declared.Phase.the-variants.{Matching, Judging, Found}
 use Rattle.compare_lines.proofs.Cutting.{plain-parts, cut-whole, cut-open, opens}
 use Rattle.compare_lines.proofs.Hearing.{pick-same}
@@ -80,3 +84,56 @@ module _ {size : ℕ} where
 
   pub onward-found : {n field : ℕ} → Onward (Found field) n size (record { phase = Found field; line = n })
   onward-found = record { same = λ line next ours theirs o l. refl; placed = λ other. tt; line = omega arith }
+
+module _ {phase : Phase} {n : ℕ} {line part : List ℕ} {r : Heard} (h : Hears phase n line part r) where
+  settled-left : {size : ℕ} {p : Phase} → p ≡ Matching size → settled p size ≡ true
+  settled-left {size} e = rw e (eq-eqb size size refl)
+
+  all-used : settled (r .phase) (length line) ≡ false → Dec (r .used ≡ length part) → r .used ≡ length part
+  all-used z (yes e) = e
+  all-used z (no d) = absurd (true→T (sym z ∙ settled-left (h .all (omega (arith, h .used)))))
+
+  -- more of theirs comes
+  pub heeds-more : Heeds phase n line part false r
+  heeds-more =
+      record {
+        same = λ ours rest z. h .same ours rest;
+        used = h .used;
+        all = h .all;
+        placed = h .placed;
+        waits = λ z. (refl, all-used z (ℕ-discrete (r .used) (length part)));
+      }
+
+  -- this is the last part, and some of it is left
+  pub heeds-left : r .used < length part → Heeds phase n line part true r
+  heeds-left l =
+      record {
+        same = λ ours rest z. h .same ours rest;
+        used = h .used;
+        all = h .all;
+        placed = h .placed;
+        waits = λ z. absurd (true→T (sym z ∙ settled-left (h .all l)));
+      }
+
+  -- this is the last part, and all of it is used
+  pub heeds-end : {q : Phase} → OneLine line → r .used ≡ length part → CutShort (r .phase) (length line) q → Heeds phase n line part true (record { phase = q; used = r .used })
+  heeds-end {q} o l s =
+      let g : length part ≤ r .used = omega arith in
+      let e : drop (r .used) part ++ [] ≡ [] = rw (drop-of-length-le part g) in
+      record {
+        same = λ ours rest z. rw (z refl, e) (rw e at (h .same ours []) ∙ s .same n line ours o refl);
+        used = h .used;
+        all = λ k. absurd (omega arith);
+        placed = s .placed;
+        waits = λ z. absurd (true→T (sym z ∙ s .settles));
+      }
+
+  -- what is left of theirs, where this is all of it
+  pub rest-same : leftOf phase n line [] part ≡ leftOf (r .phase) n line [] (drop (r .used) part)
+  rest-same = rw (append-nil part, append-nil (drop (r .used) part)) at (h .same [] [])
+
+  pub rest-some : ltb (r .used) (length part) ≡ true → 0 < length (drop (r .used) part)
+  rest-some t = rw length-drop (omega (arith, ltb-true (r .used) (length part) t))
+
+  pub rest-none : ltb (r .used) (length part) ≡ false → drop (r .used) part ≡ []
+  rest-none t = drop-of-length-le part (ltb-false (r .used) (length part) t)

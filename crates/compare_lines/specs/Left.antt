@@ -80,6 +80,14 @@ pub record Hears (phase : Phase) (n : ℕ) (line part : List ℕ) (r : Heard) : 
   pub all : r .used < length part → r .phase ≡ Matching (length line)
   pub placed : Placed (r .phase) (length line)
 
+-- the same, where theirs goes on with nothing if this is its last part: then nothing of our line is waited for
+pub record Heeds (phase : Phase) (n : ℕ) (line part : List ℕ) (last : Bool) (r : Heard) : Type 0 where
+  pub same : (ours rest : List ℕ) → (last ≡ true → rest ≡ []) → leftOf phase n line ours (part ++ rest) ≡ leftOf (r .phase) n line ours (drop (r .used) part ++ rest)
+  pub used : r .used ≤ length part
+  pub all : r .used < length part → r .phase ≡ Matching (length line)
+  pub placed : Placed (r .phase) (length line)
+  pub waits : settled (r .phase) (length line) ≡ false → (last ≡ false) × (r .used ≡ length part)
+
 -- theirs has ended: whatever ours goes on with, the answer stays, and nothing of our line is waited for
 pub record CutShort (phase : Phase) (size : ℕ) (r : Phase) : Type 0 where
   pub same : (n : ℕ) (line ours : List ℕ) → OneLine line → length line ≡ size → leftOf phase n line ours [] ≡ leftOf r n line ours []

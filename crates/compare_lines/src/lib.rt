@@ -5,7 +5,7 @@ ghost use mathlib.Core.List.{List, [], _∷_, _++_};
 ghost use Prim.Native.Nat.{ℕ, suc, _+_, _<_, _≤_};
 ghost use lib.ListN.{length, getD};
 ghost use Rattle.laws.specs.Choice.{pick};
-ghost use Rattle.compare_lines.specs.Left.{spacedFrom, spacedOf, leftOf, OneLine, blanksIn, clash, settled, Placed, Runs, Hears, CutShort, Onward};
+ghost use Rattle.compare_lines.specs.Left.{spacedFrom, spacedOf, leftOf, OneLine, blanksIn, clash, settled, Placed, Runs, Hears, Heeds, CutShort, Onward};
 
 pub enum Compared {
     ImageOfAnotherSize,
@@ -270,6 +270,32 @@ pub fn cut_short(phase: Phase, size: usize) -> Phase
     }
 }
 
+// A part of their listing, which may be the last.
+pub fn heed(phase: Phase, n: u64, line: &[u8], part: &[u8], last: bool) -> Heard
+    requires { ⌜ (OneLine (now line)) × (Placed phase (length (now line))) ⌝ }
+    ensures { λ r. ⌜ Heeds phase n (now (line .entry)) (now (part .entry)) last r ⌝ }
+{
+    let heard = hear(phase, n, line, part);
+    let used = heard.used;
+    let now = heard.phase;
+    if last {
+        if used < part.len() {
+            return Heard {
+                phase: now,
+                used: used,
+            };
+        }
+        return Heard {
+            phase: cut_short(now, line.len()),
+            used: used,
+        };
+    }
+    Heard {
+        phase: now,
+        used: used,
+    }
+}
+
 // After line n of ours the next.
 pub fn onward(phase: Phase, n: u64, size: usize) -> Turned
     requires { ⌜ (settled phase size ≡ true) × (n + 1 < 18446744073709551616) ⌝ }
@@ -329,4 +355,14 @@ pub fn verdict(phase: Phase, n: u64, size: usize, more: bool) -> Compared
             field: field,
         },
     }
+}
+
+// The answer where line n is the last of ours, and the rest of theirs is whole.
+pub fn finish(phase: Phase, n: u64, line: &[u8], rest: &[u8]) -> Compared
+    requires { ⌜ (OneLine (now line)) × (Placed phase (length (now line))) × (n + 1 < 18446744073709551616) ⌝ }
+    ensures { λ r. ⌜ leftOf phase n (now (line .entry)) [] (now (rest .entry)) ≡ r ⌝ }
+{
+    let heard = hear(phase, n, line, rest);
+    let now = heard.phase;
+    verdict(now, n, line.len(), heard.used < rest.len())
 }
