@@ -48,8 +48,8 @@ pub record Nexts (d : Device) (rom : ℕ → ℕ → ℕ) (p : Progress) (ram ou
 pub record Goes (d : Device) (rom : ℕ → ℕ → ℕ) (p : Progress) (ram ours script listing : List ℕ) (last : Bool) (r : Gone) (ram' ours' : List ℕ) : Type 0 where
   pub same : (more theirs : List ℕ) → (last ≡ true → theirs ≡ []) → answerFrom d rom p ram ours (linesOf (script ++ more)) (listing ++ theirs) ≡ answerFrom d rom (r .progress) ram' ours' (linesOf (drop (r .script) script ++ more)) (drop (r .listing) listing ++ theirs)
   pub sound : Sound d (r .progress) ram' ours'
-  pub script : r .script ≤ length script
-  pub listing : r .listing ≤ length listing
+  pub read : r .script ≤ length script
+  pub heard : r .listing ≤ length listing
   pub count : r .progress .line + r .progress .line + (length script - r .script) ≤ p .line + p .line + length script
   pub ends : settled (r .progress .phase) (r .progress .size) ≡ true → r .progress .ended ≡ false → upTo (drop (r .script) script) ≡ length (drop (r .script) script)
   pub waits : settled (r .progress .phase) (r .progress .size) ≡ false → (last ≡ false) × (r .listing ≡ length listing)

@@ -1,0 +1,2 @@
+pub mod OurLines
+pub mod Nexting
