@@ -1,2 +1,3 @@
 pub mod OurLines
 pub mod Nexting
+pub mod Going

@@ -59,14 +59,15 @@ module _ {d : Device} (rom : ℕ → ℕ → ℕ) {p : Progress} {ram ours ram' 
   told-line : OneLine (take (r .at) ours')
   told-line = rw told-text (answer-line d rom (assembled (p .core) ram) text (omega (arith, t .wrote .end, t .short)))
 
-  next-sound : (line : ℕ) (phase : Phase) (bad' : Bool) → Placed phase (r .at) → Sound d (record { core = r .core; ended = r .ended; bad = bad'; line = line; size = r .at; phase = phase }) ram' ours'
-  next-sound line phase bad' placed =
+  next-sound : (line : ℕ) (phase : Phase) (bad' : Bool) → Placed phase (r .at) → (r .ended ≡ false → bad' ≡ false) → Sound d (record { core = r .core; ended = r .ended; bad = bad'; line = line; size = r .at; phase = phase }) ram' ours'
+  next-sound line phase bad' placed fair =
       record {
         valid = rw (t .machine) (t .valid);
         line = told-line;
         size = omega (arith, t .wrote .within, t .wrote .size);
         placed = placed;
         room = omega (arith, s .room, t .wrote .size);
+        fair = fair;
       }
 
   pub next-bad : r .ended ≡ true → isNoFrame (frameOf d text) ≡ true → Nexts d rom p ram ours text (record { core = r .core; ended = true; bad = true; line = p .line; size = r .at; phase = Found 0 }) ram' ours'
@@ -74,7 +75,7 @@ module _ {d : Device} (rom : ℕ → ℕ → ℕ) {p : Progress} {ram ours ram' 
   next-bad e f =
       record {
         same = λ script theirs. rw (bad, ended, f);
-        sound = rw e at (next-sound (p .line) (Found 0) true tt);
+        sound = rw e at (next-sound (p .line) (Found 0) true tt (λ z. absurd (true→T (sym z ∙ e))));
         count = omega arith;
         length = t .wrote .size;
       }
@@ -89,7 +90,7 @@ module _ {d : Device} (rom : ℕ → ℕ → ℕ) {p : Progress} {ram ours ram' 
   next-good {q} f o =
       record {
         same = next-same f o;
-        sound = next-sound (q .line) (q .phase) false (o .placed (r .at));
+        sound = next-sound (q .line) (q .phase) false (o .placed (r .at)) (λ z. refl);
         count = omega (arith, o .line, frame-some d text f);
         length = t .wrote .size;
       }

@@ -7,6 +7,7 @@ use lib.ListN.{length, take, drop}
 use Rattle.laws.specs.Choice.{pick}
 use Rattle.device.specs.declared.Device.{Device}
 use Rattle.machine.specs.Valid.{Valid}
+use Rattle.machine.specs.declared.Core.{Core}
 use Rattle.machine.specs.With.{assembled}
 use Rattle.text_script.specs.Script.{linesOf, upTo}
 use Rattle.listing.specs.Listing.{toldOver}
@@ -14,6 +15,7 @@ use Rattle.compare_lines.specs.Left.{leftOf, OneLine, settled, Placed}
 use Rattle.compare_lines.specs.declared.Compared.{Compared}
 use Rattle.compare_lines.specs.declared.Compared.the-variants.{NotAFrame}
 use Rattle.compare_lines.specs.declared.Phase.{Phase}
+use Rattle.compare_lines.specs.declared.Phase.the-variants.{Matching}
 use Rattle.compare_listing.specs.Compared.{readsNoFrame}
 use Rattle.compare_listing.specs.declared.Progress.{Progress}
 use Rattle.compare_listing.specs.declared.Gone.{Gone}
@@ -28,6 +30,10 @@ answerFrom d rom p ram ours script theirs =
 abbrev pub withPhase : Progress → Phase → Progress
 withPhase p phase = record { core = p .core; ended = p .ended; bad = p .bad; line = p .line; size = p .size; phase = phase }
 
+-- at the header, with nothing of theirs
+abbrev pub begun : Core → ℕ → Progress
+begun core size = record { core = core; ended = false; bad = false; line = 1; size = size; phase = Matching 0 }
+
 -- the record is valid, and the buffer holds our present line
 pub record Sound (d : Device) (p : Progress) (ram ours : List ℕ) : Type 0 where
   pub valid : Valid d (assembled (p .core) ram)
@@ -35,10 +41,18 @@ pub record Sound (d : Device) (p : Progress) (ram ours : List ℕ) : Type 0 wher
   pub size : p .size ≤ length ours
   pub placed : Placed (p .phase) (p .size)
   pub room : 26 ≤ length ours
+  pub fair : p .ended ≡ false → p .bad ≡ false
 
 -- a line of the script is used: whatever script and listing go on with, the answer stays. A line that is a frame has a character, so lines are not more than half of the characters
 pub record Nexts (d : Device) (rom : ℕ → ℕ → ℕ) (p : Progress) (ram ours text : List ℕ) (r : Progress) (ram' ours' : List ℕ) : Type 0 where
   pub same : (script : List (List ℕ)) (theirs : List ℕ) → answerFrom d rom p ram ours (text ∷ script) theirs ≡ answerFrom d rom r ram' ours' script theirs
+  pub sound : Sound d r ram' ours'
+  pub count : r .line + r .line ≤ p .line + p .line + 1 + length text
+  pub length : length ours' ≡ length ours
+
+-- the last line, which no LF ends, is used, if there is one
+pub record Lasts (d : Device) (rom : ℕ → ℕ → ℕ) (p : Progress) (ram ours text : List ℕ) (r : Progress) (ram' ours' : List ℕ) : Type 0 where
+  pub same : (p .ended ≡ false → upTo text ≡ length text) → (theirs : List ℕ) → answerFrom d rom p ram ours (linesOf text) theirs ≡ answerFrom d rom r ram' ours' [] theirs
   pub sound : Sound d r ram' ours'
   pub count : r .line + r .line ≤ p .line + p .line + 1 + length text
   pub length : length ours' ≡ length ours
