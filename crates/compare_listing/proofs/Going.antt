@@ -23,7 +23,7 @@ use Rattle.compare_listing.specs.Progress.{answerFrom, withPhase, Sound,
 use Rattle.compare_listing.specs.declared.Progress.{Progress}
 use Rattle.compare_listing.specs.declared.Gone.{Gone}
 
-rest-of : (k : ℕ) (part : List ℕ) → take (length part - k) (drop k part) ≡ drop k part
+pub rest-of : (k : ℕ) (part : List ℕ) → take (length part - k) (drop k part) ≡ drop k part
 rest-of k part = take-all (length part - k) (drop k part) (omega (arith, length-drop k part))
 
 -- so many characters of both are used

@@ -1,3 +1,4 @@
 pub mod OurLines
 pub mod Nexting
 pub mod Going
+pub mod Whole

@@ -1,71 +1,56 @@
+-- `compare_listing::compare_whole` meets its contract.
+use mathlib.Core.Path.{sym, _∙_}
+use native.Mathlib.Omega.{arith}
+use lib.Seq.{length-take-le}
+use Rattle.compare_listing.proofs.Whole.{whole-settled, whole-left, last-fits, answer-bad, answer-left}
 use borrow.Author.Needs.{needs}
 use Rattle.compare_listing.proofs.compare_whole.Statement.{statement}
 use Rattle.compare_listing.proofs.compare_whole.Tie as tie
-use Rattle.compare_listing.proofs.compare_whole.Reads as reads
-use Rattle.compare_listing.proofs.compare_whole.Lts as lts
-use Rattle.compare_lines.proofs.finish.Reads as finish-reads
-use Rattle.compare_listing.proofs.go.Reads as go-reads
-use Rattle.compare_listing.proofs.last_line.Reads as last-line-reads
 
--- src/lib.rt:204:9
 go-requires : tie.Need-go-requires
 go-requires c κs = search needs
 
--- src/lib.rt:208:55
 sub-last-line : tie.Need-sub-last-line
 sub-last-line c = search needs
 
--- src/lib.rt:208:55
 part-last-line-start : tie.Need-part-last-line-start
 part-last-line-start c = search needs
 
--- src/lib.rt:208:55
 part-last-line-end : tie.Need-part-last-line-end
 part-last-line-end c = search needs
 
--- src/lib.rt:208:9
 last-line-requires : tie.Need-last-line-requires
-last-line-requires c κs = ?
+last-line-requires c κs = (c .before .before .before .before .before .before .before .before .before .before .before .before .before .pre .0, c .before .before .before .before .before .before .go .ensures .sound, whole-settled (c .before .before .before .before .before .before .go .ensures), omega (arith, c .before .before .before .before .before .before .go .ensures .count, c .before .before .before .before .before .before .before .before .before .before .before .before .before .pre .2))
 
--- src/lib.rt:210:9
 same-length : tie.Need-same-length
 same-length c = search needs
 
--- src/lib.rt:210:9
 returns : tie.Need-returns
-returns c = ?
+returns c = whole-left (c .before .before .before .before .before .before .before .before .before .before .go .ensures) (c .before .before .before .last-line .ensures) ∙ answer-bad _ _ _ _ _ _ (c .if1 .taken)
 
--- src/lib.rt:214:29
 slice-reshare-prefix-finish : tie.Need-slice-reshare-prefix-finish
 slice-reshare-prefix-finish c = search needs
 
--- src/lib.rt:214:29
 slice-aggregate-finish : tie.Need-slice-aggregate-finish
-slice-aggregate-finish c = ?
+slice-aggregate-finish c = sym (length-take-le _ _ (c .before .before .before .before .last-line .ensures .sound .size))
 
--- src/lib.rt:214:44
 sub-finish : tie.Need-sub-finish
 sub-finish c = search needs
 
--- src/lib.rt:214:44
 part-finish-start : tie.Need-part-finish-start
 part-finish-start c = search needs
 
--- src/lib.rt:214:44
 part-finish-end : tie.Need-part-finish-end
 part-finish-end c = search needs
 
--- src/lib.rt:214:5
 finish-requires : tie.Need-finish-requires
-finish-requires c κs = ?
+finish-requires c κs = (c .before .before .before .before .before .last-line .ensures .sound .line, rw (length-take-le _ _ (c .before .before .before .before .before .last-line .ensures .sound .size)) (c .before .before .before .before .before .last-line .ensures .sound .placed), last-fits (c .before .before .before .before .before .before .before .before .before .before .before .before .go .ensures) (c .before .before .before .before .before .last-line .ensures) (c .before .before .before .before .before .before .before .before .before .before .before .before .before .before .before .before .before .before .before .pre .2))
 
--- src/lib.rt:192:1
 same-length-2 : tie.Need-same-length-2
 same-length-2 c = search needs
 
--- src/lib.rt:192:1
 returns-2 : tie.Need-returns-2
-returns-2 c = ?
+returns-2 c = whole-left (c .before .before .before .before .before .before .before .before .before .before .before .before .before .go .ensures) (c .before .before .before .before .before .before .last-line .ensures) ∙ (answer-left _ _ _ _ _ _ (c .before .before .before .if1 .left) ∙ c .finish .ensures)
 
 pub compare-whole-spec : {M : Type 1} → statement M
 compare-whole-spec =

@@ -75,8 +75,8 @@ part-next-end : tie.Need-part-next-end Inv-loop μ-loop
 part-next-end c = c .before .before .before .line-end .ensures .1
 
 next-requires : tie.Need-next-requires Inv-loop μ-loop
-next-requires c κs = 
-    let f : settled (c .before .before .before .before .before .before .before .before .before .before .listen .result .phase) (c .before .before .before .before .before .before .before .before .before .before .before .before .before .loop .present .size) ≡ true = rw (c .before .before .before .before .before .before .before .before .before .with-phase .ensures) at (sym (c .before .before .before .before .before .before .is-settled .ensures) ∙ c .before .before .before .before .before .if2 .taken) in 
+next-requires c κs =
+    let f : settled (c .before .before .before .before .before .before .before .before .before .before .listen .result .phase) (c .before .before .before .before .before .before .before .before .before .before .before .before .before .loop .present .size) ≡ true = rw (c .before .before .before .before .before .before .before .before .before .with-phase .ensures) at (sym (c .before .before .before .before .before .before .is-settled .ensures) ∙ c .before .before .before .before .before .if2 .taken) in
     let e : c .before .before .before .before .before .before .before .before .before .before .before .before .before .loop .present .ended ≡ false = rw (c .before .before .before .before .before .before .before .before .before .with-phase .ensures) at (c .before .before .before .before .before .before .before .if1 .left) in
     (c .before .before .before .before .before .before .before .before .before .before .before .before .before .before .before .before .before .before .pre .0, rw (c .before .before .before .before .before .before .before .before .before .with-phase .ensures) (going-heeds (c .before .before .before .before .before .before .before .before .before .before .before .before .before .loop .inv) (c .before .before .before .before .before .before .before .before .before .before .listen .ensures) .sound), rw (c .before .before .before .before .before .before .before .before .before .with-phase .ensures) f, c .before .before .before .before .before .before .before .if1 .left, rw (c .before .before .before .before .before .before .before .before .before .with-phase .ensures) (c .before .before .before .before .before .before .before .before .before .before .before .before .before .loop .inv .sound .fair e), rw (c .before .before .before .before .before .before .before .before .before .with-phase .ensures) (omega (arith, c .before .before .before .before .before .before .before .before .before .before .before .before .before .loop .inv .count, c .before .before .before .before .before .before .before .before .before .before .before .before .before .before .before .before .before .before .pre .2)))
 
@@ -96,8 +96,8 @@ same-length-3 : tie.Need-same-length-3 Inv-loop μ-loop
 same-length-3 c = c .before .before .before .before .before .before .before .before .before .loop .inv .size
 
 returns-3 : tie.Need-returns-3 Inv-loop μ-loop
-returns-3 c = 
-    let f : settled (c .before .before .before .before .before .before .listen .result .phase) (c .before .before .before .before .before .before .before .before .before .loop .present .size) ≡ false = rw (c .before .before .before .before .before .with-phase .ensures) at (sym (c .before .before .is-settled .ensures) ∙ c .before .if2 .left) in 
+returns-3 c =
+    let f : settled (c .before .before .before .before .before .before .listen .result .phase) (c .before .before .before .before .before .before .before .before .before .loop .present .size) ≡ false = rw (c .before .before .before .before .before .with-phase .ensures) at (sym (c .before .before .is-settled .ensures) ∙ c .before .if2 .left) in
     rw (c .so-far3 .ensures, c .before .before .before .before .before .with-phase .ensures) (goes (c .before .before .before .before .before .before .before .before .before .loop .inv) (c .before .before .before .before .before .before .listen .ensures) (λ s e. absurd (true→T (sym f ∙ s))))
 
 pub go-spec : {M : Type 1} → statement M
