@@ -215,7 +215,7 @@ fn compare_whole(
 }
 
 // At the header.
-fn begin(core: Core, size: usize) -> Progress
+pub fn begin(core: Core, size: usize) -> Progress
     ensures { λ r. ⌜ r ≡ begun core size ⌝ }
 {
     Progress {
