@@ -344,10 +344,10 @@ pub fn verdict(phase: Phase, n: u64, size: usize, more: bool) -> Compared
     }
     match phase {
         Phase::Matching { at } => {
-            if at == size {
-                return Compared::Same;
+            if at < size {
+                return Compared::Differs { line: n, field: 0 };
             }
-            Compared::Differs { line: n, field: 0 }
+            Compared::Same
         }
         Phase::Judging { field, left, empty } => Compared::Differs { line: n, field: 0 },
         Phase::Found { field } => Compared::Differs {
