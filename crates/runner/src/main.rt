@@ -15,6 +15,8 @@ use listing::tell;
 use machine::Core;
 use machine::Ram;
 use machine_start::fresh;
+use script_part::read_behind;
+use script_part::to_front;
 use text_runner::header;
 use text_runner::refused;
 ghost use mathlib.Core.Path.{_≡_};
@@ -50,27 +52,6 @@ fn refuse_image() {
     let mut out = io::buffer();
     let n = refused(&mut out, 0, 1);
     show(&out, n);
-}
-
-// The characters from a place on, moved to the front.
-fn to_front(part: &mut [u8], from: usize, count: usize)
-    requires { ⌜ from + count ≤ length (now part) ⌝ }
-{
-    let mut i = 0;
-    while i < count {
-        part[i] = part[from + i];
-        i += 1;
-    }
-}
-
-// How many characters more were read behind those that are kept: none at the end of the script.
-fn read_behind(part: &mut [u8], kept: usize) -> usize
-    requires { ⌜ kept ≤ length (now part) ⌝ }
-    ensures { λ r. ⌜ kept + r ≤ length (now (part .entry)) ⌝ }
-{
-    let behind = &mut part[kept..];
-    let got = libc::read(STDIN_FILENO, behind);
-    io::count(got, behind)
 }
 
 // What no LF ends: the last line, if there is one, or the beginning of a line that is too long.
@@ -116,7 +97,7 @@ fn more(
         return over(m);
     }
     to_front(part, from, kept);
-    let n = read_behind(part, kept);
+    let n = read_behind(STDIN_FILENO, part, kept);
     if n == 0 {
         tell_last(d, image, m, ram, &part[..kept], out);
         return over(m);
