@@ -29,8 +29,8 @@ enum-known-phase-3 c = search needs
 returns-3 : tie.Need-returns-3
 returns-3 c =
     λ line rest o e f g.
-      let h = rw (c .before .before .phase .given .1) at (c .before .before .before .before .before .pre .0) in
-      rw (c .before .before .phase .given .1, g (c .before .before .before .before .if1 .left)) (done-at (c .before .before .before .before .before .args .n) o (c .before .before .phase .given .0 .0) (omega (arith, h, c .if2 .left)) [] [])
+    let h = rw (c .before .before .phase .given .1) at (c .before .before .before .before .before .pre .0) in
+    rw (c .before .before .phase .given .1, g (c .before .before .before .before .if1 .left)) (done-at (c .before .before .before .before .before .args .n) o (c .before .before .phase .given .0 .0) (omega (arith, h, c .if2 .left)) [] [])
 
 returns-4 : tie.Need-returns-4
 returns-4 c = λ line rest o e f g. rw (c .before .phase2 .given .1, g (c .before .before .before .if1 .left))
