@@ -27,5 +27,5 @@ answered (Session.goes script more listing theirs g z s) = g .same more theirs z
 answered (Session.refused l e b n) = l .same e _ ∙ (answer-bad _ _ _ _ _ _ b ∙ sym n)
 answered (Session.ends l e b c) = l .same e _ ∙ (answer-left _ _ _ _ _ _ b ∙ concluded c)
 
-pub any-cutting : {d : Device} {image before ours script listing : List ℕ} {size : ℕ} {a : Compared} → Wrote before ours 0 size header → length image ≡ imageSize d → Session d (romOf image) a (begun (freshMachine d .core) size) (freshMachine d .ram) ours script listing → comparedOf d image script listing ≡ a
-any-cutting {d = d} {image = image} {script = script} {listing = listing} w e s = start-answer d w image script listing e ∙ answered s
+pub any-cutting : (d : Device) (image script listing : List ℕ) {before ours : List ℕ} {size : ℕ} {a : Compared} → Wrote before ours 0 size header → length image ≡ imageSize d → Session d (romOf image) a (begun (freshMachine d .core) size) (freshMachine d .ram) ours script listing → comparedOf d image script listing ≡ a
+any-cutting d image script listing w e s = start-answer d w image script listing e ∙ answered s
