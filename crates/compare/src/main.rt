@@ -244,6 +244,20 @@ fn refill(ready: bool, files: Files, script: &mut [u8], listing: &mut [u8], part
     more_listing(files.listing, listing, parts)
 }
 
+// Before anything is read.
+fn no_parts() -> Parts
+    ensures { λ r. ⌜ Within 0 0 r ⌝ }
+{
+    Parts {
+        from: 0,
+        to: 0,
+        at: 0,
+        end: 0,
+        last: false,
+        over: false,
+    }
+}
+
 // A proved loop has to end, and nothing says that a script does: no run uses up the turns.
 fn session(
     d: Device,
@@ -258,14 +272,7 @@ fn session(
     requires { ⌜ (length (now image) ≡ imageSize d) × (Sound d p (now ram) (now ours)) × (length (now script) ≤ 65536) ⌝ }
 {
     let mut present = p;
-    let mut parts = Parts {
-        from: 0,
-        to: 0,
-        at: 0,
-        end: 0,
-        last: false,
-        over: false,
-    };
+    let mut parts = no_parts();
     let mut turns = u64::MAX;
     while turns > 0 {
         if present.line > MOST_LINES {

@@ -111,7 +111,7 @@ pub picked-itself : (t : Bool) → pick t true false ≡ t
 picked-itself true = refl
 picked-itself false = refl
 
-rest-of : (k : ℕ) (part : List ℕ) → take (length part - k) (drop k part) ≡ drop k part
+pub rest-of : (k : ℕ) (part : List ℕ) → take (length part - k) (drop k part) ≡ drop k part
 rest-of k part = take-all (length part - k) (drop k part) (omega (arith, length-drop k part))
 
 -- what is left of a part where it parts from ours

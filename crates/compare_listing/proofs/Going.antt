@@ -5,7 +5,7 @@ use mathlib.Core.List.{List, [], _∷_, _++_}
 use Prim.Native.Nat.{ℕ, suc, _+_, _-_, _<_, _≤_}
 use native.Mathlib.Omega.{arith}
 use lib.ListN.{length, take, drop, length-drop}
-use lib.Seq.{drop-drop, length-take-le, take-all}
+use lib.Seq.{drop-drop, length-take-le}
 use Rattle.laws.specs.Choice.{pick}
 use Rattle.laws.proofs.Computed.{true→T}
 use Rattle.device.specs.declared.Device.{Device}
@@ -18,13 +18,11 @@ use Rattle.compare_lines.specs.Left.{leftOf, settled, Placed, Heeds}
 use Rattle.compare_lines.specs.declared.Compared.{Compared}
 use Rattle.compare_lines.specs.declared.Compared.the-variants.{NotAFrame}
 use Rattle.compare_lines.specs.declared.Heard.{Heard}
+use Rattle.compare_lines.proofs.Hearing.{rest-of}
 use Rattle.compare_listing.specs.Compared.{readsNoFrame}
 use Rattle.compare_listing.specs.Progress.{answerFrom, withPhase, Sound, Nexts, Lasts, Goes}
 use Rattle.compare_listing.specs.declared.Progress.{Progress}
 use Rattle.compare_listing.specs.declared.Gone.{Gone}
-
-pub rest-of : (k : ℕ) (part : List ℕ) → take (length part - k) (drop k part) ≡ drop k part
-rest-of k part = take-all (length part - k) (drop k part) (omega (arith, length-drop k part))
 
 -- so many characters of both are used
 pub record Going (d : Device) (rom : ℕ → ℕ → ℕ) (p : Progress) (ram ours script listing : List ℕ) (last : Bool) (now : Progress) (ram' ours' : List ℕ) (read heard : ℕ) : Type 0 where

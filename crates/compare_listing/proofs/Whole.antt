@@ -27,7 +27,7 @@ use Rattle.compare_listing.specs.Progress.{answerFrom, begun, Sound, Las
 use Rattle.compare_listing.specs.declared.Progress.{Progress}
 use Rattle.compare_listing.specs.declared.Gone.{Gone}
 use Rattle.compare_listing.proofs.OurLines.{header-line}
-use Rattle.compare_listing.proofs.Going.{rest-of}
+use Rattle.compare_lines.proofs.Hearing.{rest-of}
 
 module _ {d : Device} {rom : ℕ → ℕ → ℕ} {p : Progress} {ram ours script listing : List ℕ} {r : Gone} {ram' ours' : List ℕ} (g : Goes d rom p ram ours script listing true r ram' ours') where
   settled-by : (t : Bool) → settled (r .progress .phase) (r .progress .size) ≡ t → settled (r .progress .phase) (r .progress .size) ≡ true

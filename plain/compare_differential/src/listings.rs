@@ -5,7 +5,11 @@ use plain::{fresh, listing_lines, step, Device, Mode, Options, HEADER};
 
 /// One in ten has any bytes, and mostly stops soon; of the others each byte is an instruction that goes on with the next.
 pub fn image(chance: &mut Chance, device: Device) -> Vec<u8> {
-    let size = if chance.one_in(50) { chance.pick(&[0, 1, 8192, 16384, device.image_size() - 1]) } else { device.image_size() };
+    let size = if chance.one_in(50) {
+        chance.pick(&[0, 1, 8192, 16384, device.image_size() - 1])
+    } else {
+        device.image_size()
+    };
     if chance.one_in(10) {
         return chance.bytes(size);
     }
@@ -41,7 +45,8 @@ pub fn script(chance: &mut Chance, device: Device) -> Vec<u8> {
 }
 
 fn frame(chance: &mut Chance, device: Device) -> Vec<u8> {
-    let mut digits: Vec<u8> = (0..device.frame_length()).map(|_| b"0123456789ABCDEF"[chance.nibble() as usize]).collect();
+    let mut digits: Vec<u8> =
+        (0..device.frame_length()).map(|_| b"0123456789ABCDEF"[chance.nibble() as usize]).collect();
     let last = digits.len() - 1;
     digits[last] = chance.pick(b"01");
     digits
@@ -61,7 +66,8 @@ fn bad_line(chance: &mut Chance, device: Device) -> Vec<u8> {
 
 /// Of a script that is refused a header and some lines, since nothing of them counts.
 pub fn listing(chance: &mut Chance, device: Device, image: &[u8], script: &[u8]) -> Vec<u8> {
-    let lines = listing_lines(device, image, script).unwrap_or(vec![format!("{HEADER}\n"), "0001 0 0 0 0 011 1 00\n".into()]);
+    let lines =
+        listing_lines(device, image, script).unwrap_or(vec![format!("{HEADER}\n"), "0001 0 0 0 0 011 1 00\n".into()]);
     let mut lines: Vec<Vec<u8>> = lines.into_iter().map(String::into_bytes).collect();
     for _ in 0..chance.pick(&[0, 1, 1, 1, 2]) {
         change(chance, &mut lines);

@@ -65,7 +65,9 @@ fn main() {
         let count = |kind: &'static str| seen.get(&(device, kind)).copied().unwrap_or(0);
         let counts: Vec<String> = AT_LEAST.iter().map(|(kind, _)| format!("{kind}: {}", count(kind))).collect();
         println!("compare_differential: {device}: {}", counts.join(", "));
-        seldom.extend(AT_LEAST.iter().filter(|(kind, least)| count(kind) < least * factor).map(|(kind, _)| (device, *kind)));
+        seldom.extend(
+            AT_LEAST.iter().filter(|(kind, least)| count(kind) < least * factor).map(|(kind, _)| (device, *kind)),
+        );
     }
     if !seldom.is_empty() {
         println!("compare_differential: seed {seed}: too seldom: {seldom:?}");

@@ -8,7 +8,7 @@ use lib.ListN.{length}
 use lib.Seq.{length-take-le}
 use Rattle.laws.proofs.Computed.{true→T}
 use Rattle.compare_lines.specs.Left.{Placed}
-use Rattle.compare.proofs.Lengths.{part-length}
+use Rattle.script_part.proofs.Lengths.{part-length}
 use Rattle.compare.proofs.rest_of_listing.Statement.{statement}
 use Rattle.compare.proofs.rest_of_listing.Tie as tie
 

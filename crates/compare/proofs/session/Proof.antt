@@ -16,8 +16,11 @@ abbrev μ-loop : tie.MeasureT-loop
 μ-loop d image ram₀ ours₀ files script₀ listing₀ present₀ parts₀ turns₀ ram ours script listing present parts turns =
     turns
 
+no-parts-requires : tie.Need-no-parts-requires Inv-loop μ-loop
+no-parts-requires c κs = search needs
+
 loop-holds : tie.Need-loop-holds Inv-loop μ-loop
-loop-holds c = (c .before .before .before .before .pre .1, record { from = omega arith; to = omega arith; at = omega arith; end = omega arith }, refl, refl, refl)
+loop-holds c = (c .before .before .before .before .before .pre .1, record { from = c .no-parts .ensures .from; to = omega (arith, c .no-parts .ensures .to); at = c .no-parts .ensures .at; end = omega (arith, c .no-parts .ensures .end) }, refl, refl, refl)
 
 same-length : tie.Need-same-length Inv-loop μ-loop
 same-length c = c .before .before .before .loop .inv .4
@@ -32,7 +35,7 @@ returns : tie.Need-returns Inv-loop μ-loop
 returns c = tt
 
 turn-requires : tie.Need-turn-requires Inv-loop μ-loop
-turn-requires c κs = (c .before .before .before .before .before .before .before .before .before .before .before .before .pre .0, c .before .before .before .before .before .before .before .loop .inv .0, c .before .before .before .before .before .before .before .loop .inv .1, c .before .before .before .before .if1 .left, omega (arith, c .before .before .before .before .before .before .before .loop .inv .2, c .before .before .before .before .before .before .before .before .before .before .before .before .pre .2))
+turn-requires c κs = (c .before .before .before .before .before .before .before .before .before .before .before .before .before .pre .0, c .before .before .before .before .before .before .before .loop .inv .0, c .before .before .before .before .before .before .before .loop .inv .1, c .before .before .before .before .if1 .left, omega (arith, c .before .before .before .before .before .before .before .loop .inv .2, c .before .before .before .before .before .before .before .before .before .before .before .before .before .pre .2))
 
 is-settled-requires : tie.Need-is-settled-requires Inv-loop μ-loop
 is-settled-requires c κs = search needs
@@ -41,7 +44,7 @@ is-over-requires : tie.Need-is-over-requires Inv-loop μ-loop
 is-over-requires c κs = c .before .before .before .before .before .before .turn .ensures .within .from
 
 conclude-requires : tie.Need-conclude-requires Inv-loop μ-loop
-conclude-requires c κs = (c .before .before .before .before .before .before .before .before .before .before .before .before .before .before .before .before .before .before .before .before .before .before .before .before .before .before .pre .0, c .before .before .before .before .before .before .before .before .before .before .before .before .before .turn .ensures .sound, sym (c .before .before .before .before .before .before .before .before .is-settled .ensures) ∙ c .before .before .before .before .before .before .before .if2 .taken, c .before .before .before .before .before .before .before .before .before .before .before .before .before .turn .ensures .line, c .before .before .before .before .before .before .before .before .before .before .before .before .before .turn .ensures .within, omega (arith, c .before .before .before .before .before .before .before .before .before .before .before .before .before .before .before .before .before .before .before .before .before .loop .inv .2, c .before .before .before .before .before .before .before .before .before .before .before .before .before .before .before .before .before .before .before .before .before .before .before .before .before .before .pre .2))
+conclude-requires c κs = (c .before .before .before .before .before .before .before .before .before .before .before .before .before .before .before .before .before .before .before .before .before .before .before .before .before .before .before .pre .0, c .before .before .before .before .before .before .before .before .before .before .before .before .before .turn .ensures .sound, sym (c .before .before .before .before .before .before .before .before .is-settled .ensures) ∙ c .before .before .before .before .before .before .before .if2 .taken, c .before .before .before .before .before .before .before .before .before .before .before .before .before .turn .ensures .line, c .before .before .before .before .before .before .before .before .before .before .before .before .before .turn .ensures .within, omega (arith, c .before .before .before .before .before .before .before .before .before .before .before .before .before .before .before .before .before .before .before .before .before .loop .inv .2, c .before .before .before .before .before .before .before .before .before .before .before .before .before .before .before .before .before .before .before .before .before .before .before .before .before .before .before .pre .2))
 
 same-length-4 : tie.Need-same-length-4 Inv-loop μ-loop
 same-length-4 c = omega (arith, c .before .before .before .ours2 .given, c .before .before .before .before .before .before .before .before .before .before .before .before .before .before .before .before .before .before .turn .ensures .size, c .before .before .before .before .before .before .before .before .before .before .before .before .before .before .before .before .before .before .before .before .before .before .before .before .before .before .loop .inv .4)
@@ -85,6 +88,7 @@ session-spec =
     (tie.spec
     Inv-loop
     μ-loop
+    no-parts-requires
     loop-holds
     same-length
     same-length-2
