@@ -1,10 +1,8 @@
 //! `plain-runner [--device NAME] IMAGE < SCRIPT`: document 01's listing of a run, a step a line.
 
-use plain::{fresh, numbers, step, Device, Machine, Options};
+use plain::{fresh, numbers, step, step_line, Device, Options, HEADER};
 use std::fs::File;
 use std::io::{self, BufRead, BufReader, BufWriter, Read, Write};
-
-const HEADER: &str = "PC A H L S CZS C X";
 
 const USAGE: &str = "usage: plain-runner [--device NAME] IMAGE < SCRIPT";
 
@@ -35,7 +33,7 @@ fn list_run(device: Device, image_name: Option<&String>) -> io::Result<()> {
         match step(&image, options, &machine, &line) {
             Ok(stepped) => {
                 machine = stepped.machine;
-                write_step(&mut output, &machine, stepped.cycles, stepped.stop)?;
+                writeln!(output, "{}", step_line(&machine, stepped.cycles, stepped.stop))?;
                 if stepped.stop != numbers::NONE {
                     break;
                 }
@@ -76,12 +74,4 @@ fn next_line(
         line.pop();
     }
     Ok(Some(line))
-}
-
-fn write_step(output: &mut impl Write, m: &Machine, cycles: u32, stop: u8) -> io::Result<()> {
-    writeln!(
-        output,
-        "{:04X} {:X} {:X} {:X} {:X} {}{}{} {} {:02}",
-        m.pc, m.acc, m.hr, m.lr, m.sp, m.cf as u8, m.zf as u8, m.sf as u8, cycles, stop
-    )
 }

@@ -3,7 +3,7 @@ use mathlib.Core.Path.{sym}
 use native.Mathlib.Omega.{arith}
 use denote.Ref.{now}
 use Rattle.laws.proofs.Computed.{true→T}
-use Rattle.runner.proofs.Lengths.{goes-on, goes-on-fits}
+use Rattle.file_part.proofs.Lengths.{goes-on, goes-on-fits}
 use borrow.Author.Needs.{needs}
 use Rattle.runner.proofs.turn.Statement.{statement}
 use Rattle.runner.proofs.turn.Tie as tie
@@ -29,7 +29,7 @@ add-next c =
     let pre = c .before .before .before .before .before .before .before .before .before .before .before .before .before .before .pre in
     let good = c .before .before .before .before .before .before .before .before .before .before .before .before .before .before .good in
     let feed = c .before .before .before .before .before .before .feed in
-    record { fits = goes-on-fits (now (args .part)) (args .from) (args .to) _ (pre .3) (pre .4) (feed .ensures .used) (good .1 .1 .1 .1 .0 .0) }
+    record { fits = goes-on-fits (now (args .part)) (args .from) (args .to) (pre .3) (pre .4) _ (feed .ensures .used) (good .1 .1 .1 .1 .0 .0) }
 
 same-length : tie.Need-same-length
 same-length c = search needs
@@ -42,7 +42,7 @@ returns c =
     let args = c .before .before .before .before .before .before .before .before .before .before .before .before .before .before .before .args in
     let pre = c .before .before .before .before .before .before .before .before .before .before .before .before .before .before .before .pre in
     let feed = c .before .before .before .before .before .before .before .feed in
-    (λ e. absurd (true→T (sym e)), goes-on (now (args .part)) (args .from) (args .to) _ (pre .3) (pre .4) (feed .ensures .used), pre .4)
+    (λ e. absurd (true→T (sym e)), goes-on (now (args .part)) (args .from) (args .to) (pre .3) (pre .4) _ (feed .ensures .used), pre .4)
 
 more-requires : tie.Need-more-requires
 more-requires c κs = (c .before .before .before .before .before .before .before .before .before .before .before .before .before .before .before .before .before .before .before .pre .0, c .before .before .before .before .before .before .before .before .before .before .before .feed .ensures .valid .core, c .before .before .before .before .before .before .before .before .before .before .before .feed .ensures .valid .ram, c .before .before .before .before .before .before .before .before .before .before .before .before .before .before .before .before .before .before .before .pre .3, c .before .before .before .before .before .before .before .before .before .before .before .before .before .before .before .before .before .before .before .pre .4, omega (arith, c .before .before .before .before .before .before .before .before .before .before .before .feed .ensures .wrote .size, c .before .before .before .before .before .before .before .before .before .before .before .before .before .before .before .before .before .before .before .pre .5))
@@ -67,7 +67,7 @@ returns-3 c =
     let args = c .before .before .before .before .before .before .before .before .before .before .before .before .before .before .before .before .args in
     let pre = c .before .before .before .before .before .before .before .before .before .before .before .before .before .before .before .before .pre in
     let feed = c .before .before .before .before .before .before .before .before .feed in
-    (λ e. (feed .ensures .valid .core, feed .ensures .valid .ram), goes-on (now (args .part)) (args .from) (args .to) _ (pre .3) (pre .4) (feed .ensures .used), pre .4)
+    (λ e. (feed .ensures .valid .core, feed .ensures .valid .ram), goes-on (now (args .part)) (args .from) (args .to) (pre .3) (pre .4) _ (feed .ensures .used), pre .4)
 
 pub turn-spec : {M : Type 1} → statement M
 turn-spec =

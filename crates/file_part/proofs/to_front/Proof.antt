@@ -1,10 +1,10 @@
--- `script_input::to_front` is safe and ends.
+-- `file_part::to_front` is safe and ends.
 use mathlib.Core.Path.{_≡_, refl}
 use Prim.Native.Nat.{_-_}
 use native.Mathlib.Omega.{arith}
 use lib.ListN.{length, length-set}
-use Rattle.script_input.proofs.to_front.Statement.{statement}
-use Rattle.script_input.proofs.to_front.Tie as tie
+use Rattle.file_part.proofs.to_front.Statement.{statement}
+use Rattle.file_part.proofs.to_front.Tie as tie
 
 abbrev Inv-loop : tie.InvT-loop
 Inv-loop part₀ from count i₀ part i = length part ≡ length part₀

@@ -1,0 +1,6 @@
+pub mod Cutting
+pub mod Spacing
+pub mod Parting
+pub mod Hearing
+pub mod Ending
+pub mod Naming
