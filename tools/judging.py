@@ -32,7 +32,7 @@ def example(folder, name, archives):
 
     Where cc cannot link x86-64 code it compiles the program with warnings as errors, and tools/build-server links what is run."""
     for archive in archives:
-        compare('rt staticlib ' + archive, 0, run(['rt', 'staticlib', archive])[0])
+        compare('tools/archive ' + archive, 0, run(['tools/archive', archive])[0])
     made = os.path.join(folder, name)
     native = platform.machine() == 'x86_64'
     if shutil.which('cc'):
