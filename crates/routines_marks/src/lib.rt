@@ -53,7 +53,7 @@ fn settle(kind: &[u8], next: &[u16], other: &[u16], entry: &[u16], m: &mut [u8],
     1
 }
 
-// Settles the places of the queue, the last first. Returns how many were marked.
+// Settles the places of the queue. Returns how many were marked.
 fn sweep(
     kind: &[u8],
     next: &[u16],

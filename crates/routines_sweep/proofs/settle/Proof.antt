@@ -1,4 +1,4 @@
--- `calling_sweep::settle` meets its contract.
+-- `routines_sweep::settle` meets its contract.
 use native.Mathlib.Omega.{arith}
 use Rattle.graph.specs.Laid.{graphOf}
 use Rattle.graph_search.proofs.Zeros.{wide16}

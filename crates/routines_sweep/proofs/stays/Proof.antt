@@ -1,4 +1,4 @@
--- `calling_sweep::stays` meets its contract.
+-- `routines_sweep::stays` meets its contract.
 use mathlib.Core.Path.{refl, sym}
 use mathlib.Core.Logic.{inl, inr}
 use Rattle.routines_route.proofs.Moves.{never}
