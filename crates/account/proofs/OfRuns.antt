@@ -1,9 +1,9 @@
 -- The accounts of what the call run answers: a run that is not refused is the sequence of its steps.
-use mathlib.Core.Path.{_≡_, refl, sym, ap, subst, _∙_}
+use mathlib.Core.Path.{_≡_, refl, ap, _∙_}
 use mathlib.Core.Bool.{Bool, true, false}
 use mathlib.Core.List.{List, [], _∷_}
 use mathlib.Core.Logic.{_⊎_, inl, inr}
-use Prim.Native.Nat.{ℕ, zero, suc, _+_, _*_, _%_, _<_}
+use Prim.Native.Nat.{ℕ, suc, _+_, _*_, _%_, _<_}
 use native.Mathlib.Decide.{decLt, ℕ-discrete}
 use native.Mathlib.Omega.{arith}
 use lib.Dec.{eqb}
@@ -14,8 +14,7 @@ use Rattle.device.specs.Device.{imageSize, frameSize, romOf}
 use Rattle.device.specs.declared.Options.{Options}
 use Rattle.frame.specs.Frame.{areFrames, framesOf}
 use Rattle.frame.specs.declared.Pins.{Pins}
-use Rattle.machine.specs.Valid.{ValidTimers, Valid}
-use Rattle.machine.specs.declared.Timers.{Timers}
+use Rattle.machine.specs.Valid.{Valid}
 use Rattle.machine.specs.declared.Machine.{Machine}
 use Rattle.machine_valid.proofs.Validity.{valid?}
 use Rattle.row.specs.Rows.{Done}

@@ -1,18 +1,16 @@
 -- One step: what it makes of the time base and of a timer's count, by the cycles it spends.
 use mathlib.Core.Path.{_≡_, refl, sym, subst, ap, _∙_}
 use mathlib.Core.Bool.{Bool, true, false}
-use Prim.Native.Nat.{ℕ, zero, suc, _+_, _*_, _/_, _%_, _^_, _<_, _≤_}
-use native.Mathlib.Nat.{mod-lt}
+use Prim.Native.Nat.{ℕ, zero, suc, _+_, _*_, _/_, _%_, _^_, _<_}
 use native.Mathlib.Omega.{arith}
 use lib.Dec.{T, eqb, ltb}
 use borrow.Author.Tests.{eqb-true, eqb-false}
-use Rattle.laws.specs.Choice.{pick, both}
+use Rattle.laws.specs.Choice.{pick}
 use Rattle.laws.proofs.Choices.{picked}
 use Rattle.bits.specs.Bits.{bitOf}
 use Rattle.edges.specs.Edges.{wakes}
 use Rattle.frame.specs.declared.Pins.{Pins}
-use Rattle.device.specs.declared.Options.{Options}
-use Rattle.clock.specs.Clock.{isMultiple, timerExponent, counts, passes, counted, count, gained, met, tick, passed, eventCount}
+use Rattle.clock.specs.Clock.{isMultiple, counts, passes, counted, count, gained, met, tick, passed, eventCount}
 use Rattle.clock.specs.declared.Time.{Time}
 use Rattle.clock.specs.declared.Rates.{Rates}
 use Rattle.clock.proofs.Quiet.{passed-base}
@@ -27,10 +25,9 @@ use Rattle.step_look.specs.Look.{timeOf, isRunning, edgesTimed, edgesCounted, r
 use Rattle.step_look.specs.declared.Looked.{Looked}
 use Rattle.step_look.proofs.LookValid.{running-is}
 use Rattle.step_act.specs.Act.{sourceOf, acceptOrRun, ratesOf, timed, coreIn, coreAfter, afterTime, actOf}
-use Rattle.step.specs.Step.{lookStep, stepOf}
 use Rattle.step.proofs.Stepping.{sighted, look-runs, step-runs, step-waits}
 use Rattle.account.specs.Sequence.{StepInput, stepBy, KeepsMode}
-use Rattle.account.specs.Account.{Timer, countOf, settingOf, multiplesMet, periodOf, Executes, CountsOn}
+use Rattle.account.specs.Account.{Timer, countOf, settingOf, multiplesMet, periodOf, CountsOn}
 use Rattle.account.proofs.Turns.{turn-base, turn-count}
 
 -- a timer's count, setting and pin among those of the clock
@@ -101,9 +98,6 @@ after-mode Mode.Hold n c = refl
 still-timed : (n : ℕ) (c : Core) → c .mode ≡ Running → coreAfter n c ≡ timed n c
 unfolding coreAfter
 still-timed n c e = rw e
-
-after-ports : (n : ℕ) (c : Core) → c .mode ≡ Running → coreAfter n c .ports ≡ c .ports
-after-ports n c e = ap (λ (k : Core). k .ports) (still-timed n c e)
 
 -- the timers of a record among those of the clock
 in-time : (t : Timer) (c : Core) → countIn t (timeOf c) ≡ countOf t (c .timers)

@@ -5,10 +5,10 @@ use mathlib.Core.List.{List}
 use Prim.Native.Nat.{ℕ, _%_}
 use lib.Dec.{T, ltb, eqb}
 use Rattle.laws.specs.Choice.{pick}
-use Rattle.laws.proofs.Choices.{picked, picked-by}
+use Rattle.laws.proofs.Choices.{picked}
 use Rattle.numbers.specs.ComesBack.{stack-level}
 use Rattle.device.specs.declared.Options.{Options}
-use Rattle.sheet.specs.Operation.{Place, Port, Pointer, Step, After, Operation}
+use Rattle.sheet.specs.Operation.{Place, Pointer, Step, After, Operation}
 use Rattle.sheet.specs.Flow.{callEntry}
 use Rattle.sheet.specs.Reading.{readAt}
 use Rattle.sheet.specs.Table.{Line, lineAt}
@@ -21,9 +21,8 @@ use Rattle.machine.specs.Stack.{canPush, canPop, moved, called, popped, accepte
 use Rattle.machine.specs.declared.Registers.{Registers}
 use Rattle.machine.specs.declared.Interrupts.{Interrupts}
 use Rattle.machine.specs.declared.Machine.{Machine}
-use Rattle.row.specs.Places.{Around, portOf, portWritten, putOf}
+use Rattle.row.specs.Places.{Around, portOf, putOf}
 use Rattle.row.specs.Rows.{Done, spent, stops, workOf, branchOf, callOf, latchesOf, performed, pcPast}
-use Rattle.row.specs.Columns.{workPuts}
 use Rattle.row.proofs.Keeps.{work-holds, work-keeps-but, Any, any-in, any-after}
 use Rattle.step_look.specs.Look.{isRunning}
 use Rattle.step_act.specs.Act.{sourceOf, acceptOf, runRead, shown, runOne, acceptOrRun}

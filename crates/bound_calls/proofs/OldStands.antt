@@ -2,7 +2,6 @@
 use mathlib.Core.Path.{_≡_, refl, sym, ap, subst, _∙_}
 use mathlib.Core.Logic.{_⊎_, inl, inr, ⊎-elim}
 use mathlib.Core.Bool.{Bool, true, false, not}
-use mathlib.Core.List.{List}
 use Prim.Native.Nat.{ℕ, _<_, _≤_}
 use native.Mathlib.Decide.{ℕ-discrete}
 use native.Mathlib.Omega.{arith}
@@ -16,17 +15,16 @@ use Rattle.sheet.specs.Reading.{readAt}
 use Rattle.sheet.specs.declared.Insn.{Insn}
 use Rattle.sheet.specs.declared.Read.{Read}
 use Rattle.row.specs.Columns.{workPuts}
-use Rattle.graph.specs.Graph.{Graph, GoesOn, Excluded, Reach, here, Bad, Loops, Least, sum}
+use Rattle.graph.specs.Graph.{Graph, Reach, here, sum}
 use Rattle.graph.proofs.Agree.{Agree, agree-sym, reach-to, bad-to, loops-to, longest-to, sound-to, sum-same}
 use Rattle.graph.proofs.Unique.{longest-path}
-use Rattle.routines.specs.Calling.{Flow, outer, within, after, IsBad, IsLoop}
+use Rattle.routines.specs.Calling.{Flow, outer, within}
 use Rattle.routines.specs.Answer as routines
 use Rattle.routines.specs.Answer.{LowestAddress}
 use Rattle.routines.proofs.Base.{NoCalls, bad-base, loop-base, base-bad, base-loop, judged-any, new-answer}
 use Rattle.bound_flow.specs.Flow.{place, addressOf, isKnown, Way, wayBy, nodeBy, nodeRead, nodeOf, flowGraph, flowCost, startOf}
-use Rattle.bound_flow.specs.Bound.{HasBound}
 use Rattle.bound_flow.specs.declared.Node.{Node}
-use Rattle.bound_calls.specs.CallFlow.{isSp, CallWay, callWayBy, CallNode, callNodeBy, noNode, callNodeRead, callNodeOf, callFlow, callCycles}
+use Rattle.bound_calls.specs.CallFlow.{isSp, CallWay, callWayBy, CallNode, callNodeBy, callNodeRead, callNodeOf, callFlow, callCycles}
 use Rattle.bound_calls.specs.OldAnswer.{isPlain, Plain, Stands, OldAnswerStands}
 use Rattle.bound_calls.proofs.Shape.{few-kinds, flow-small, flow-widens}
 
@@ -114,10 +112,6 @@ module _ (d : Device) (rom : ℕ → ℕ) (start : ℕ) (K : ℕ → Bool) (plai
   lowest-to : {P Q : ℕ → Type 0} → ((v : ℕ) → P v → Q v) → ((v : ℕ) → Q v → P v) → (a : ℕ) → LowestAddress addressOf P a → LowestAddress addressOf Q a
   lowest-to to back a l =
       record { holds = (l .holds .0, to (l .holds .0) (l .holds .1), l .holds .2); least = λ b q. l .least b (q .0, back (q .0) (q .1), q .2) }
-
-  start-is : flow .start ≡ startOf start
-  unfolding callFlow
-  start-is = refl
 
   module _ (bytes : (at : ℕ) → rom at < 256) (start-lt : start < 8192) where
     stands : Stands d rom start K

@@ -1,12 +1,12 @@
 -- The flow rules with calls are finite, and to know SF only takes ways away.
-use mathlib.Core.Path.{_≡_, refl, sym, ap, _∙_}
+use mathlib.Core.Path.{_≡_, refl, ap}
 use mathlib.Core.Logic.{_⊎_, inl, inr, ⊎-elim}
 use mathlib.Core.Bool.{Bool, true, false}
-use Prim.Native.Nat.{ℕ, _+_, _*_, _/_, _%_, _<_, _≤_}
+use Prim.Native.Nat.{ℕ, _+_, _*_, _%_, _<_, _≤_}
 use native.Mathlib.Decide.{ℕ-discrete}
 use native.Mathlib.Omega.{arith}
 use borrow.Author.Tests.{eq-eqb, ne-eqb}
-use lib.Dec.{T, leb, leb→le, le→leb, eqb}
+use lib.Dec.{T, leb, leb→le, eqb}
 use Rattle.laws.specs.Choice.{pick, both}
 use Rattle.laws.proofs.Computed.{at, both-left, both-right}
 use Rattle.device.specs.declared.Device.{Device}
@@ -22,10 +22,10 @@ use Rattle.row.specs.Columns.{workPuts}
 use Rattle.row.proofs.RowsValid.{fitsOperation, line-fits}
 use Rattle.routines.specs.Calling.{Flow}
 use Rattle.routines.specs.Shape.{Small, Narrower, Widens}
-use Rattle.bound_flow.specs.Flow.{place, addressOf, isKnown, Way, wayBy, nodeBy, startOf}
+use Rattle.bound_flow.specs.Flow.{place, addressOf, isKnown, Way, wayBy, nodeBy}
 use Rattle.bound_flow.specs.declared.Node.{Node}
-use Rattle.bound_flow.proofs.Inside.{Good, cycles-of, excluded-good, way-good, place-lt, nowhere-good}
-use Rattle.bound_calls.specs.CallFlow.{isSp, CallWay, callWayBy, CallNode, callNodeBy, noNode, callNodeRead, callNodeOf, callFlow, callCycles}
+use Rattle.bound_flow.proofs.Inside.{Good, cycles-of, way-good, place-lt, nowhere-good}
+use Rattle.bound_calls.specs.CallFlow.{isSp, CallWay, callWayBy, CallNode, callNodeBy, noNode, callNodeRead, callNodeOf, callFlow}
 
 -- a call's entry is below 0800h: LCALL has 11 address bits, and SCALL goes to 8n + 6 or 86h
 abbrev entersLow : ℕ → Operation → Bool

@@ -10,7 +10,7 @@ use Rattle.sheet.specs.Table.{lineAt}
 use Rattle.sheet.specs.declared.Insn.{Insn}
 use Rattle.sheet.specs.declared.Read.{Read}
 use Rattle.row.specs.Columns.{workPuts}
-use Rattle.graph.specs.Graph.{Reach, Bad, Loops, sum}
+use Rattle.graph.specs.Graph.{Reach, Bad, Loops}
 use Rattle.routines.specs.Calling.{IsBad, IsLoop}
 use Rattle.routines.specs.Answer as routines
 use Rattle.routines.specs.Answer.{LowestAddress, Judged}

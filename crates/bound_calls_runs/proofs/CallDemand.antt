@@ -1,8 +1,8 @@
 -- Demand 3 of handlers that call: the theory of routines, for the emulated machine.
-use mathlib.Core.Path.{_≡_, refl, sym, ap, subst, _∙_}
+use mathlib.Core.Path.{_≡_, refl, sym, ap, _∙_}
 use mathlib.Core.Bool.{true, false}
 use mathlib.Core.List.{List, [], _∷_, _++_}
-use Prim.Native.Nat.{ℕ, suc, _+_, _≤_, _<_}
+use Prim.Native.Nat.{ℕ, suc, _+_, _<_}
 use native.Mathlib.Omega.{arith}
 use lib.ListN.{length}
 use Rattle.device.specs.declared.Device.{Device}
@@ -16,11 +16,11 @@ use Rattle.routines_runs.specs.Runs as runs
 use Rattle.routines_runs.specs.Runs.{Standard}
 use Rattle.routines_runs.proofs.Ending.{runs-end}
 use Rattle.bound_flow.specs.Flow.{addressOf, isKnown, startOf}
-use Rattle.bound_runs.specs.Handler.{Enters, Ends, EndsWithin, AllInRange}
+use Rattle.bound_runs.specs.Handler.{Enters, Ends, AllInRange}
 use Rattle.bound_runs.proofs.Standing.{address-place}
 use Rattle.bound_calls.specs.CallFlow.{callNodeOf, callFlow, callCycles}
 use Rattle.bound_calls.proofs.Shape.{call-node-good, flow-small, flow-widens, AfterCall, after-call, unknown-of}
-use Rattle.bound_calls_runs.specs.CallHandler.{LevelsKept, SparesStack, Demand3WithCalls}
+use Rattle.bound_calls_runs.specs.CallHandler.{SparesStack, Demand3WithCalls}
 use Rattle.bound_calls_runs.proofs.Levels.{kept-level}
 use Rattle.bound_calls_runs.proofs.CallSteps.{Shown, emulated, At, one-step}
 

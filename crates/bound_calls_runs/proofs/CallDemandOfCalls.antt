@@ -8,7 +8,6 @@ use lib.ListN.{length, getD}
 use Rattle.numbers.specs.ComesBack.{Paper, answered}
 use Rattle.device.specs.Device.{imageSize, romOf}
 use Rattle.device.specs.declared.Device.{Device}
-use Rattle.device.specs.declared.Options.{Options}
 use Rattle.frame.specs.Frame.{framesOf}
 use Rattle.routines.specs.Answer.{Found, Judged, HasBound, PathAnswer, FlowAnswer, Answer}
 use Rattle.bound_flow.specs.Flow.{addressOf}

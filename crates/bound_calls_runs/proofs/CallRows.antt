@@ -1,14 +1,12 @@
 -- A row that is not excluded follows the flow rules with calls: as document 01's rules say, or it calls, or it returns from a call.
-use mathlib.Core.Path.{_≡_, refl, sym, ap, subst, _∙_}
-use mathlib.Core.Logic.{_⊎_, inl, inr}
+use mathlib.Core.Path.{_≡_, refl, sym, subst, _∙_}
+use mathlib.Core.Logic.{_⊎_}
 use mathlib.Core.Bool.{Bool, true, false}
-use Prim.Native.Nat.{ℕ, suc, _+_, _-_, _/_, _%_, _<_, _≤_}
+use Prim.Native.Nat.{ℕ, suc, _-_, _<_, _≤_}
 use native.Mathlib.Omega.{arith}
 use lib.Dec.{T}
-use borrow.Author.Tests.{leb-true}
 use Rattle.laws.specs.Choice.{pick}
-use Rattle.laws.proofs.Computed.{true→T}
-use Rattle.sheet.specs.Operation.{Step, After, Target, Entry, Enable, Operation}
+use Rattle.sheet.specs.Operation.{Step, After, Entry, Operation}
 use Rattle.sheet.specs.Operation.Operation.{return-FLAG}
 use Rattle.sheet.specs.Table.{Line}
 use Rattle.sheet.specs.Flow.{callEntry}

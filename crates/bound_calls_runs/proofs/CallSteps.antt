@@ -1,13 +1,9 @@
 -- A step from a record that stands at a place that is not excluded follows the flow rules with calls: the one lemma that the theory of routines asks of a machine.
-use mathlib.Core.Path.{_≡_, refl, sym, ap, subst, _∙_}
-use mathlib.Core.Logic.{_⊎_, inl, inr}
-use mathlib.Core.Bool.{Bool, true, false}
-use mathlib.Core.List.{List}
+use mathlib.Core.Path.{_≡_, refl, sym, ap, _∙_}
 use Prim.Native.Nat.{ℕ, suc, _≤_, _<_}
 use native.Mathlib.Omega.{arith}
 use Rattle.device.specs.declared.Device.{Device}
 use Rattle.device.specs.declared.Options.{Options}
-use Rattle.sheet.specs.Operation.{Operation}
 use Rattle.sheet.specs.Table.{lineAt}
 use Rattle.sheet.specs.Fields.{fieldA}
 use Rattle.sheet.specs.Reading.{readAt}
@@ -32,7 +28,7 @@ use Rattle.bound_flow.specs.Flow.{addressOf, isKnown}
 use Rattle.bound_runs.specs.Handler.{Returns, Ends}
 use Rattle.bound_runs.proofs.Lines.{line-branches}
 use Rattle.bound_runs.proofs.Standing.{Standing, stands-after}
-use Rattle.bound_runs.proofs.Steps.{looking, around, row-is, stop-is}
+use Rattle.bound_runs.proofs.Steps.{looking, around, row-is}
 use Rattle.bound_calls.specs.CallFlow.{CallNode, callNodeRow, callNodeRead, callNodeOf, callFlow, callCycles}
 use Rattle.bound_calls_runs.specs.CallHandler.{ExecutesCall}
 use Rattle.bound_calls_runs.proofs.CallRows.{CallRowFollows, stops, ends, goes-on, calls, comes-back, call-row-follows}

@@ -1,6 +1,6 @@
 -- "any row storing to SP" is excluded: another leaves SP.
 use mathlib.Core.Path.{_≡_, refl, subst, _∙_}
-use mathlib.Core.Bool.{true, false}
+use mathlib.Core.Bool.{false}
 use Prim.Native.Nat.{ℕ}
 use lib.Dec.{T}
 use Rattle.sheet.specs.Operation.{Place, Pointer, Step, After}

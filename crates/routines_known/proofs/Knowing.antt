@@ -3,11 +3,9 @@ use mathlib.Core.Path.{_≡_, refl, sym, ap, subst, _∙_}
 use mathlib.Core.Logic.{_⊎_, inl, inr, ⊎-elim}
 use mathlib.Core.Bool.{Bool, true, false, not}
 use Prim.Native.Nat.{ℕ}
-use native.Mathlib.Omega.{arith}
 use lib.Dec.{T}
-use Rattle.laws.specs.Choice.{pick}
 use Rattle.graph.specs.Graph.{Edge, Reach, here, step}
-use Rattle.routines.specs.Calling.{Flow, Routine, outer, called, startIn, after, within, In, Live, handler, call, ReturnsKnown, Knows}
+use Rattle.routines.specs.Calling.{Flow, Routine, called, startIn, after, within, In, Live, handler, call, ReturnsKnown, Knows}
 use Rattle.routines.specs.Shape.{Narrower, Widens}
 use Rattle.routines.proofs.Within.{edge-on, edge-call, edge-cases}
 use Rattle.routines_known.specs.Losing.{Loses, returns, by-next, by-other, past-known, past-unknown, Region, Marks, knownBy, KnownAfter}

@@ -1,12 +1,12 @@
 -- Marking a place that loses SF by the marks keeps them right, whatever the order.
-use mathlib.Core.Path.{_≡_, refl, ap, _∙_}
+use mathlib.Core.Path.{_≡_, refl, _∙_}
 use mathlib.Core.List.{List}
-use Prim.Native.Nat.{ℕ, zero, suc, _+_, _*_, _%_, _≤_, _<_}
+use Prim.Native.Nat.{ℕ, zero, _+_, _*_, _%_, _≤_, _<_}
 use native.Mathlib.Omega.{arith}
-use native.Mathlib.Decide.{ℕ-discrete, decLt}
+use native.Mathlib.Decide.{ℕ-discrete}
 use lib.ListN.{length, getD, set}
 use borrow.Author.Tests.{ne-eqb}
-use Rattle.graph_search.specs.Marks.{Marked, Blank, zeros}
+use Rattle.graph_search.specs.Marks.{Blank, zeros}
 use Rattle.graph_search.proofs.Zeros.{zeros-set, cases-set}
 use Rattle.routines.specs.Calling.{Flow}
 use Rattle.routines_known.specs.Losing as losing
