@@ -4,19 +4,12 @@ use mathlib.Core.List.{List, [], _∷_}
 use Prim.Native.Nat.{ℕ, _≤_, _<_}
 use lib.ListN.{length}
 use Rattle.numbers.specs.Sizes.{lastAddress}
-use Rattle.numbers.specs.ComesBack.{Paper, answered, refused, refusedWith, image-of-another-size, record-outside-the-ranges, address-over-8191, excluded-instruction-reachable, repetition-reachable, path-buffer-too-short}
+use Rattle.numbers.specs.ComesBack.{Paper, answered, refused, refusedWith, image-of-another-size, record-outside-the-ranges, address-over-8191, excluded-instruction-reachable, repetition-reachable, path-buffer-too-short, recursion-reachable, bound-over-65535}
 use Rattle.device.specs.Device.{imageSize, romOf, Banked}
 use Rattle.device.specs.declared.Device.{Device}
 use Rattle.routines.specs.Answer.{Found, recursion, excluded, repetition, short, too-large, bounds, Kept, Answer}
 use Rattle.bound_flow.specs.Flow.{addressOf}
 use Rattle.bound_calls.specs.CallFlow.{callFlow, callCycles}
-
--- "Refusals: 24 recursion, lowest entry address, before 21 ..; 25 N over 65,535, between 22 and 23."
-abbrev pub recursion-reachable : ℕ
-recursion-reachable = 24
-
-abbrev pub bound-over-65535 : ℕ
-bound-over-65535 = 25
 
 -- the paper's number and values for each case; "The answer adds the greatest depth of calls"
 abbrev pub paperOfFound : Found → Paper

@@ -54,6 +54,13 @@ repetition-reachable = 22
 abbrev pub path-buffer-too-short : ℕ
 path-buffer-too-short = 23
 
+-- Q-9: "24 recursion", "25 N over 65,535"
+abbrev pub recursion-reachable : ℕ
+recursion-reachable = 24
+
+abbrev pub bound-over-65535 : ℕ
+bound-over-65535 = 25
+
 abbrev pub unassigned-code : ℕ
 unassigned-code = 30
 

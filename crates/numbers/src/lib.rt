@@ -33,6 +33,10 @@ pub const REPETITION_REACHABLE: u8 = 22;
 
 pub const PATH_BUFFER_TOO_SHORT: u8 = 23;
 
+pub const RECURSION_REACHABLE: u8 = 24;
+
+pub const BOUND_OVER_65535: u8 = 25;
+
 pub const UNASSIGNED_CODE: u8 = 30;
 
 pub const ABSENT_RAM_ADDRESS: u8 = 31;
