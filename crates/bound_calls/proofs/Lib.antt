@@ -1,3 +1,5 @@
 pub mod Shape
+pub mod Ways
+pub mod Nodes
 pub mod CallUnique
 pub mod OldStands

@@ -23,8 +23,9 @@ use Rattle.routines.specs.Answer as routines
 use Rattle.routines.specs.Answer.{LowestAddress}
 use Rattle.routines.proofs.Base.{NoCalls, bad-base, loop-base, base-bad, base-loop, judged-any, new-answer}
 use Rattle.bound_flow.specs.Flow.{place, addressOf, isKnown, Way, wayBy, nodeBy, nodeRead, nodeOf, flowGraph, flowCost, startOf}
-use Rattle.bound_flow.specs.declared.Node.{Node}
-use Rattle.bound_calls.specs.CallFlow.{isSp, CallWay, callWayBy, CallNode, callNodeBy, callNodeRead, callNodeOf, callFlow, callCycles}
+use Rattle.bound_flow.specs.Flow.{Node}
+use Rattle.bound_calls.specs.declared.CallNode.{CallNode}
+use Rattle.bound_calls.specs.CallFlow.{isSp, CallWay, callWayBy, callNodeBy, callNodeRead, callNodeOf, callFlow, callCycles}
 use Rattle.bound_calls.specs.OldAnswer.{isPlain, Plain, Stands, OldAnswerStands}
 use Rattle.bound_calls.proofs.Shape.{few-kinds, flow-small, flow-widens}
 

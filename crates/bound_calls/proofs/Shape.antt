@@ -23,9 +23,10 @@ use Rattle.row.proofs.RowsValid.{fitsOperation, line-fits}
 use Rattle.routines.specs.Calling.{Flow}
 use Rattle.routines.specs.Shape.{Small, Narrower, Widens}
 use Rattle.bound_flow.specs.Flow.{place, addressOf, isKnown, Way, wayBy, nodeBy}
-use Rattle.bound_flow.specs.declared.Node.{Node}
+use Rattle.bound_flow.specs.Flow.{Node}
 use Rattle.bound_flow.proofs.Inside.{Good, cycles-of, way-good, place-lt, nowhere-good}
-use Rattle.bound_calls.specs.CallFlow.{isSp, CallWay, callWayBy, CallNode, callNodeBy, noNode, callNodeRead, callNodeOf, callFlow}
+use Rattle.bound_calls.specs.declared.CallNode.{CallNode}
+use Rattle.bound_calls.specs.CallFlow.{isSp, CallWay, callWayBy, callNodeBy, noNode, callNodeRead, callNodeOf, callFlow}
 
 -- a call's entry is below 0800h: LCALL has 11 address bits, and SCALL goes to 8n + 6 or 86h
 abbrev entersLow : ℕ → Operation → Bool

@@ -11,8 +11,8 @@ use Rattle.sheet.specs.declared.Insn.{Insn}
 use Rattle.sheet.specs.declared.Read.{Read}
 use Rattle.row.specs.Columns.{workPuts}
 use Rattle.routines.specs.Calling.{Flow}
-use Rattle.bound_flow.specs.Flow.{place, addressOf, isKnown, Way, wayBy, excluded, nodeBy, startOf}
-use Rattle.bound_flow.specs.declared.Node.{Node}
+use Rattle.bound_flow.specs.Flow.{place, addressOf, isKnown, Way, wayBy, Node, excluded, ending, going, forked, nodeBy, startOf}
+use Rattle.bound_calls.specs.declared.CallNode.{CallNode}
 
 -- ".. and any row storing to SP"
 abbrev pub isSp : Place → Bool
@@ -43,28 +43,39 @@ callWayBy d i s Operation.return-FLAG = CallWay.as-before (wayBy d i s Operation
 callWayBy d i s (Operation.IL⟵IL-and-r e) = CallWay.as-before (wayBy d i s (Operation.IL⟵IL-and-r e))
 callWayBy d i s Operation.no-operation = CallWay.as-before (wayBy d i s Operation.no-operation)
 
--- a place's kind in the flow, what follows it, the entry of the routine that it calls, and its cycles
-pub record CallNode : Type 0 where
-  pub kind : ℕ
-  pub next : ℕ
-  pub other : ℕ
-  pub entry : ℕ
-  pub cost : ℕ
-
--- after a call: the next instruction with SF unknown, and with SF known
-abbrev pub callNodeBy : ℕ → Bool → Insn → ℕ → ℕ → CallWay → CallNode
-callNodeBy at known i bytes cycles (CallWay.as-before w) =
-    let n : Node = nodeBy at known i bytes cycles w in
-    record { kind = n .kind; next = n .next; other = n .other; entry = 0; cost = n .cost }
-callNodeBy at known i bytes cycles CallWay.back = record { kind = 4; next = 0; other = 0; entry = 0; cost = cycles }
-callNodeBy at known i bytes cycles (CallWay.into e) =
-    record { kind = 3; next = place (wrapped at bytes) false; other = place (wrapped at bytes) true; entry = callEntry e (i .a); cost = cycles }
-
-abbrev pub callNodeRow : Device → ℕ → Bool → Insn → Line → CallNode
-callNodeRow d at known i l = callNodeBy at known i (l .bytes) (l .cycles) (callWayBy d i (l .s) (l .operation))
+-- document 01's node in the flow with calls: it calls nothing
+abbrev pub plainNode : Node → CallNode
+plainNode n = record { kind = n .kind; next = n .next; other = n .other; entry = 0; cost = n .cost }
 
 abbrev pub noNode : CallNode
-noNode = record { kind = excluded .kind; next = excluded .next; other = excluded .other; entry = 0; cost = excluded .cost }
+noNode = plainNode excluded
+
+abbrev pub ended : ℕ → CallNode
+ended cycles = plainNode (ending cycles)
+
+abbrev pub went : ℕ → ℕ → ℕ → CallNode
+went next other cycles = plainNode (going next other cycles)
+
+abbrev pub turned : Bool → ℕ → ℕ → ℕ → CallNode
+turned known on target cycles = plainNode (forked known on target cycles)
+
+-- RET; and a call, after which comes the next instruction, with SF unknown and with SF known
+abbrev pub returning : ℕ → CallNode
+returning cycles = record { kind = 4; next = 0; other = 0; entry = 0; cost = cycles }
+
+abbrev pub calling : ℕ → ℕ → ℕ → CallNode
+calling on entry cycles = record { kind = 3; next = place on false; other = place on true; entry = entry; cost = cycles }
+
+abbrev pub callNodeBy : ℕ → Bool → Insn → ℕ → ℕ → CallWay → CallNode
+callNodeBy at known i bytes cycles (CallWay.as-before w) = plainNode (nodeBy at known i bytes cycles w)
+callNodeBy at known i bytes cycles CallWay.back = returning cycles
+callNodeBy at known i bytes cycles (CallWay.into e) = calling (wrapped at bytes) (callEntry e (i .a)) cycles
+
+abbrev pub callWayOf : Device → Insn → Line → CallWay
+callWayOf d i l = callWayBy d i (l .s) (l .operation)
+
+abbrev pub callNodeRow : Device → ℕ → Bool → Insn → Line → CallNode
+callNodeRow d at known i l = callNodeBy at known i (l .bytes) (l .cycles) (callWayOf d i l)
 
 abbrev pub callNodeRead : Device → ℕ → Bool → Read → CallNode
 callNodeRead d at known (Read.Row i) = callNodeRow d at known i (lineAt (i .row))

@@ -1,3 +1,4 @@
 pub mod CallFlow
+pub mod Ways
 pub mod CallAnswer
 pub mod OldAnswer

@@ -23,11 +23,12 @@ use Rattle.row.specs.Columns.{workPuts}
 use Rattle.row.proofs.RowStops.{Named}
 use Rattle.row.proofs.RowsValid.{fitsOperation}
 use Rattle.bound_flow.specs.Flow.{place, addressOf, isKnown, Way, wayBy, nodeBy}
-use Rattle.bound_flow.specs.declared.Node.{Node}
+use Rattle.bound_flow.specs.Flow.{Node}
 use Rattle.bound_runs.proofs.Lines.{setsBranching}
 use Rattle.bound_runs.proofs.Standing.{Standing, address-place, known-place}
 use Rattle.bound_runs.proofs.Rows.{RowFollows, stops-named, returns, goes, Allowed, row-follows}
-use Rattle.bound_calls.specs.CallFlow.{isSp, CallWay, callWayBy, CallNode, callNodeBy}
+use Rattle.bound_calls.specs.CallFlow.{isSp, CallWay, callWayBy, callNodeBy}
+use Rattle.bound_calls.specs.declared.CallNode.{CallNode}
 use Rattle.bound_calls.proofs.Shape.{few-kinds, on-or-end}
 use Rattle.bound_calls_runs.proofs.Levels.{above-level}
 use Rattle.bound_calls_runs.proofs.StackPointer.{work-sp}

@@ -29,7 +29,8 @@ use Rattle.bound_runs.specs.Handler.{Returns, Ends}
 use Rattle.bound_runs.proofs.Lines.{line-branches}
 use Rattle.bound_runs.proofs.Standing.{Standing, stands-after}
 use Rattle.bound_runs.proofs.Steps.{looking, around, row-is}
-use Rattle.bound_calls.specs.CallFlow.{CallNode, callNodeRow, callNodeRead, callNodeOf, callFlow, callCycles}
+use Rattle.bound_calls.specs.declared.CallNode.{CallNode}
+use Rattle.bound_calls.specs.CallFlow.{callNodeRow, callNodeRead, callNodeOf, callFlow, callCycles}
 use Rattle.bound_calls_runs.specs.CallHandler.{ExecutesCall}
 use Rattle.bound_calls_runs.proofs.CallRows.{CallRowFollows, stops, ends, goes-on, calls, comes-back, call-row-follows}
 

@@ -9,7 +9,7 @@ use Rattle.graph_search.specs.Marks.{Marked, Grown}
 use Rattle.graph_search.specs.Search.{Visited}
 use Rattle.graph_search.proofs.Search.{visited-none, visited-both}
 use Rattle.bound_flow.specs.Flow.{nodeOf, flowGraph}
-use Rattle.bound_flow.specs.declared.Node.{Node}
+use Rattle.bound_flow.specs.Flow.{Node}
 use Rattle.bound_explore.specs.Explored.{Lays}
 
 module _ (d : Device) (rom : ℕ → ℕ) (v : ℕ) (x : Node) (e : x ≡ nodeOf d rom v) where

@@ -21,7 +21,7 @@ use Rattle.row.proofs.RowsValid.{fitsOperation, line-fits, target-lt}
 use Rattle.graph.specs.Graph.{GoesOn, Ends}
 use Rattle.graph.specs.Laid.{Inside}
 use Rattle.bound_flow.specs.Flow.{Way, place, addressOf, isKnown, isOne, writesGuarded, wayBy, excluded, forked, nodeBy, nodeRead, nodeOf, flowGraph, flowCost}
-use Rattle.bound_flow.specs.declared.Node.{Node}
+use Rattle.bound_flow.specs.Flow.{Node}
 
 pub record Good (x : Node) : Type 0 where
   pub next-lt : x .next < 16384

@@ -15,7 +15,6 @@ use Rattle.sheet.specs.declared.Insn.{Insn}
 use Rattle.sheet.specs.declared.Read.{Read}
 use Rattle.row.specs.Columns.{setsEi, writesPort}
 use Rattle.graph.specs.Graph.{Kind, kindNumber, Graph}
-use Rattle.bound_flow.specs.declared.Node.{Node}
 
 -- "A place is an address with "SF known set" or not": twice the address, and one more where SF is known set
 abbrev pub place : ℕ → Bool → ℕ
@@ -63,6 +62,12 @@ abbrev pub wayOf : Device → Insn → Line → Way
 wayOf d i l = wayBy d i (l .s) (l .operation)
 
 -- a node: a place's kind in the graph, what follows it, and its cycles
+pub record Node : Type 0 where
+  pub kind : ℕ
+  pub next : ℕ
+  pub other : ℕ
+  pub cost : ℕ
+
 abbrev pub excluded : Node
 excluded = record { kind = kindNumber Kind.excluded; next = 0; other = 0; cost = 0 }
 

@@ -1,3 +1,2 @@
 pub mod Flow
 pub mod Bound
-pub mod Ways

@@ -26,7 +26,7 @@ use Rattle.row.proofs.Frame.{ordinary}
 use Rattle.row.proofs.StepsValid.{fitsStep, fitsAfter}
 use Rattle.row.proofs.RowsValid.{fitsOperation}
 use Rattle.bound_flow.specs.Flow.{place, isOne, writesGuarded, Way, wayBy, excluded, going, nodeBy}
-use Rattle.bound_flow.specs.declared.Node.{Node}
+use Rattle.bound_flow.specs.Flow.{Node}
 use Rattle.row.proofs.RowStops.{Named, NoneOrNamed, row-stop}
 use Rattle.row.proofs.RowMode.{work-mode}
 use Rattle.row.proofs.RowBank.{work-bank}

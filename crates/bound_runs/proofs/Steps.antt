@@ -23,7 +23,7 @@ use Rattle.step.proofs.StepValid.{stop-leaves}
 use Rattle.step.proofs.Stepping.{step-runs}
 use Rattle.graph.specs.Graph.{GoesOn, Ends as EndsPath, Edge}
 use Rattle.bound_flow.specs.Flow.{isKnown, nodeRow, nodeRead, nodeOf, flowGraph, flowCost}
-use Rattle.bound_flow.specs.declared.Node.{Node}
+use Rattle.bound_flow.specs.Flow.{Node}
 use Rattle.bound_runs.specs.Handler.{Ends}
 use Rattle.bound_runs.proofs.Lines.{line-branches}
 use Rattle.bound_runs.proofs.Standing.{Standing, stands-after}

@@ -1,4 +1,4 @@
--- `bound_flow::node_at` meets its contract.
+-- `bound_calls::node_at` meets its contract.
 use mathlib.Core.Path.{sym, _∙_}
 use Prim.Native.Nat.{_/_}
 use native.Mathlib.Omega.{arith}
@@ -6,10 +6,10 @@ use denote.Ref.{now}
 use Rattle.device.specs.Device.{inImage, romOf}
 use Rattle.device.proofs.Laws.{before-end}
 use Rattle.reader.proofs.Rows.{read-in-fields}
-use Rattle.bound_flow.proofs.Nodes.{operand-lt, none-node, row-node}
+use Rattle.bound_calls.proofs.Nodes.{operand-lt, none-node, row-node}
 use borrow.Author.Needs.{needs}
-use Rattle.bound_flow.proofs.node_at.Statement.{statement}
-use Rattle.bound_flow.proofs.node_at.Tie as tie
+use Rattle.bound_calls.proofs.node_at.Statement.{statement}
+use Rattle.bound_calls.proofs.node_at.Tie as tie
 
 cast-at : tie.Need-cast-at
 cast-at c = search needs

@@ -1,7 +1,7 @@
--- `bound_flow::fork` meets its contract.
+-- `bound_calls::fork` meets its contract.
 use borrow.Author.Needs.{needs}
-use Rattle.bound_flow.proofs.fork.Statement.{statement}
-use Rattle.bound_flow.proofs.fork.Tie as tie
+use Rattle.bound_calls.proofs.fork.Statement.{statement}
+use Rattle.bound_calls.proofs.fork.Tie as tie
 
 mul-to : tie.Need-mul-to
 mul-to c = search needs

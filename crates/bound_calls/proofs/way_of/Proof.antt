@@ -1,11 +1,11 @@
--- `bound_flow::way_of` meets its contract.
+-- `bound_calls::way_of` meets its contract.
 use mathlib.Core.Path.{refl, sym, _∙_}
 use native.Mathlib.Omega.{arith}
 use Rattle.sheet.specs.Table.{lines, lineAt}
-use Rattle.bound_flow.proofs.Ways.{letters, letter-of, plain-way, to-guarded, to-other-port}
+use Rattle.bound_calls.proofs.Ways.{letters, letter-of, plain-way, to-guarded, to-other-port}
 use borrow.Author.Needs.{needs}
-use Rattle.bound_flow.proofs.way_of.Statement.{statement}
-use Rattle.bound_flow.proofs.way_of.Tie as tie
+use Rattle.bound_calls.proofs.way_of.Statement.{statement}
+use Rattle.bound_calls.proofs.way_of.Tie as tie
 
 cast-at : tie.Need-cast-at
 cast-at c = search needs

@@ -1,10 +1,10 @@
--- `bound_flow::node_by` meets its contract.
+-- `bound_calls::node_by` meets its contract.
 use Prim.Native.Nat.{_+_, _*_, _%_}
 use native.Mathlib.Nat.{add-zero}
-use Rattle.bound_flow.proofs.Ways.{last-way}
+use Rattle.bound_calls.proofs.Ways.{last-way}
 use borrow.Author.Needs.{needs}
-use Rattle.bound_flow.proofs.node_by.Statement.{statement}
-use Rattle.bound_flow.proofs.node_by.Tie as tie
+use Rattle.bound_calls.proofs.node_by.Statement.{statement}
+use Rattle.bound_calls.proofs.node_by.Tie as tie
 
 cast-on : tie.Need-cast-on
 cast-on c = search needs
@@ -63,8 +63,20 @@ fork-requires-2 c κs = search needs
 fork-requires-3 : tie.Need-fork-requires-3
 fork-requires-3 c κs = search needs
 
+call-requires : tie.Need-call-requires
+call-requires c κs = search needs
+
+short-entry-requires : tie.Need-short-entry-requires
+short-entry-requires c κs = search needs
+
+call-requires-2 : tie.Need-call-requires-2
+call-requires-2 c κs = search needs
+
+back-requires : tie.Need-back-requires
+back-requires c κs = search needs
+
 returns : tie.Need-returns
-returns c = search needs
+returns c = rw (c .before .match .keys1, c .nowhere .ensures)
 
 returns-2 : tie.Need-returns-2
 returns-2 c = rw (c .before .match .keys2, c .end .ensures)
@@ -82,7 +94,16 @@ returns-6 : tie.Need-returns-6
 returns-6 c = rw (c .before .before .match .keys6, c .fork2 .ensures)
 
 returns-7 : tie.Need-returns-7
-returns-7 c = rw (last-way (c .before .before .before .args .way) (c .before .before .before .pre .2) (c .before .match .rest), c .fork3 .ensures)
+returns-7 c = rw (c .before .match .keys7, c .fork3 .ensures)
+
+returns-8 : tie.Need-returns-8
+returns-8 c = rw (c .before .match .keys8, c .call .ensures)
+
+returns-9 : tie.Need-returns-9
+returns-9 c = rw (c .before .before .match .keys9, c .call2 .ensures, c .before .short-entry .ensures)
+
+returns-10 : tie.Need-returns-10
+returns-10 c = rw (last-way (c .before .before .before .args .way) (c .before .before .before .pre .2) (c .before .match .rest), c .back .ensures)
 
 pub node-by-spec : {M : Type 1} → statement M
 node-by-spec =
@@ -107,10 +128,17 @@ node-by-spec =
     add-fork-2
     fork-requires-2
     fork-requires-3
+    call-requires
+    short-entry-requires
+    call-requires-2
+    back-requires
     returns
     returns-2
     returns-3
     returns-4
     returns-5
     returns-6
-    returns-7)
+    returns-7
+    returns-8
+    returns-9
+    returns-10)
