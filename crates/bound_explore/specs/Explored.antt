@@ -4,10 +4,15 @@ use mathlib.Core.List.{List}
 use Prim.Native.Nat.{ℕ}
 use lib.ListN.{length, getD, set}
 use Rattle.device.specs.declared.Device.{Device}
+use Rattle.graph.specs.Graph.{Graph}
 use Rattle.graph.specs.Laid.{places, graphOf, Laid, Costs}
 use Rattle.graph_search.specs.Marks.{Marked, Blank, Listed}
 use Rattle.graph_search.specs.Search.{Reached}
-use Rattle.bound_flow.specs.Flow.{nodeOf}
+use Rattle.bound_calls.specs.CallFlow.{callNodeOf}
+
+-- the places as a graph in which a call goes nowhere: the outer routine, where no call is reached
+unfoldable pub callGraph : Device → (ℕ → ℕ) → Graph
+callGraph d rom = record { kind = λ v. callNodeOf d rom v .kind; next = λ v. callNodeOf d rom v .next; other = λ v. callNodeOf d rom v .other }
 
 -- a place an index
 pub record Sized (k nx o c : List ℕ) : Type 0 where
@@ -25,17 +30,17 @@ pub record Empty (k nx o c : List ℕ) : Type 0 where
 
 -- the node of v is laid
 pub record Lays (d : Device) (rom : ℕ → ℕ) (v : ℕ) (k nx o c k′ nx′ o′ c′ : List ℕ) : Type 0 where
-  pub kind : k′ ≡ set k v (nodeOf d rom v .kind)
-  pub next : nx′ ≡ set nx v (nodeOf d rom v .next)
-  pub other : o′ ≡ set o v (nodeOf d rom v .other)
-  pub cost : c′ ≡ set c v (nodeOf d rom v .cost)
+  pub kind : k′ ≡ set k v (callNodeOf d rom v .kind)
+  pub next : nx′ ≡ set nx v (callNodeOf d rom v .next)
+  pub other : o′ ≡ set o v (callNodeOf d rom v .other)
+  pub cost : c′ ≡ set c v (callNodeOf d rom v .cost)
 
 -- the arrays hold the node of v
 pub record Holds (d : Device) (rom : ℕ → ℕ) (k nx o c : List ℕ) (v : ℕ) : Type 0 where
-  pub kind : getD k v 0 ≡ nodeOf d rom v .kind
-  pub next : getD nx v 0 ≡ nodeOf d rom v .next
-  pub other : getD o v 0 ≡ nodeOf d rom v .other
-  pub cost : getD c v 0 ≡ nodeOf d rom v .cost
+  pub kind : getD k v 0 ≡ callNodeOf d rom v .kind
+  pub next : getD nx v 0 ≡ callNodeOf d rom v .next
+  pub other : getD o v 0 ≡ callNodeOf d rom v .other
+  pub cost : getD c v 0 ≡ callNodeOf d rom v .cost
 
 -- m marks what is reached from s, q lists it, and the arrays hold its nodes
 pub record Explored (d : Device) (rom : ℕ → ℕ) (s : ℕ) (k nx o c m q : List ℕ) (count : ℕ) : Type 0 where

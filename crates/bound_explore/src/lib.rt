@@ -1,5 +1,5 @@
 // The places of an image, seen through the window of P3, that are reached from a place, laid in arrays as a graph.
-use bound_flow::node_at;
+use bound_calls::node_at;
 use device::Device;
 use graph_search::mark;
 ghost use mathlib.Core.Path.{_≡_};
@@ -10,8 +10,7 @@ ghost use Rattle.graph.specs.Graph.{Edge};
 ghost use Rattle.device.specs.Device.{romOf};
 ghost use Rattle.graph_search.specs.Marks.{Blank, Room, Grown};
 ghost use Rattle.graph_search.specs.Search.{Visited};
-ghost use Rattle.bound_flow.specs.Flow.{flowGraph};
-ghost use Rattle.bound_explore.specs.Explored.{Sized, Empty, Lays, Explored};
+ghost use Rattle.bound_explore.specs.Explored.{callGraph, Sized, Empty, Lays, Explored};
 
 // Lays the node of v, and marks what follows it.
 fn visit(
@@ -29,8 +28,8 @@ fn visit(
 ) -> usize
     requires { ⌜ (8192 + 4096 * (p3 % 4) ≤ length (now image)) × Sized (now kind) (now next) (now other) (now cost) × Room (now m) (now q) count × (length (now m) ≡ places) × (v < places) ⌝ }
     ensures { λ r. ⌜ Lays d (romOf (now (image .entry)) p3) v (now (kind .entry)) (now (next .entry)) (now (other .entry)) (now (cost .entry)) (now (kind .exit)) (now (next .exit)) (now (other .exit)) (now (cost .exit))
-        × Grown (Edge (flowGraph d (romOf (now (image .entry)) p3)) v) (now (m .entry)) (now (q .entry)) count (now (m .exit)) (now (q .exit)) r
-        × Visited (flowGraph d (romOf (now (image .entry)) p3)) v (now (m .exit)) ⌝ }
+        × Grown (Edge (callGraph d (romOf (now (image .entry)) p3)) v) (now (m .entry)) (now (q .entry)) count (now (m .exit)) (now (q .exit)) r
+        × Visited (callGraph d (romOf (now (image .entry)) p3)) v (now (m .exit)) ⌝ }
 {
     let x = node_at(d, image, p3, v);
     kind[v] = x.kind;

@@ -10,14 +10,14 @@ use Rattle.graph_search.specs.Search.{Search}
 use Rattle.graph_search.proofs.Zeros.{wide16}
 use Rattle.graph_search.proofs.Grown.{room-blank, room-grown}
 use Rattle.graph_search.proofs.Search.{search-start, search-more}
-use Rattle.bound_flow.specs.Flow.{flowGraph}
+use Rattle.bound_explore.specs.Explored.{callGraph}
 use Rattle.bound_explore.proofs.Exploring.{Laying, laying-none, laying-more, inside-image, explored}
 use Rattle.bound_explore.proofs.explore.Statement.{statement}
 use Rattle.bound_explore.proofs.explore.Tie as tie
 
 abbrev Inv-loop : tie.InvT-loop
 Inv-loop d image p3 s kind₀ next₀ other₀ cost₀ m₀ q₀ count₀ head₀ kind next other cost m q count head =
-    Laying d (romOf image p3) kind next other cost q head × (length m ≡ 16384) × (length q ≡ 16384) × Room m q count × Search (flowGraph d (romOf image p3)) s m q count head
+    Laying d (romOf image p3) kind next other cost q head × (length m ≡ 16384) × (length q ≡ 16384) × Room m q count × Search (callGraph d (romOf image p3)) s m q count head
 
 abbrev μ-loop : tie.MeasureT-loop
 μ-loop d image p3 s kind₀ next₀ other₀ cost₀ m₀ q₀ count₀ head₀ kind next other cost m q count head = 16384 - head

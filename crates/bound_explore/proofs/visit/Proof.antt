@@ -2,7 +2,7 @@
 use denote.Ref.{now}
 use Rattle.device.specs.Device.{inImage, romOf}
 use Rattle.graph_search.proofs.Grown.{room-grown}
-use Rattle.bound_flow.proofs.Inside.{node-good}
+use Rattle.bound_calls.proofs.Shape.{call-node-good}
 use Rattle.bound_explore.proofs.Nodes.{laid-node, nothing-follows, both-follow}
 use borrow.Author.Needs.{needs}
 use Rattle.bound_explore.proofs.visit.Statement.{statement}
@@ -59,7 +59,7 @@ mark-requires c κs =
     let args = c .before .before .before .before .before .before .before .before .before .before .before .before .before .args in
     let shared-slice-known = c .before .before .before .before .before .before .before .before .before .before .before .before .shared-slice-known in
     let node-at = c .before .before .before .before .before .node-at in
-    (pre .2, rw (node-at .ensures, pre .3) (node-good (args .d) (romOf (now (args .image)) (args .p3)) (λ at. shared-slice-known .given (inImage (args .p3) at) .fits) (args .v) (pre .4) .next-lt))
+    (pre .2, rw (node-at .ensures, pre .3) (call-node-good (args .d) (romOf (now (args .image)) (args .p3)) (λ at. shared-slice-known .given (inImage (args .p3) at) .fits) (args .v) (pre .4) .next-lt))
 
 cast-mark-2 : tie.Need-cast-mark-2
 cast-mark-2 c = search needs
@@ -71,7 +71,7 @@ mark-requires-2 c κs =
     let shared-slice-known = c .before .before .before .before .before .before .before .before .before .before .before .before .before .before .before .before .before .before .before .before .shared-slice-known in
     let node-at = c .before .before .before .before .before .before .before .before .before .before .before .before .before .node-at in
     let mark = c .before .before .before .before .before .before .before .mark in
-    (room-grown (pre .2) (mark .ensures .0) (mark .kept .0) (mark .kept .1 .0), rw (node-at .ensures, mark .kept .0, pre .3) (node-good (args .d) (romOf (now (args .image)) (args .p3)) (λ at. shared-slice-known .given (inImage (args .p3) at) .fits) (args .v) (pre .4) .other-lt))
+    (room-grown (pre .2) (mark .ensures .0) (mark .kept .0) (mark .kept .1 .0), rw (node-at .ensures, mark .kept .0, pre .3) (call-node-good (args .d) (romOf (now (args .image)) (args .p3)) (λ at. shared-slice-known .given (inImage (args .p3) at) .fits) (args .v) (pre .4) .other-lt))
 
 same-length-5 : tie.Need-same-length-5
 same-length-5 c = search needs
