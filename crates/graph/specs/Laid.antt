@@ -11,16 +11,20 @@ graphOf k nx o = record { kind = λ v. getD k v 0; next = λ v. getD nx v 0; oth
 unfoldable pub costOf : List ℕ → ℕ → ℕ
 costOf c v = getD c v 0
 
--- how many places a graph has at most: each is an index of an array
+-- how many places an image has: an address, with SF known or not
 abbrev pub places : ℕ
 places = 16384
+
+-- how many a graph has at most, each an index of an array: routines that are joined in one have their entries, and each place of an image twice
+abbrev pub mostNodes : ℕ
+mostNodes = 34816
 
 -- the arrays are a graph of n places
 pub record Laid (k nx o : List ℕ) (n : ℕ) : Type 0 where
   pub kinds : length k ≡ n
   pub nexts : length nx ≡ n
   pub others : length o ≡ n
-  pub small : n ≤ places
+  pub small : n ≤ mostNodes
   pub next-lt : (v : ℕ) → v < n → getD nx v 0 < n
   pub other-lt : (v : ℕ) → v < n → getD o v 0 < n
 

@@ -9,11 +9,11 @@ use Rattle.graph.specs.Graph.{Graph, ReachPlus, Bad, Loops, Sound}
 use Rattle.graph.specs.Laid.{Inside}
 use Rattle.graph_search.specs.Marks.{Marked, Listed}
 use Rattle.graph_search.specs.Search.{Reached}
-use Rattle.graph_search.proofs.Zeros.{marked-lt}
 use Rattle.graph_sums.specs.Dist.{Dist, IdleOn}
 use Rattle.graph_sums.proofs.Meaning.{reach-down, no-return}
 use Rattle.graph_sums.proofs.Stuck.{some-loop}
 use Rattle.graph_loops.specs.Loops.{Scan}
+use Rattle.graph_loops.proofs.Least.{least-loop, none-loops}
 use Rattle.graph_route.specs.Route.{LengthIs, Roomy, Written}
 use Rattle.graph_route.proofs.Way.{route-longest}
 use Rattle.graph_longest.specs.Means.{IsRepeats, IsShort, IsLongest}
@@ -23,18 +23,11 @@ pub is-repeats : {g : Graph} {m q d : List ℕ} {s n t : ℕ} → Reached g s m 
     → (p : List ℕ) (r : ℕ) → getD d s 0 ≡ 0 → Scan (λ v. Marked m v × ReachPlus g v v) n r → IsRepeats g s r p p
 is-repeats {g} {m} {s = s} {n = n} reached listed none inside s-lt len idle p r z scan =
     let u = some-loop inside s-lt reached listed idle none z in
-    let found = scan .found (in-range (u .0) (u .1) (decLt r n)) in
-    record { no-bad = none; lowest = record { holds = (reached .sound r (found .0), found .1); least = λ b h. least b h (decLt b r) }; kept = refl }
+    record { no-bad = none; lowest = least-loop reached scan (in-range (u .0) (u .1) (decLt r n)); kept = refl }
   where
     in-range : (v : ℕ) → Loops g s v → Dec (r < n) → r < n
     in-range v h (yes l) = l
-    in-range v h (no nl) =
-        let mk : Marked m v = reached .complete v (h .0) in
-        absurd (scan .before v (omega (arith, marked-lt m v mk)) (mk, h .1))
-
-    least : (b : ℕ) → Loops g s b → Dec (b < r) → r ≤ b
-    least b h (yes lt) = absurd (scan .before b lt (reached .complete b (h .0), h .1))
-    least b h (no nlt) = omega arith
+    in-range v h (no nl) = absurd (none-loops reached scan (omega arith) (omega arith) v h)
 
 -- with one
 module _ {g : Graph} {c : ℕ → ℕ} {d : List ℕ} {s : ℕ} (none : (v : ℕ) → Bad g s v → ⊥) (dist : Dist g c d) (pos : (v : ℕ) → 0 < getD d v 0 → 0 < c v) where

@@ -1,3 +1,4 @@
 pub mod Scans
 pub mod Ranks
 pub mod Back
+pub mod Least

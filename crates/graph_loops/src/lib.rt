@@ -5,9 +5,8 @@ use graph_search::reach;
 ghost use mathlib.Core.Path.{_≡_};
 ghost use Prim.Native.Nat.{_<_};
 ghost use lib.ListN.{length};
-ghost use Rattle.graph.specs.Laid.{places};
 ghost use Rattle.graph.specs.Graph.{ReachPlus};
-ghost use Rattle.graph.specs.Laid.{graphOf, Laid};
+ghost use Rattle.graph.specs.Laid.{places, graphOf, Laid};
 ghost use Rattle.graph_search.specs.Marks.{Marked, Queue, Listed};
 ghost use Rattle.graph_search.specs.Search.{Reached};
 ghost use Rattle.graph_loops.specs.Loops.{Scan, Tells, After, NeverRises, Steady};
@@ -130,8 +129,8 @@ fn scan(
     v
 }
 
-// The same as first_loop, with arrays lent to work in.
-fn find(
+// The same as first_loop, for as many places as marks has, with arrays lent to work in, rank and stage of zeros.
+pub fn first_loop_in(
     kind: &[u8],
     next: &[u16],
     other: &[u16],
@@ -140,17 +139,20 @@ fn find(
     queue: &[u16],
     count: usize,
     rank: &mut [u16],
-    m: &mut [u8],
-    q: &mut [u16],
+    number: &mut [u16],
+    below: &mut [u16],
+    back: &mut [u16],
+    stage: &mut [u8],
 ) -> usize
     requires { ⌜ Laid (now kind) (now next) (now other) (length (now marks)) × (s < length (now marks))
         × Reached (graphOf (now kind) (now next) (now other)) s (now marks) × Listed (now marks) (now queue) count
-        × (length (now rank) ≡ length (now marks)) × (length (now m) ≡ length (now marks)) × (length (now q) ≡ length (now marks)) × (length (now marks) ≡ places) ⌝ }
+        × (length (now rank) ≡ length (now marks)) × (length (now number) ≡ length (now marks)) × (length (now below) ≡ length (now marks))
+        × (length (now back) ≡ length (now marks)) × (length (now stage) ≡ length (now marks)) ⌝ }
     ensures { λ r. ⌜ Scan (λ v. Marked (now (marks .entry)) v × ReachPlus (graphOf (now (kind .entry)) (now (next .entry)) (now (other .entry))) v v) (length (now (marks .entry))) r ⌝ }
 {
-    components(kind, next, other, s, rank);
+    components(kind, next, other, s, rank, number, below, back, stage);
     let steady = never_rises(kind, next, other, rank, queue, count);
-    scan(kind, next, other, marks, rank, steady, m, q)
+    scan(kind, next, other, marks, rank, steady, stage, number)
 }
 
 // The lowest place reached from s that is reached from itself in one or more steps, or 16,384. marks and queue tell what is reached from s.
@@ -168,9 +170,11 @@ pub fn first_loop(
     ensures { λ r. ⌜ Scan (λ v. Marked (now (marks .entry)) v × ReachPlus (graphOf (now (kind .entry)) (now (next .entry)) (now (other .entry))) v v) places r ⌝ }
 {
     let mut rank = [0u16; PLACES];
-    let mut m = [0u8; PLACES];
-    let mut q = [0u16; PLACES];
-    find(
+    let mut number = [0u16; PLACES];
+    let mut below = [0u16; PLACES];
+    let mut back = [0u16; PLACES];
+    let mut stage = [0u8; PLACES];
+    first_loop_in(
         kind,
         next,
         other,
@@ -179,7 +183,9 @@ pub fn first_loop(
         queue,
         count,
         &mut rank,
-        &mut m,
-        &mut q,
+        &mut number,
+        &mut below,
+        &mut back,
+        &mut stage,
     )
 }

@@ -1,14 +1,14 @@
 // Ranks for the places that are reached from a place: places that reach one another get the same, and along an edge the rank does not rise.
 // That is not promised, and whoever relies on it tests it: what is proved here is that the walk stays among the places and ends.
 // A place that is begun has a high rank, falling from 65,535, and in the end the number of its component, in the order in which they are complete.
-use graph::PLACES;
+// A place of a complete component gives its high rank back, so that for up to 65,535 places no rank means two things.
 use graph_search::successor;
+use std::num::wrapping_add_u16;
+use std::num::wrapping_sub_u16;
 ghost use mathlib.Core.Path.{_≡_};
 ghost use Prim.Native.Nat.{_<_, _≤_};
 ghost use lib.ListN.{length, getD};
-ghost use Rattle.graph.specs.Laid.{places};
-ghost use Rattle.graph.specs.Laid.{Laid};
-ghost use Rattle.graph_ranks.specs.Moves.{Ready, Moved};
+ghost use Rattle.graph.specs.Laid.{mostNodes, Laid};
 
 // The place v that the walk is at; the top of the stack of places that wait for their component; the rank of the last place that was begun; and
 // how many components are complete. A place that is not one of the places stands for none.
@@ -21,11 +21,11 @@ struct Spot {
 
 // The walk goes on from v to w, which is not begun.
 fn begin(rank: &mut [u16], number: &mut [u16], back: &mut [u16], a: Spot, w: usize) -> Spot
-    requires { ⌜ (length (now rank) ≤ places) × (length (now number) ≡ length (now rank)) × (length (now back) ≡ length (now rank)) × (w < length (now rank)) × (a .v < length (now rank)) × Ready a ⌝ }
-    ensures { λ r. ⌜ Moved a r ⌝ }
+    requires { ⌜ (length (now rank) ≤ mostNodes) × (length (now number) ≡ length (now rank)) × (length (now back) ≡ length (now rank)) × (w < length (now rank)) × (a .v < length (now rank)) × (a .top < 65536) ⌝ }
+    ensures { λ r. ⌜ r .top < 65536 ⌝ }
 {
     let v = a.v;
-    let i = a.index - 1;
+    let i = wrapping_sub_u16(a.index, 1);
     rank[w] = i;
     number[w] = i;
     back[w] = v as u16;
@@ -38,7 +38,7 @@ fn begin(rank: &mut [u16], number: &mut [u16], back: &mut [u16], a: Spot, w: usi
 }
 
 fn raise(rank: &mut [u16], v: usize, to: u16)
-    requires { ⌜ length (now rank) ≤ places ⌝ }
+    requires { ⌜ length (now rank) ≤ mostNodes ⌝ }
 {
     if rank.len() <= v {
         return;
@@ -61,8 +61,8 @@ fn go_on(
     a: Spot,
 ) -> Spot
     requires { ⌜ Laid (now kind) (now next) (now other) (length (now rank)) × (length (now number) ≡ length (now rank)) × (length (now back) ≡ length (now rank))
-        × (length (now stage) ≡ length (now rank)) × (a .v < length (now rank)) × (getD (now stage) (a .v) 0 < 2) × Ready a ⌝ }
-    ensures { λ r. ⌜ Moved a r ⌝ }
+        × (length (now stage) ≡ length (now rank)) × (a .v < length (now rank)) × (getD (now stage) (a .v) 0 < 2) × (a .top < 65536) ⌝ }
+    ensures { λ r. ⌜ r .top < 65536 ⌝ }
 {
     let v = a.v;
     let tried = stage[v];
@@ -78,9 +78,9 @@ fn go_on(
 
 // Leaves v, whose successors were tried. Where it reaches back to a place begun before it, it waits on the stack; else those that wait above it are of its component.
 fn leave(rank: &mut [u16], number: &[u16], below: &mut [u16], back: &[u16], a: Spot) -> Spot
-    requires { ⌜ (length (now rank) ≤ places) × (length (now number) ≡ length (now rank)) × (length (now below) ≡ length (now rank))
-        × (length (now back) ≡ length (now rank)) × (a .v < length (now rank)) × Ready a ⌝ }
-    ensures { λ r. ⌜ Moved a r ⌝ }
+    requires { ⌜ (length (now rank) ≤ mostNodes) × (length (now number) ≡ length (now rank)) × (length (now below) ≡ length (now rank))
+        × (length (now back) ≡ length (now rank)) × (a .v < length (now rank)) × (a .top < 65536) ⌝ }
+    ensures { λ r. ⌜ r .top < 65536 ⌝ }
 {
     let v = a.v;
     let top = a.top;
@@ -96,7 +96,8 @@ fn leave(rank: &mut [u16], number: &[u16], below: &mut [u16], back: &[u16], a: S
             complete: a.complete,
         };
     }
-    let c = a.complete + 1;
+    let i = wrapping_add_u16(a.index, 1);
+    let c = wrapping_add_u16(a.complete, 1);
     if top < rank.len() {
         if rank[top] <= r {
             rank[top] = c;
@@ -104,7 +105,7 @@ fn leave(rank: &mut [u16], number: &[u16], below: &mut [u16], back: &[u16], a: S
             return Spot {
                 v: v,
                 top: t,
-                index: a.index,
+                index: i,
                 complete: a.complete,
             };
         }
@@ -113,7 +114,7 @@ fn leave(rank: &mut [u16], number: &[u16], below: &mut [u16], back: &[u16], a: S
     Spot {
         v: u,
         top: top,
-        index: a.index,
+        index: i,
         complete: c,
     }
 }
@@ -130,8 +131,8 @@ fn step(
     a: Spot,
 ) -> Spot
     requires { ⌜ Laid (now kind) (now next) (now other) (length (now rank)) × (length (now number) ≡ length (now rank)) × (length (now below) ≡ length (now rank))
-        × (length (now back) ≡ length (now rank)) × (length (now stage) ≡ length (now rank)) × (a .v < length (now rank)) × Ready a ⌝ }
-    ensures { λ r. ⌜ Moved a r ⌝ }
+        × (length (now back) ≡ length (now rank)) × (length (now stage) ≡ length (now rank)) × (a .v < length (now rank)) × (a .top < 65536) ⌝ }
+    ensures { λ r. ⌜ r .top < 65536 ⌝ }
 {
     let v = a.v;
     if kind[v] == 1 {
@@ -142,8 +143,8 @@ fn step(
     leave(rank, number, below, back, a)
 }
 
-// The walk from s, with arrays of zeros lent to work in. Four moves to a place are enough, less one to a component.
-fn walk(
+// Ranks the places that are reached from s, in an array of zeros. stage, of zeros, and the others are to work in. Four moves to a place are enough, less one to a component.
+pub fn components(
     kind: &[u8],
     next: &[u16],
     other: &[u16],
@@ -168,32 +169,11 @@ fn walk(
         complete: 0,
     };
     let mut moves: usize = 0;
-    while moves < 65535 {
+    while moves < 4 * n {
         if n <= a.v {
             return;
         }
         a = step(kind, next, other, rank, number, below, back, stage, a);
         moves += 1;
     }
-}
-
-// Ranks the places that are reached from s, in an array of zeros.
-pub fn components(kind: &[u8], next: &[u16], other: &[u16], s: usize, rank: &mut [u16])
-    requires { ⌜ Laid (now kind) (now next) (now other) places × (s < places) × (length (now rank) ≡ places) ⌝ }
-{
-    let mut number = [0u16; PLACES];
-    let mut below = [0u16; PLACES];
-    let mut back = [0u16; PLACES];
-    let mut stage = [0u8; PLACES];
-    walk(
-        kind,
-        next,
-        other,
-        s,
-        rank,
-        &mut number,
-        &mut below,
-        &mut back,
-        &mut stage,
-    );
 }

@@ -2,7 +2,7 @@
 ghost use mathlib.Core.Path.{_≡_};
 ghost use Prim.Native.Nat.{_+_, _/_, _%_, _<_, _≤_};
 ghost use lib.ListN.{length, getD, set};
-ghost use Rattle.graph.specs.Laid.{places};
+ghost use Rattle.graph.specs.Laid.{mostNodes};
 ghost use Rattle.graph.specs.Laid.{graphOf, Laid};
 ghost use Rattle.graph_route.specs.Route.{Falls, Turn, LengthIs, Roomy, Written};
 
@@ -35,7 +35,7 @@ pub fn path_len(kind: &[u8], next: &[u16], other: &[u16], d: &[u32], s: usize) -
 
 // The label of place v, low byte first.
 fn put(path: &mut [u8], at: usize, v: usize)
-    requires { ⌜ (at + 2 ≤ length (now path)) × (v < places) ⌝ }
+    requires { ⌜ (at + 2 ≤ length (now path)) × (v < mostNodes) ⌝ }
     ensures { λ _. ⌜ now (path .exit) ≡ set (set (now (path .entry)) at (v / 2 % 256)) (at + 1) (v / 512 % 256) ⌝ }
 {
     path[at] = (v / 2 % 256) as u8;

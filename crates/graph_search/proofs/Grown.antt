@@ -8,6 +8,7 @@ use native.Mathlib.Omega.{arith}
 use native.Mathlib.Decide.{ℕ-discrete, decLt}
 use lib.ListN.{length, getD, set}
 use lib.Seq.{getD-set-same, getD-set-other}
+use Rattle.graph.specs.Laid.{mostNodes}
 use Rattle.graph_search.specs.Marks.{Marked, OnQ, Blank, Room, Grown, Queue, Listed}
 use Rattle.graph_search.proofs.Zeros.{zeros-set, zeros-all, cases-set, marked-lt}
 
@@ -59,14 +60,14 @@ module _ {P Q : ℕ → Type 0} {m q m′ q′ m″ q″ : List ℕ} {t t′ t�
       has i lo hi (no n) = qr (getD q″ i 0) (b .has i (omega arith) hi)
 
 -- where nothing is marked
-pub room-blank : (m q : List ℕ) → Blank m → length q ≡ length m → length m ≤ 16384 → Room m q 0
+pub room-blank : (m q : List ℕ) → Blank m → length q ≡ length m → length m ≤ mostNodes → Room m q 0
 room-blank m q b e l = record { len = e; small = l; room = omega (arith, zeros-all m b) }
 
 -- and after a marking
 pub room-grown : {P : ℕ → Type 0} {m q m′ q′ : List ℕ} {t t′ : ℕ} → Room m q t → Grown P m q t m′ q′ t′ → length m′ ≡ length m → length q′ ≡ length q → Room m′ q′ t′
 room-grown r gr a b = record { len = omega (arith, r .len); small = omega (arith, r .small); room = omega (arith, r .room, gr .total) }
 
-pub listed-queue : {m q : List ℕ} {t : ℕ} → Listed m q t → length m ≤ 16384 → Queue q t (length m)
+pub listed-queue : {m q : List ℕ} {t : ℕ} → Listed m q t → length m ≤ mostNodes → Queue q t (length m)
 listed-queue {m} {q} li small = record { len = li .len; small = small; le = li .le; below = λ i l. marked-lt m (getD q i 0) (li .marked i l) }
 
 -- of as many places, where the number has another name

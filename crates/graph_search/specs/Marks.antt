@@ -4,7 +4,7 @@ use mathlib.Core.Logic.{_⊎_}
 use mathlib.Core.List.{List, [], _∷_}
 use Prim.Native.Nat.{ℕ, zero, suc, _+_, _≤_, _<_}
 use lib.ListN.{length, getD}
-use Rattle.graph.specs.Laid.{places}
+use Rattle.graph.specs.Laid.{mostNodes}
 
 -- how many elements are 0
 unfoldable pub zeros : List ℕ → ℕ
@@ -33,7 +33,7 @@ pub record Within (l : List ℕ) (n : ℕ) : Type 0 where
 -- n places at most, and room in the queue for each that is not marked
 pub record Room (m q : List ℕ) (count : ℕ) : Type 0 where
   pub len : length q ≡ length m
-  pub small : length m ≤ places
+  pub small : length m ≤ mostNodes
   pub room : count + zeros m ≡ length m
 
 -- m, q and count became m′, q′ and count′: nothing was lost, and what is new has P and stands in the queue
@@ -48,7 +48,7 @@ pub record Grown (P : ℕ → Type 0) (m q : List ℕ) (count : ℕ) (m′ q′ 
 -- the queue holds places below n, count of them
 pub record Queue (q : List ℕ) (count n : ℕ) : Type 0 where
   pub len : length q ≡ n
-  pub small : n ≤ places
+  pub small : n ≤ mostNodes
   pub le : count ≤ n
   pub below : (i : ℕ) → i < count → getD q i 0 < n
 

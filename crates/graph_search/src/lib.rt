@@ -3,7 +3,7 @@ ghost use mathlib.Core.Path.{_≡_};
 ghost use mathlib.Core.Logic.{_⊎_};
 ghost use Prim.Native.Nat.{_<_, _≤_};
 ghost use lib.ListN.{length, getD};
-ghost use Rattle.graph.specs.Laid.{places};
+ghost use Rattle.graph.specs.Laid.{mostNodes};
 ghost use Rattle.graph.specs.Graph.{Edge};
 ghost use Rattle.graph.specs.Laid.{graphOf, Laid};
 ghost use Rattle.graph_search.specs.Marks.{Marked, Blank, Room, Grown, Queue, Listed};
@@ -48,7 +48,7 @@ fn visit(
 
 // The place that follows v and is to be tried after so many: next, then other.
 pub fn successor(next: &[u16], other: &[u16], tried: u8, v: usize) -> usize
-    requires { ⌜ (v < length (now next)) × (v < length (now other)) × (length (now next) ≤ places) × (length (now other) ≤ places) ⌝ }
+    requires { ⌜ (v < length (now next)) × (v < length (now other)) × (length (now next) ≤ mostNodes) × (length (now other) ≤ mostNodes) ⌝ }
     ensures { λ r. ⌜ (r ≡ getD (now (next .entry)) v 0) ⊎ (r ≡ getD (now (other .entry)) v 0) ⌝ }
 {
     if tried == 0 {

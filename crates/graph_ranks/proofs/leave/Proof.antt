@@ -47,8 +47,11 @@ same-length-2 c = search needs
 returns : tie.Need-returns
 returns c = search needs
 
-add-c : tie.Need-add-c
-add-c c = search needs
+wrapping-add-u16-requires : tie.Need-wrapping-add-u16-requires
+wrapping-add-u16-requires c κs = tt
+
+wrapping-add-u16-requires-2 : tie.Need-wrapping-add-u16-requires-2
+wrapping-add-u16-requires-2 c κs = tt
 
 mul-if3 : tie.Need-mul-if3
 mul-if3 c = search needs
@@ -75,7 +78,7 @@ same-length-3 : tie.Need-same-length-3
 same-length-3 c = search needs
 
 returns-2 : tie.Need-returns-2
-returns-2 c = record { index = omega arith; complete = omega arith; top = c .slice-known6 .given _ .fits }
+returns-2 c = c .slice-known6 .given _ .fits
 
 mul-rank-2 : tie.Need-mul-rank-2
 mul-rank-2 c = search needs
@@ -107,7 +110,8 @@ leave-spec =
     same-length
     same-length-2
     returns
-    add-c
+    wrapping-add-u16-requires
+    wrapping-add-u16-requires-2
     mul-if3
     slice-read-if3
     mul-rank
