@@ -55,6 +55,7 @@ pub record GoodCall (x : CallNode) : Type 0 where
   pub next-lt : x .next < 16384
   pub other-lt : x .other < 16384
   pub entry-lt : x .entry < 2048
+  pub kind-le : x .kind ≤ 4
   pub pos : 1 ≤ x .kind → x .kind ≤ 4 → 0 < x .cost
   pub le : x .cost ≤ 3
 
@@ -79,6 +80,7 @@ module _ (d : Device) (address : ℕ) (known : Bool) (i : Insn) (bytes cycles : 
         next-lt = g .next-lt;
         other-lt = g .other-lt;
         entry-lt = omega arith;
+        kind-le = omega (arith, few-kinds address known i bytes cycles w);
         pos = λ l h. ⊎-elim (g .on-pos) (g .end-pos) (on-or-end (nodeBy address known i bytes cycles w .kind) l (few-kinds address known i bytes cycles w));
         le = g .le;
       }
@@ -94,14 +96,14 @@ module _ (d : Device) (address : ℕ) (known : Bool) (i : Insn) (bytes cycles : 
   call-good n h l s (Operation.work to a) f e = spared-good (workPuts isSp to a) (wayBy d i s (Operation.work to a)) (way-good d address known i bytes cycles pos few n h l s (Operation.work to a) f)
   call-good n h l s (Operation.branch t) f e = old-good n h l s (Operation.branch t) f
   call-good n h l s (Operation.call c) f e =
-      record { next-lt = place-lt (wrapped address bytes) false (omega arith); other-lt = place-lt (wrapped address bytes) true (omega arith); entry-lt = entry-low n (i .a) c e h; pos = λ _ _. pos; le = few }
-  call-good n h l s Operation.return f e = record { next-lt = omega arith; other-lt = omega arith; entry-lt = omega arith; pos = λ _ _. pos; le = few }
+      record { next-lt = place-lt (wrapped address bytes) false (omega arith); other-lt = place-lt (wrapped address bytes) true (omega arith); entry-lt = entry-low n (i .a) c e h; kind-le = omega arith; pos = λ _ _. pos; le = few }
+  call-good n h l s Operation.return f e = record { next-lt = omega arith; other-lt = omega arith; entry-lt = omega arith; kind-le = omega arith; pos = λ _ _. pos; le = few }
   call-good n h l s Operation.return-FLAG f e = old-good n h l s Operation.return-FLAG f
   call-good n h l s (Operation.IL⟵IL-and-r c) f e = old-good n h l s (Operation.IL⟵IL-and-r c) f
   call-good n h l s Operation.no-operation f e = old-good n h l s Operation.no-operation f
 
 none-good : GoodCall noNode
-none-good = record { next-lt = omega arith; other-lt = omega arith; entry-lt = omega arith; pos = λ l h. absurd (omega arith); le = omega arith }
+none-good = record { next-lt = omega arith; other-lt = omega arith; entry-lt = omega arith; kind-le = omega arith; pos = λ l h. absurd (omega arith); le = omega arith }
 
 module _ (d : Device) (rom : ℕ → ℕ) (bytes : (at : ℕ) → rom at < 256) where
   read-good : (address : ℕ) (known : Bool) → address < 8192 → (r : Read) → readAt rom address ≡ r → GoodCall (callNodeRead d address known r)

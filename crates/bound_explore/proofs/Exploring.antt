@@ -2,7 +2,7 @@
 use mathlib.Core.Path.{_≡_, sym, subst, _∙_}
 use mathlib.Core.Logic.{_⊎_, inl, inr, ⊎-elim}
 use mathlib.Core.List.{List}
-use Prim.Native.Nat.{ℕ, _+_, _<_, _≤_}
+use Prim.Native.Nat.{ℕ, _+_, _%_, _<_, _≤_}
 use native.Mathlib.Decide.{ℕ-discrete}
 use native.Mathlib.Omega.{arith}
 use lib.ListN.{length, getD, set, length-set}
@@ -50,18 +50,18 @@ module _ {d : Device} {rom : ℕ → ℕ} {v : ℕ} {k nx o c k′ nx′ o′ c�
   same-size l x len e = rw e (length-set l v x ∙ len)
 
   sized-more : Sized k′ nx′ o′ c′
-  sized-more = record { kinds = same-size k (callNodeOf d rom v .kind) (size .kinds) (lays .kind); nexts = same-size nx (callNodeOf d rom v .next) (size .nexts) (lays .next); others = same-size o (callNodeOf d rom v .other) (size .others) (lays .other); costs = same-size c (callNodeOf d rom v .cost) (size .costs) (lays .cost) }
+  sized-more = record { kinds = same-size k (callNodeOf d rom v .kind % 4) (size .kinds) (lays .kind); nexts = same-size nx (callNodeOf d rom v .next) (size .nexts) (lays .next); others = same-size o (callNodeOf d rom v .other) (size .others) (lays .other); costs = same-size c (callNodeOf d rom v .cost) (size .costs) (lays .cost) }
 
   holds-here : Holds d rom k′ nx′ o′ c′ v
-  holds-here = record { kind = stored k (callNodeOf d rom v .kind) (size .kinds) (lays .kind); next = stored nx (callNodeOf d rom v .next) (size .nexts) (lays .next); other = stored o (callNodeOf d rom v .other) (size .others) (lays .other); cost = stored c (callNodeOf d rom v .cost) (size .costs) (lays .cost) }
+  holds-here = record { kind = stored k (callNodeOf d rom v .kind % 4) (size .kinds) (lays .kind); next = stored nx (callNodeOf d rom v .next) (size .nexts) (lays .next); other = stored o (callNodeOf d rom v .other) (size .others) (lays .other); cost = stored c (callNodeOf d rom v .cost) (size .costs) (lays .cost) }
 
   holds-kept : (u : ℕ) → Dec (u ≡ v) → Holds d rom k nx o c u → Holds d rom k′ nx′ o′ c′ u
   holds-kept u (yes e) h = rw e holds-here
-  holds-kept u (no ne) h = record { kind = kept k (callNodeOf d rom v .kind) (lays .kind) u ne ∙ h .kind; next = kept nx (callNodeOf d rom v .next) (lays .next) u ne ∙ h .next; other = kept o (callNodeOf d rom v .other) (lays .other) u ne ∙ h .other; cost = kept c (callNodeOf d rom v .cost) (lays .cost) u ne ∙ h .cost }
+  holds-kept u (no ne) h = record { kind = kept k (callNodeOf d rom v .kind % 4) (lays .kind) u ne ∙ h .kind; next = kept nx (callNodeOf d rom v .next) (lays .next) u ne ∙ h .next; other = kept o (callNodeOf d rom v .other) (lays .other) u ne ∙ h .other; cost = kept c (callNodeOf d rom v .cost) (lays .cost) u ne ∙ h .cost }
 
   nothing-kept : (u : ℕ) → Dec (u ≡ v) → Nothing k nx o c u → Holds d rom k′ nx′ o′ c′ u ⊎ Nothing k′ nx′ o′ c′ u
   nothing-kept u (yes e) h = inl (rw e holds-here)
-  nothing-kept u (no ne) h = inr (record { kind = kept k (callNodeOf d rom v .kind) (lays .kind) u ne ∙ h .kind; next = kept nx (callNodeOf d rom v .next) (lays .next) u ne ∙ h .next; other = kept o (callNodeOf d rom v .other) (lays .other) u ne ∙ h .other; cost = kept c (callNodeOf d rom v .cost) (lays .cost) u ne ∙ h .cost })
+  nothing-kept u (no ne) h = inr (record { kind = kept k (callNodeOf d rom v .kind % 4) (lays .kind) u ne ∙ h .kind; next = kept nx (callNodeOf d rom v .next) (lays .next) u ne ∙ h .next; other = kept o (callNodeOf d rom v .other) (lays .other) u ne ∙ h .other; cost = kept c (callNodeOf d rom v .cost) (lays .cost) u ne ∙ h .cost })
 
 -- the place at the head is visited
 pub laying-more : {d : Device} {rom : ℕ → ℕ} {k nx o c k′ nx′ o′ c′ q q′ : List ℕ} {head count : ℕ} → Laying d rom k nx o c q head → head < count → getD q head 0 < 16384
@@ -102,8 +102,8 @@ module _ {d : Device} {rom : ℕ → ℕ} (bytes : (at : ℕ) → rom at < 256) 
   costs =
       record {
         costs = l .sized .costs;
-        on-pos = λ v h e. ⊎-elim (λ x. omega (arith, x .cost, call-node-good d rom bytes v h .pos (omega (arith, x .kind, e)) (omega (arith, x .kind, e)))) (λ x. absurd (omega (arith, x .kind, e))) (l .each v);
-        end-pos = λ v h e. ⊎-elim (λ x. omega (arith, x .cost, call-node-good d rom bytes v h .pos (omega (arith, x .kind, e)) (omega (arith, x .kind, e)))) (λ x. absurd (omega (arith, x .kind, e))) (l .each v);
+        on-pos = λ v h e. ⊎-elim (λ x. omega (arith, x .cost, call-node-good d rom bytes v h .pos (omega (arith, x .kind, e)) (call-node-good d rom bytes v h .kind-le))) (λ x. absurd (omega (arith, x .kind, e))) (l .each v);
+        end-pos = λ v h e. ⊎-elim (λ x. omega (arith, x .cost, call-node-good d rom bytes v h .pos (omega (arith, x .kind, e)) (call-node-good d rom bytes v h .kind-le))) (λ x. absurd (omega (arith, x .kind, e))) (l .each v);
         le = λ v h. ⊎-elim (λ x. omega (arith, x .cost, call-node-good d rom bytes v h .le)) (λ x. omega (arith, x .cost)) (l .each v);
       }
 

@@ -1,7 +1,7 @@
 -- The reached places of an image laid in arrays: the node of each, and nothing at the others.
 use mathlib.Core.Path.{_≡_}
 use mathlib.Core.List.{List}
-use Prim.Native.Nat.{ℕ}
+use Prim.Native.Nat.{ℕ, _%_}
 use lib.ListN.{length, getD, set}
 use Rattle.device.specs.declared.Device.{Device}
 use Rattle.graph.specs.Graph.{Graph}
@@ -10,9 +10,9 @@ use Rattle.graph_search.specs.Marks.{Marked, Blank, Listed}
 use Rattle.graph_search.specs.Search.{Reached}
 use Rattle.bound_calls.specs.CallFlow.{callNodeOf}
 
--- the places as a graph in which a call goes nowhere: the outer routine, where no call is reached
+-- the places as the graph of the outer routine, where no call is reached: there RET is excluded, and the remainder of its kind, 4, is that of an excluded place
 unfoldable pub callGraph : Device → (ℕ → ℕ) → Graph
-callGraph d rom = record { kind = λ v. callNodeOf d rom v .kind; next = λ v. callNodeOf d rom v .next; other = λ v. callNodeOf d rom v .other }
+callGraph d rom = record { kind = λ v. callNodeOf d rom v .kind % 4; next = λ v. callNodeOf d rom v .next; other = λ v. callNodeOf d rom v .other }
 
 -- a place an index
 pub record Sized (k nx o c : List ℕ) : Type 0 where
@@ -30,14 +30,14 @@ pub record Empty (k nx o c : List ℕ) : Type 0 where
 
 -- the node of v is laid
 pub record Lays (d : Device) (rom : ℕ → ℕ) (v : ℕ) (k nx o c k′ nx′ o′ c′ : List ℕ) : Type 0 where
-  pub kind : k′ ≡ set k v (callNodeOf d rom v .kind)
+  pub kind : k′ ≡ set k v (callNodeOf d rom v .kind % 4)
   pub next : nx′ ≡ set nx v (callNodeOf d rom v .next)
   pub other : o′ ≡ set o v (callNodeOf d rom v .other)
   pub cost : c′ ≡ set c v (callNodeOf d rom v .cost)
 
 -- the arrays hold the node of v
 pub record Holds (d : Device) (rom : ℕ → ℕ) (k nx o c : List ℕ) (v : ℕ) : Type 0 where
-  pub kind : getD k v 0 ≡ callNodeOf d rom v .kind
+  pub kind : getD k v 0 ≡ callNodeOf d rom v .kind % 4
   pub next : getD nx v 0 ≡ callNodeOf d rom v .next
   pub other : getD o v 0 ≡ callNodeOf d rom v .other
   pub cost : getD c v 0 ≡ callNodeOf d rom v .cost

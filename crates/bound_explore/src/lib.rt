@@ -32,11 +32,12 @@ fn visit(
         × Visited (callGraph d (romOf (now (image .entry)) p3)) v (now (m .exit)) ⌝ }
 {
     let x = node_at(d, image, p3, v);
-    kind[v] = x.kind;
+    let k = x.kind % 4;
+    kind[v] = k;
     next[v] = x.next;
     other[v] = x.other;
     cost[v] = x.cost;
-    if x.kind != 1 {
+    if k != 1 {
         return count;
     }
     let next_count = mark(m, q, count, x.next as usize);

@@ -46,32 +46,20 @@ same-length-4 c = search needs
 
 returns : tie.Need-returns
 returns c =
-    let args = c .before .before .before .before .before .before .before .before .before .before .args in
-    let node-at = c .before .before .node-at in
-    (laid-node _ _ _ _ (node-at .ensures) _ _ _ _, nothing-follows _ _ _ _ (node-at .ensures) _ _ _ (c .if1 .taken) .0, nothing-follows _ _ _ _ (node-at .ensures) _ (args .q .now) (args .count) (c .if1 .taken) .1)
+    let none = nothing-follows _ _ _ _ (c .before .before .node-at .ensures) _ (c .before .before .before .before .before .before .before .before .before .before .args .q .now) (c .before .before .before .before .before .before .before .before .before .before .args .count) (c .if1 .taken) in
+    (laid-node _ _ _ _ (c .before .before .node-at .ensures) _ _ _ _, none .0, none .1)
 
 cast-mark : tie.Need-cast-mark
 cast-mark c = search needs
 
 mark-requires : tie.Need-mark-requires
-mark-requires c κs =
-    let pre = c .before .before .before .before .before .before .before .before .before .before .before .before .before .pre in
-    let args = c .before .before .before .before .before .before .before .before .before .before .before .before .before .args in
-    let shared-slice-known = c .before .before .before .before .before .before .before .before .before .before .before .before .shared-slice-known in
-    let node-at = c .before .before .before .before .before .node-at in
-    (pre .2, rw (node-at .ensures, pre .3) (call-node-good (args .d) (romOf (now (args .image)) (args .p3)) (λ at. shared-slice-known .given (inImage (args .p3) at) .fits) (args .v) (pre .4) .next-lt))
+mark-requires c κs = (c .before .before .before .before .before .before .before .before .before .before .before .before .before .pre .2, rw (c .before .before .before .before .before .node-at .ensures, c .before .before .before .before .before .before .before .before .before .before .before .before .before .pre .3) (call-node-good (c .before .before .before .before .before .before .before .before .before .before .before .before .before .args .d) (romOf (now (c .before .before .before .before .before .before .before .before .before .before .before .before .before .args .image)) (c .before .before .before .before .before .before .before .before .before .before .before .before .before .args .p3)) (λ at. c .before .before .before .before .before .before .before .before .before .before .before .before .shared-slice-known .given (inImage (c .before .before .before .before .before .before .before .before .before .before .before .before .before .args .p3) at) .fits) (c .before .before .before .before .before .before .before .before .before .before .before .before .before .args .v) (c .before .before .before .before .before .before .before .before .before .before .before .before .before .pre .4) .next-lt))
 
 cast-mark-2 : tie.Need-cast-mark-2
 cast-mark-2 c = search needs
 
 mark-requires-2 : tie.Need-mark-requires-2
-mark-requires-2 c κs =
-    let pre = c .before .before .before .before .before .before .before .before .before .before .before .before .before .before .before .before .before .before .before .before .before .pre in
-    let args = c .before .before .before .before .before .before .before .before .before .before .before .before .before .before .before .before .before .before .before .before .before .args in
-    let shared-slice-known = c .before .before .before .before .before .before .before .before .before .before .before .before .before .before .before .before .before .before .before .before .shared-slice-known in
-    let node-at = c .before .before .before .before .before .before .before .before .before .before .before .before .before .node-at in
-    let mark = c .before .before .before .before .before .before .before .mark in
-    (room-grown (pre .2) (mark .ensures .0) (mark .kept .0) (mark .kept .1 .0), rw (node-at .ensures, mark .kept .0, pre .3) (call-node-good (args .d) (romOf (now (args .image)) (args .p3)) (λ at. shared-slice-known .given (inImage (args .p3) at) .fits) (args .v) (pre .4) .other-lt))
+mark-requires-2 c κs = (room-grown (c .before .before .before .before .before .before .before .before .before .before .before .before .before .before .before .before .before .before .before .before .before .pre .2) (c .before .before .before .before .before .before .before .mark .ensures .0) (c .before .before .before .before .before .before .before .mark .kept .0) (c .before .before .before .before .before .before .before .mark .kept .1 .0), rw (c .before .before .before .before .before .before .before .before .before .before .before .before .before .node-at .ensures, c .before .before .before .before .before .before .before .mark .kept .0, c .before .before .before .before .before .before .before .before .before .before .before .before .before .before .before .before .before .before .before .before .before .pre .3) (call-node-good (c .before .before .before .before .before .before .before .before .before .before .before .before .before .before .before .before .before .before .before .before .before .args .d) (romOf (now (c .before .before .before .before .before .before .before .before .before .before .before .before .before .before .before .before .before .before .before .before .before .args .image)) (c .before .before .before .before .before .before .before .before .before .before .before .before .before .before .before .before .before .before .before .before .before .args .p3)) (λ at. c .before .before .before .before .before .before .before .before .before .before .before .before .before .before .before .before .before .before .before .before .shared-slice-known .given (inImage (c .before .before .before .before .before .before .before .before .before .before .before .before .before .before .before .before .before .before .before .before .before .args .p3) at) .fits) (c .before .before .before .before .before .before .before .before .before .before .before .before .before .before .before .before .before .before .before .before .before .args .v) (c .before .before .before .before .before .before .before .before .before .before .before .before .before .before .before .before .before .before .before .before .before .pre .4) .other-lt))
 
 same-length-5 : tie.Need-same-length-5
 same-length-5 c = search needs
@@ -93,11 +81,8 @@ same-length-10 c = search needs
 
 returns-2 : tie.Need-returns-2
 returns-2 c =
-    let node-at = c .before .before .before .before .before .before .before .before .before .before .before .before .before .before .before .before .before .before .node-at in
-    let if1 = c .before .before .before .before .before .before .before .before .before .before .before .before .before .before .before .before .if1 in
-    let mark = c .before .before .before .before .before .before .before .before .before .before .before .before .mark in
-    let mark2 = c .before .before .before .before .mark2 in
-    (laid-node _ _ _ _ (node-at .ensures) _ _ _ _, both-follow _ _ _ _ (node-at .ensures) (if1 .left) (mark .ensures) (mark2 .ensures) .0, both-follow _ _ _ _ (node-at .ensures) (if1 .left) (mark .ensures) (mark2 .ensures) .1)
+    let both = both-follow _ _ _ _ (c .before .before .before .before .before .before .before .before .before .before .before .before .before .before .before .before .before .before .node-at .ensures) (c .before .before .before .before .before .before .before .before .before .before .before .before .before .before .before .before .if1 .left) (c .before .before .before .before .before .before .before .before .before .before .before .before .mark .ensures) (c .before .before .before .before .mark2 .ensures) in
+    (laid-node _ _ _ _ (c .before .before .before .before .before .before .before .before .before .before .before .before .before .before .before .before .before .before .node-at .ensures) _ _ _ _, both .0, both .1)
 
 pub visit-spec : {M : Type 1} → statement M
 visit-spec =
