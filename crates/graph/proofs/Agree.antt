@@ -4,7 +4,7 @@ use mathlib.Core.Logic.{inl, inr, ⊎-elim}
 use mathlib.Core.List.{List}
 use Prim.Native.Nat.{ℕ, _+_}
 use native.Mathlib.Omega.{arith}
-use Rattle.graph.specs.Graph.{Graph, GoesOn, Excluded, Edge, Reach, here, step, Path, ends, goes, sum, Longest, stop, by-next, by-other, Least, Bad, Loops, Sound}
+use Rattle.graph.specs.Graph.{Graph, GoesOn, Excluded, Edge, Reach, here, step, Path, ends, goes, sum, Longest, stop, by-next, by-other, nextOnly, Least, Bad, Loops, Sound}
 use Rattle.graph.proofs.Reach.{reach-snoc}
 use Rattle.graph.proofs.Unique.{longest-path}
 
@@ -84,6 +84,17 @@ module _ {g g′ : Graph} {c c′ : ℕ → ℕ} {s : ℕ} (a : Agree g g′ c c
       by-other (sym (a .kind v r) ∙ k) (rw (a .other v r k) at (longest-to ro b)) (λ l′ p.
       let q = path-of (reach-snoc r (k, inl refl)) (a .next v r k) p in
       omega (arith, m l′ (q .0), q .1, sum-same a ro (longest-path b)))
+
+  -- the path by next
+  next-on : {v : ℕ} {l : List ℕ} → Reach g s v → Path (nextOnly g) v l → Path (nextOnly g′) v l
+  unfolding nextOnly
+  next-on r (ends {v} k) = ends (sym (a .kind v r) ∙ k)
+  next-on r (goes {v} {w} e p) =
+      let n : w ≡ g .next v = ⊎-elim (λ x. x) (λ x. x) (e .1) in
+      goes (sym (a .kind v r) ∙ e .0, inl (n ∙ a .next v r (e .0))) (next-on (reach-snoc r (e .0, inl n)) p)
+
+  pub next-to : {l : List ℕ} → Path (nextOnly g) s l → Path (nextOnly g′) s l
+  next-to = next-on here
 
   pub least-bad-to : {v : ℕ} → Least (Bad g s) v → Least (Bad g′ s) v
   least-bad-to p = record { holds = bad-to a (p .holds); least = λ b q. p .least b (bad-to (agree-sym a) q) }

@@ -64,6 +64,10 @@ pub data Longest (g : Graph) (c : ℕ → ℕ) : ℕ → List ℕ → Type 0 whe
   by-next : {v : ℕ} {l : List ℕ} → GoesOn g v → Longest g c (g .next v) l → AtMost g c (g .other v) (sum c l) → Longest g c v (v ∷ l)
   by-other : {v : ℕ} {l : List ℕ} → GoesOn g v → Longest g c (g .other v) l → Below g c (g .next v) (sum c l) → Longest g c v (v ∷ l)
 
+-- the same places, with next for other: its one path takes next at every fork
+unfoldable pub nextOnly : Graph → Graph
+nextOnly g = record { kind = g .kind; next = g .next; other = g .next }
+
 -- a is the least number with P
 pub record Least (P : ℕ → Type 0) (a : ℕ) : Type 0 where
   pub holds : P a

@@ -1,8 +1,7 @@
 // The longest path from a place, or why there is none.
 use graph::PLACES;
 use graph_loops::first_loop;
-use graph_route::path_len;
-use graph_route::write_path;
+use graph_route::write_both;
 use graph_search::lowest;
 use graph_sums::sums;
 ghost use mathlib.Core.Path.{_≡_};
@@ -32,6 +31,7 @@ fn find(
     queue: &[u16],
     count: usize,
     path: &mut [u8],
+    deep: &mut [u8],
     d: &mut [u32],
     stage: &mut [u8],
     back: &mut [u16],
@@ -39,7 +39,7 @@ fn find(
     requires { ⌜ Laid (now kind) (now next) (now other) places × Costs (now kind) (now cost) places × (s < places) × (length (now marks) ≡ places)
         × Reached (graphOf (now kind) (now next) (now other)) s (now marks) × Listed (now marks) (now queue) count
         × (length (now d) ≡ places) × Blank (now d) × (length (now stage) ≡ places) × (length (now back) ≡ places) × Blank (now back) ⌝ }
-    ensures { λ r. ⌜ Means (graphOf (now (kind .entry)) (now (next .entry)) (now (other .entry))) (costOf (now (cost .entry))) s (now (path .entry)) (now (path .exit)) r ⌝ }
+    ensures { λ r. ⌜ Means (graphOf (now (kind .entry)) (now (next .entry)) (now (other .entry))) (costOf (now (cost .entry))) s (now (path .entry)) (now (path .exit)) (now (deep .entry)) (now (deep .exit)) r ⌝ }
 {
     let bad = lowest(kind, queue, count);
     if bad < PLACES {
@@ -50,17 +50,16 @@ fn find(
         let v = first_loop(kind, next, other, s, marks, queue, count);
         return Found::Repeats(v);
     }
-    let n = 2 * path_len(kind, next, other, d, s);
-    if path.len() < n {
-        return Found::Short(n);
+    let short = write_both(kind, next, other, d, s, path, deep);
+    if short != 0 {
+        return Found::Short(short);
     }
-    write_path(kind, next, other, d, s, path);
     let most = d[s] as usize;
     Found::Longest(most)
 }
 
-// The longest path from s, of 16,384 places: its sum, with its labels in the buffer; or the lowest excluded place that is reached, or else the lowest
-// place that is reached from itself, or else the bytes that the path needs, where the buffer is too short. marks and queue tell what is reached from s.
+// The longest path from s, of 16,384 places: its sum, with its labels in the first buffer and those of the path that takes next at every fork in the second; or the lowest excluded place that is reached, or else the lowest
+// place that is reached from itself, or else the bytes needed for the first buffer that is too short. marks and queue tell what is reached from s.
 pub fn longest(
     kind: &[u8],
     next: &[u16],
@@ -71,10 +70,11 @@ pub fn longest(
     queue: &[u16],
     count: usize,
     path: &mut [u8],
+    deep: &mut [u8],
 ) -> Found
     requires { ⌜ Laid (now kind) (now next) (now other) places × Costs (now kind) (now cost) places × (s < places) × (length (now marks) ≡ places)
         × Reached (graphOf (now kind) (now next) (now other)) s (now marks) × Listed (now marks) (now queue) count ⌝ }
-    ensures { λ r. ⌜ Means (graphOf (now (kind .entry)) (now (next .entry)) (now (other .entry))) (costOf (now (cost .entry))) s (now (path .entry)) (now (path .exit)) r ⌝ }
+    ensures { λ r. ⌜ Means (graphOf (now (kind .entry)) (now (next .entry)) (now (other .entry))) (costOf (now (cost .entry))) s (now (path .entry)) (now (path .exit)) (now (deep .entry)) (now (deep .exit)) r ⌝ }
 {
     let mut d = [0u32; PLACES];
     let mut stage = [0u8; PLACES];
@@ -89,6 +89,7 @@ pub fn longest(
         queue,
         count,
         path,
+        deep,
         &mut d,
         &mut stage,
         &mut back,

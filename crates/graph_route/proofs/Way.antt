@@ -1,16 +1,18 @@
 -- There is one way from a place with a sum, it ends, and it is the longest path.
 use mathlib.Core.Path.{_≡_, refl, sym, ap, _∙_}
-use mathlib.Core.Logic.{_⊎_, inl, inr}
+use mathlib.Core.Logic.{_⊎_, inl, inr, ⊎-elim}
 use mathlib.Core.List.{List, [], _∷_}
-use Prim.Native.Nat.{ℕ, zero, suc, _+_, _≤_, _<_}
+use Prim.Native.Nat.{ℕ, zero, suc, _+_, _*_, _≤_, _<_}
 use native.Mathlib.Omega.{arith}
 use native.Mathlib.Decide.{decLt}
 use lib.ListN.{length, getD}
-use Rattle.graph.specs.Graph.{Graph, GoesOn, Ends, Edge, Longest, stop, by-next, by-other, sum}
+use Rattle.graph.specs.Graph as graph
+use Rattle.graph.specs.Laid.{graphOf, Laid}
+use Rattle.graph.specs.Graph.{Graph, GoesOn, Ends, Edge, Path, Longest, stop, by-next, by-other, sum}
 use Rattle.graph_search.proofs.Zeros.{marked-lt}
 use Rattle.graph_sums.specs.Dist.{Value, ends, forks, Dist}
 use Rattle.graph_sums.proofs.Meaning.{edge-down, at-most}
-use Rattle.graph_route.specs.Route.{Falls, Turn, to-next, to-other, Route, last, turn, Along, LengthIs}
+use Rattle.graph_route.specs.Route.{Falls, Turn, to-next, to-other, Route, last, turn, Along, LengthIs, Roomy}
 
 -- the sums fall
 pub falls-of : {g : Graph} {c : ℕ → ℕ} {d : List ℕ} → Dist g c d → ((v : ℕ) → 0 < getD d v 0 → 0 < c v) → Falls g d
@@ -114,3 +116,19 @@ route-longest {g} {c} {d} dist (turn {v} {w} {l} k t r) h = go (route-longest di
     go ih (to-other e lt) (forks k′ a b x) =
         let p = rw e at (ih (rw e b)) in
         (by-other k (p .0) (λ l′ q. omega (arith, at-most dist q a, p .1)), omega (arith, p .1))
+
+-- the way by next: what falls along each edge falls along next
+pub falls-next : (k nx o : List ℕ) {d : List ℕ} → Falls (graphOf k nx o) d → Falls (graphOf k nx nx) d
+unfolding graphOf
+falls-next k nx o f = record { down = λ v w h e. f .down v w h (e .0, ⊎-elim inl inl (e .1)); goes-on = λ v h. f .goes-on v h }
+
+pub laid-next : {k nx o : List ℕ} {n : ℕ} → Laid k nx o n → Laid k nx nx n
+laid-next l = record { kinds = l .kinds; nexts = l .nexts; others = l .nexts; small = l .small; next-lt = l .next-lt; other-lt = l .next-lt }
+
+pub route-path : {g : Graph} {d l : List ℕ} {v : ℕ} → Route g d v l → Path g v l
+route-path (last k) = graph.Path.ends k
+route-path (turn k t q) = graph.Path.goes (turn-edge k t) (route-path q)
+
+-- there is room for the way
+pub is-roomy : {g : Graph} {d : List ℕ} {s : ℕ} (p : List ℕ) (r : ℕ) → LengthIs g d s r → 2 * r ≤ length p → Roomy g d s p
+is-roomy p r len l = record { route = len .route; is = len .is; fits = omega (arith, len .len) }

@@ -4,7 +4,7 @@ use mathlib.Core.Logic.{_⊎_}
 use mathlib.Core.List.{List, [], _∷_, _++_}
 use Prim.Native.Nat.{ℕ, _+_, _*_, _/_, _%_, _≤_, _<_}
 use lib.ListN.{length, getD, drop}
-use Rattle.graph.specs.Graph.{Graph, GoesOn, Ends, Edge}
+use Rattle.graph.specs.Graph.{Graph, GoesOn, Ends, Edge, nextOnly}
 
 -- along an edge the sums fall, and where there is one the place goes on or ends
 pub record Falls (g : Graph) (d : List ℕ) : Type 0 where
@@ -68,3 +68,9 @@ pub record Written (g : Graph) (d : List ℕ) (s : ℕ) (p p′ : List ℕ) : Ty
   pub is : Route g d s route
   pub room : 2 * length route ≤ length p
   pub bytes : p′ ≡ encode route ++ drop (2 * length route) p
+
+-- two ways from s, the one that the sums show and the one by next, each with a buffer: both are written and r is 0, or nothing is and r is the bytes needed for the first that is short
+pub data Both (g : Graph) (d : List ℕ) (s : ℕ) (p p′ q q′ : List ℕ) (r : ℕ) : Type 0 where
+  first-short : {n : ℕ} → LengthIs g d s n → r ≡ 2 * n → length p < r → p′ ≡ p → q′ ≡ q → Both g d s p p′ q q′ r
+  second-short : {n k : ℕ} → LengthIs g d s n → 2 * n ≤ length p → LengthIs (nextOnly g) d s k → r ≡ 2 * k → length q < r → p′ ≡ p → q′ ≡ q → Both g d s p p′ q q′ r
+  written : r ≡ 0 → Written g d s p p′ → Written (nextOnly g) d s q q′ → Both g d s p p′ q q′ r

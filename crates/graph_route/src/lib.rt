@@ -4,7 +4,7 @@ ghost use Prim.Native.Nat.{_+_, _/_, _%_, _<_, _≤_};
 ghost use lib.ListN.{length, getD, set};
 ghost use Rattle.graph.specs.Laid.{mostNodes};
 ghost use Rattle.graph.specs.Laid.{graphOf, Laid};
-ghost use Rattle.graph_route.specs.Route.{Falls, Turn, LengthIs, Roomy, Written};
+ghost use Rattle.graph_route.specs.Route.{Falls, Turn, LengthIs, Roomy, Written, Both};
 
 // The successor with the greater sum.
 fn go_on(kind: &[u8], next: &[u16], other: &[u16], d: &[u32], v: usize) -> usize
@@ -55,4 +55,30 @@ pub fn write_path(kind: &[u8], next: &[u16], other: &[u16], d: &[u32], s: usize,
         at += 2;
     }
     put(path, at, v);
+}
+
+// Writes the way from s, and in a buffer of its own the way that takes next at every fork, which is that of the graph with next for other; or, where a buffer is too short, neither. Returns the bytes needed for the first that is too short, or 0.
+pub fn write_both(
+    kind: &[u8],
+    next: &[u16],
+    other: &[u16],
+    d: &[u32],
+    s: usize,
+    path: &mut [u8],
+    deep: &mut [u8],
+) -> usize
+    requires { ⌜ Laid (now kind) (now next) (now other) (length (now d)) × Falls (graphOf (now kind) (now next) (now other)) (now d) × (0 < getD (now d) s 0) ⌝ }
+    ensures { λ r. ⌜ Both (graphOf (now (kind .entry)) (now (next .entry)) (now (other .entry))) (now (d .entry)) s (now (path .entry)) (now (path .exit)) (now (deep .entry)) (now (deep .exit)) r ⌝ }
+{
+    let n = 2 * path_len(kind, next, other, d, s);
+    if path.len() < n {
+        return n;
+    }
+    let m = 2 * path_len(kind, next, next, d, s);
+    if deep.len() < m {
+        return m;
+    }
+    write_path(kind, next, other, d, s, path);
+    write_path(kind, next, next, d, s, deep);
+    0
 }

@@ -16,11 +16,14 @@ slice-aggregate-find-3 c = search needs
 
 find-requires : tie.Need-find-requires
 find-requires c κs =
-    let pre = c .before .before .before .before .before .before .before .before .before .before .before .pre in
+    let pre = c .before .before .before .before .before .before .before .before .before .before .before .before .before .pre in
     (pre .0, pre .1, pre .2, pre .3, pre .4, pre .5, refl, blank-zeros 16384, refl, refl, blank-zeros 16384)
 
 same-length : tie.Need-same-length
 same-length c = search needs
+
+same-length-2 : tie.Need-same-length-2
+same-length-2 c = search needs
 
 returns : tie.Need-returns
 returns c = search needs
@@ -34,4 +37,5 @@ longest-spec =
     slice-aggregate-find-3
     find-requires
     same-length
+    same-length-2
     returns)
