@@ -21,13 +21,13 @@ use Rattle.routines_whole.specs.Coded.{Shaped, Coded, innOf, outOf}
 use Rattle.routines_whole.proofs.Bytes.{is-on, is-call, is-end, written-is-path}
 
 -- below the cap the sums fall, as write_path asks
-pub fall-of : {g : Graph} {c : ℕ → ℕ} {d : List ℕ} → Dist g c d → ((v : ℕ) → 0 < getD d v 0 → 0 < c v) → ((v : ℕ) → getD d v 0 < 65536) → Fall g d
-fall-of {g} {c} {d} dist pos low = record { at = λ v h. go v (pos v h) (low v) (dist .value v h) }
+pub fall-of : {g : Graph} {c : ℕ → ℕ} {d dep : List ℕ} → Dist g c d dep → ((v : ℕ) → 0 < getD d v 0 → 0 < c v) → ((v : ℕ) → getD d v 0 < 65536) → Fall g d
+fall-of {g} {c} {d} {dep} dist pos low = record { at = λ v h. go v (pos v h) (low v) (dist .value v h) }
   where
-    go : (v : ℕ) → 0 < c v → getD d v 0 < 65536 → Value g c d v (getD d v 0) → Falls g d v
-    go v p l (ends k e) = way.Falls.ends k
-    go v p l (forks k a b e) = way.Falls.forks k a (omega arith) b (omega arith)
-    go v p l (calls k a b e) = way.Falls.calls k a b (omega arith)
+    go : (v : ℕ) → 0 < c v → getD d v 0 < 65536 → Value g c d dep v (getD d v 0) (getD dep v 0) → Falls g d v
+    go v p l (ends k e y) = way.Falls.ends k
+    go v p l (forks k a b e y) = way.Falls.forks k a (omega arith) b (omega arith)
+    go v p l (calls k a b e y) = way.Falls.calls k a b (omega arith)
 
 fork-same : (x y c c′ a a′ b b′ : ℕ) → x ≡ y → c ≡ c′ → a ≡ a′ → b ≡ b′ → x ≡ min 65536 (c + max a b) → y ≡ min 65536 (c′ + max a′ b′)
 fork-same x y c c′ a a′ b b′ p q r s e = cc
@@ -35,8 +35,8 @@ fork-same x y c c′ a a′ b b′ p q r s e = cc
 call-same : (x y c c′ a a′ b b′ : ℕ) → x ≡ y → c ≡ c′ → a ≡ a′ → b ≡ b′ → x ≡ min 65536 (c + (a + b)) → y ≡ min 65536 (c′ + (a′ + b′))
 call-same x y c c′ a a′ b b′ p q r s e = cc
 
-module _ (f : Flow) (K : ℕ → Bool) (g : Graph) (c cycles : ℕ → ℕ) (d : List ℕ) (shape : Shaped f K g) (costs : (r : Routine) (v : ℕ) → Live f K r → In f K r v → c (code 0 r v) ≡ cycles v)
-    (no-bad : (v : ℕ) → IsBad f K v → ⊥) (dist : Dist g c d) (has : (r : Routine) (v : ℕ) → Live f K r → In f K r v → 0 < getD d (code 0 r v) 0) where
+module _ (f : Flow) (K : ℕ → Bool) (g : Graph) (c cycles : ℕ → ℕ) (d dep : List ℕ) (shape : Shaped f K g) (costs : (r : Routine) (v : ℕ) → Live f K r → In f K r v → c (code 0 r v) ≡ cycles v)
+    (no-bad : (v : ℕ) → IsBad f K v → ⊥) (dist : Dist g c d dep) (has : (r : Routine) (v : ℕ) → Live f K r → In f K r v → 0 < getD d (code 0 r v) 0) where
   pub coded : Coded f K g d (innOf d) (outOf d)
   coded = record { shape = shape; sums = λ r v l i. go r v }
     where
@@ -52,13 +52,13 @@ module _ (f : Flow) (K : ℕ → Bool) (g : Graph) (c cycles : ℕ → ℕ) (d :
       at outer v = refl
       at (called e) v = refl
 
-      go : (r : Routine) (v : ℕ) → Live f K r → In f K r v → Value g c d (code 0 r v) (getD d (code 0 r v) 0) → CappedValue f K cycles 65536 (innOf d) (outOf d) r v
-      go r v l i (ends k e) = CappedValue.ends (is-end f K g d (innOf d) (outOf d) coded no-bad r v l i k) (sym (at r v) ∙ e ∙ ap (λ (x : ℕ). min 65536 x) (costs r v l i))
-      go r v l i (forks k a b e) =
+      go : (r : Routine) (v : ℕ) → Live f K r → In f K r v → Value g c d dep (code 0 r v) (getD d (code 0 r v) 0) (getD dep (code 0 r v) 0) → CappedValue f K cycles 65536 (innOf d) (outOf d) r v
+      go r v l i (ends k e y) = CappedValue.ends (is-end f K g d (innOf d) (outOf d) coded no-bad r v l i k) (sym (at r v) ∙ e ∙ ap (λ (x : ℕ). min 65536 x) (costs r v l i))
+      go r v l i (forks k a b e y) =
           let on = is-on f K g d (innOf d) (outOf d) coded no-bad r v l i k in
           let o = shape .on r v l i on in
           CappedValue.forks on (fork-same _ _ _ _ _ _ _ _ (at r v) (costs r v l i) (ap (λ (x : ℕ). getD d x 0) (o .next) ∙ at r (f .next v)) (ap (λ (x : ℕ). getD d x 0) (o .other) ∙ at r (f .other v)) e)
-      go r v l i (calls k a b e) =
+      go r v l i (calls k a b e y) =
           let on = is-call f K g d (innOf d) (outOf d) coded no-bad r v l i k in
           let o = shape .call r v l i on in
           CappedValue.calls on (call-same _ _ _ _ _ _ _ _ (at r v) (costs r v l i) (ap (λ (x : ℕ). getD d x 0) (o .next)) (ap (λ (x : ℕ). getD d x 0) (o .other) ∙ at r (after f K v)) e)
