@@ -48,8 +48,8 @@ pub record Dist (g : Graph) (c : ℕ → ℕ) (d dep : List ℕ) : Type 0 where
 pub data Idle (g : Graph) (d : List ℕ) (v : ℕ) : Type 0 where
   has : 0 < getD d v 0 → Idle g d v
   out : (g .kind v ≡ 1 → ⊥) → (g .kind v ≡ 2 → ⊥) → (g .kind v ≡ 3 → ⊥) → Idle g d v
-  next-waits : getD d (g .next v) 0 ≡ 0 → Idle g d v
-  other-waits : getD d (g .other v) 0 ≡ 0 → Idle g d v
+  next-waits : (g .kind v ≡ 2 → ⊥) → getD d (g .next v) 0 ≡ 0 → Idle g d v
+  other-waits : (g .kind v ≡ 2 → ⊥) → getD d (g .other v) 0 ≡ 0 → Idle g d v
 
 -- v was settled: r is 1 where that changed d, else 0
 pub record Settled (g : Graph) (c : ℕ → ℕ) (d : List ℕ) (v : ℕ) (d′ dep′ : List ℕ) (r : ℕ) : Type 0 where

@@ -77,7 +77,7 @@ slice-read-a c = let p = c .before .before .before .before .before .before .befo
 
 returns-4 : tie.Need-returns-4
 unfolding graphOf
-returns-4 c = settle-keep (c .before .before .before .before .before .before .before .before .before .before .before .before .before .before .before .pre .2) (next-waits (c .if4 .taken))
+returns-4 c = settle-keep (c .before .before .before .before .before .before .before .before .before .before .before .before .before .before .before .pre .2) (next-waits (c .before .before .before .before .before .if2 .left) (c .if4 .taken))
 
 mul-j : tie.Need-mul-j
 mul-j c = search needs
@@ -96,7 +96,7 @@ slice-read-b c = let p = c .before .before .before .before .before .before .befo
 
 returns-5 : tie.Need-returns-5
 unfolding graphOf
-returns-5 c = settle-keep (c .before .before .before .before .before .before .before .before .before .before .before .before .before .before .before .before .before .before .pre .2) (other-waits (c .if5 .taken))
+returns-5 c = settle-keep (c .before .before .before .before .before .before .before .before .before .before .before .before .before .before .before .before .before .before .pre .2) (other-waits (c .before .before .before .before .before .before .before .before .if2 .left) (c .if5 .taken))
 
 mul-worth : tie.Need-mul-worth
 mul-worth c = search needs
