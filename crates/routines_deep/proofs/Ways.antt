@@ -1,16 +1,14 @@
--- There is one way to the goal, and its bytes are written place by place.
+-- There is one way to the goal.
 use mathlib.Core.Path.{_≡_, refl, sym, ap, _∙_}
 use mathlib.Core.Logic.{_⊎_, inl, inr}
-use mathlib.Core.List.{List, [], _∷_, _++_, append-assoc}
-use Prim.Native.Nat.{ℕ, suc, _+_, _*_, _/_, _%_, _≤_, _<_, max}
+use mathlib.Core.List.{List, [], _∷_}
+use Prim.Native.Nat.{ℕ, suc, _≤_, _<_}
 use native.Mathlib.Omega.{arith}
-use lib.ListN.{length, getD, set, drop, length-append, length-set}
+use lib.ListN.{length, getD, set, length-set}
 use Rattle.graph.specs.Graph.{Graph}
 use Rattle.graph.specs.Laid.{graphOf}
-use Rattle.routines_route.specs.Way.{openOf, encode}
-use Rattle.routines_route.proofs.Bytes.{put-more}
-use Rattle.routines_route.proofs.Ways.{open-length}
-use Rattle.routines_deep.specs.Deep.{later, total, Move, to-next, to-other, into, back, Route, last, move, Pended, Goes, Roomy, Writing, Written}
+use Rattle.routines_route.specs.Way.{openOf}
+use Rattle.routines_deep.specs.Deep.{later, Move, to-next, to-other, into, back, Route, last, move, Pended, Goes}
 
 -- there is one move only
 move-unique : {g : Graph} {dep ks ks₁ ks₂ : List ℕ} {goal reached v y₁ y₂ w₁ w₂ : ℕ} → Move g dep goal reached ks v y₁ ks₁ w₁ → Move g dep goal reached ks v y₂ ks₂ w₂ → (y₁ ≡ y₂) × (ks₁ ≡ ks₂) × (w₁ ≡ w₂)
@@ -37,21 +35,21 @@ move-end z (to-other k e h) = omega arith
 move-end z (into k e h m) = omega arith
 
 -- at most one call more is open
-move-opens : {g : Graph} {dep ks ks′ : List ℕ} {goal reached y v w : ℕ} → Move g dep goal reached ks v y ks′ w → length ks′ ≤ suc (length ks)
+pub move-opens : {g : Graph} {dep ks ks′ : List ℕ} {goal reached y v w : ℕ} → Move g dep goal reached ks v y ks′ w → length ks′ ≤ suc (length ks)
 move-opens (to-next k e h) = omega arith
 move-opens (to-other k e h) = omega arith
 move-opens (into k e h m) = omega arith
 move-opens (back k) = omega arith
 
-route-after : {g : Graph} {dep ks ks′ : List ℕ} {goal reached y v w : ℕ} {l : List ℕ} → Move g dep goal reached ks v y ks′ w → Route g dep goal reached ks v l → (t : List ℕ) × (l ≡ v ∷ t) × Route g dep goal y ks′ w t
+pub route-after : {g : Graph} {dep ks ks′ : List ℕ} {goal reached y v w : ℕ} {l : List ℕ} → Move g dep goal reached ks v y ks′ w → Route g dep goal reached ks v l → (t : List ℕ) × (l ≡ v ∷ t) × Route g dep goal y ks′ w t
 route-after m (last k) = absurd (move-end k m)
 route-after m (move {l = l} m′ r) = let e = move-unique m m′ in (l, refl, rw (e .0, e .1, e .2) r)
 
-route-end : {g : Graph} {dep : List ℕ} {goal reached v : ℕ} {l : List ℕ} → g .kind v ≡ 2 → Route g dep goal reached [] v l → l ≡ v ∷ []
+pub route-end : {g : Graph} {dep : List ℕ} {goal reached v : ℕ} {l : List ℕ} → g .kind v ≡ 2 → Route g dep goal reached [] v l → l ≡ v ∷ []
 route-end z (last k) = refl
 route-end z (move m r) = absurd (move-end z m)
 
-route-length : {g : Graph} {dep ks : List ℕ} {goal reached v : ℕ} {l : List ℕ} → Route g dep goal reached ks v l → length ks < length l
+pub route-length : {g : Graph} {dep ks : List ℕ} {goal reached v : ℕ} {l : List ℕ} → Route g dep goal reached ks v l → length ks < length l
 route-length (last k) = omega arith
 route-length (move (to-next k e h) r) = omega (arith, route-length r)
 route-length (move (to-other k e h) r) = omega (arith, route-length r)
@@ -81,42 +79,3 @@ pended-start dep stack pend e = record { at = λ t h. go t h }
   where
     go : (t : ℕ) → t ≤ 0 → getD pend t 0 ≡ later dep (openOf stack t)
     go t h = let z : t ≡ 0 = omega arith in rw z e
-
-pub writing-start : {g : Graph} {dep p : List ℕ} {goal s stack : ℕ} → Roomy g dep goal s p stack → Writing g dep goal s p stack p 0 [] s 0
-unfolding encode
-writing-start r = record { route = r .route; is = r .is; fits = r .fits; few = r .few; pre = []; rest = r .route; split = refl; rest-is = r .is; at-is = refl; bytes = refl; opens = omega arith }
-
-module _ {g : Graph} {dep p p′ ks : List ℕ} {goal s reached v at stack : ℕ} (wr : Writing g dep goal s p stack p′ reached ks v at) where
-  pub writing-room : at + 2 ≤ length p
-  writing-room = omega (arith, wr .at-is, wr .fits, ap length (wr .split), length-append (wr .pre) (wr .rest), route-length (wr .rest-is))
-
-  pub writing-stack : length ks < stack
-  writing-stack = omega (arith, wr .few, wr .opens, ap length (wr .split), length-append (wr .pre) (wr .rest), route-length (wr .rest-is))
-
-  put-bytes : (p″ : List ℕ) → p″ ≡ set (set p′ at (v / 4 % 256)) (at + 1) (v / 1024 % 256) → p″ ≡ encode (wr .pre ++ (v ∷ [])) ++ drop (at + 2) p
-  put-bytes p″ e =
-      e ∙ ap (λ (l : List ℕ). set (set l at (v / 4 % 256)) (at + 1) (v / 1024 % 256)) (wr .bytes) ∙ put-more p (wr .pre) at v (wr .at-is) writing-room
-
-  pub writing-more : {w y : ℕ} {ks′ : List ℕ} (p″ : List ℕ) → Move g dep goal reached ks v y ks′ w → p″ ≡ set (set p′ at (v / 4 % 256)) (at + 1) (v / 1024 % 256) → Writing g dep goal s p stack p″ y ks′ w (at + 2)
-  writing-more {w} {y} {ks′} p″ m e =
-      let x = route-after m (wr .rest-is) in
-      record {
-        route = wr .route;
-        is = wr .is;
-        fits = wr .fits;
-        few = wr .few;
-        pre = wr .pre ++ (v ∷ []);
-        rest = x .0;
-        split = wr .split ∙ ap (λ (l : List ℕ). wr .pre ++ l) (x .1) ∙ sym (append-assoc (wr .pre) (v ∷ []) (x .0));
-        rest-is = x .2;
-        at-is = omega (arith, wr .at-is, length-append (wr .pre) (v ∷ []));
-        bytes = put-bytes p″ e;
-        opens = omega (arith, move-opens m, wr .opens, length-append (wr .pre) (v ∷ []));
-      }
-
-pub writing-end : {g : Graph} {dep p p′ ks : List ℕ} {goal s reached v at stack : ℕ} → Writing g dep goal s p stack p′ reached ks v at → ks ≡ [] → g .kind v ≡ 2
-    → (p″ : List ℕ) → p″ ≡ set (set p′ at (v / 4 % 256)) (at + 1) (v / 1024 % 256) → Written g dep goal s p p″
-writing-end {p = p} {v = v} {at = at} wr none k p″ e =
-    let all : wr .route ≡ wr .pre ++ (v ∷ []) = wr .split ∙ ap (λ (l : List ℕ). wr .pre ++ l) (route-end k (rw none at (wr .rest-is))) in
-    let n : 2 * length (wr .pre ++ (v ∷ [])) ≡ at + 2 = omega (arith, wr .at-is, length-append (wr .pre) (v ∷ [])) in
-    record { route = wr .route; is = wr .is; room = wr .fits; bytes = rw (all, n) (put-bytes wr p″ e) }

@@ -49,16 +49,34 @@ pub record Written (g : Graph) (dep : List ℕ) (goal s : ℕ) (p p′ : List �
   pub room : 2 * length route ≤ length p
   pub bytes : p′ ≡ encode route ++ drop (2 * length route) p
 
--- p became p′, which holds the way's places before v, in its first at bytes; ks are the open calls there
-pub record Writing (g : Graph) (dep : List ℕ) (goal s : ℕ) (p : List ℕ) (stack : ℕ) (p′ : List ℕ) (reached : ℕ) (ks : List ℕ) (v at : ℕ) : Type 0 where
+-- the way from s, of no more places than the stack allows
+pub record Short (g : Graph) (dep : List ℕ) (goal s stack : ℕ) : Type 0 where
   pub route : List ℕ
   pub is : Route g dep goal 0 [] s route
-  pub fits : 2 * length route ≤ length p
+  pub few : length route ≤ 2 * stack
+
+-- the way from s has r places
+pub record LengthIs (g : Graph) (dep : List ℕ) (goal s r : ℕ) : Type 0 where
+  pub route : List ℕ
+  pub is : Route g dep goal 0 [] s route
+  pub len : r ≡ length route
+
+-- n places of the way are passed before v; ks are the open calls there
+pub record Along (g : Graph) (dep : List ℕ) (goal s stack reached : ℕ) (ks : List ℕ) (v n : ℕ) : Type 0 where
+  pub route : List ℕ
+  pub is : Route g dep goal 0 [] s route
   pub few : length route ≤ 2 * stack
   pub pre : List ℕ
   pub rest : List ℕ
   pub split : route ≡ pre ++ rest
   pub rest-is : Route g dep goal reached ks v rest
-  pub at-is : at ≡ 2 * length pre
-  pub bytes : p′ ≡ encode pre ++ drop at p
-  pub opens : length ks ≤ length pre
+  pub passed : n ≡ length pre
+  pub opens : length ks ≤ n
+
+-- p became p′, which holds those places in its first at bytes
+pub record Writing (g : Graph) (dep : List ℕ) (goal s : ℕ) (p : List ℕ) (stack : ℕ) (p′ : List ℕ) (reached : ℕ) (ks : List ℕ) (v at : ℕ) : Type 0 where
+  pub n : ℕ
+  pub along : Along g dep goal s stack reached ks v n
+  pub fits : 2 * length (along .route) ≤ length p
+  pub at-is : at ≡ 2 * n
+  pub bytes : p′ ≡ encode (along .pre) ++ drop at p

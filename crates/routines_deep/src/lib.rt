@@ -7,7 +7,7 @@ ghost use lib.ListN.{length, getD};
 ghost use Rattle.graph.specs.Laid.{graphOf};
 ghost use Rattle.routines_route.specs.Way.{openOf, Fall};
 ghost use Rattle.routines_route.specs.Arrays.{Nodes, Stacked};
-ghost use Rattle.routines_deep.specs.Deep.{Move, Pended, Goes, Roomy, Written};
+ghost use Rattle.routines_deep.specs.Deep.{Move, Pended, Goes, Roomy, Written, Short, LengthIs};
 
 // A place, how many calls are open there, and how many were at most.
 pub struct Deep {
@@ -114,4 +114,34 @@ pub fn write_deepest(
         at += 2;
     }
     put(path, at, v);
+}
+
+// How many places the way from s to the goal has. stack and pend are to work in.
+pub fn deep_len(
+    kind: &[u8],
+    next: &[u16],
+    other: &[u16],
+    dep: &[u16],
+    s: usize,
+    goal: usize,
+    stack: &mut [u16],
+    pend: &mut [u32],
+) -> usize
+    requires { ⌜ Nodes (now kind) (now next) (now other) (length (now dep)) × (s < length (now dep)) × (length (now stack) < length (now pend)) × (length (now stack) ≤ 65536)
+        × Stacked (now stack) (length (now dep)) × Short (graphOf (now kind) (now next) (now other)) (now dep) goal s (length (now stack)) ⌝ }
+    ensures { λ r. ⌜ LengthIs (graphOf (now (kind .entry)) (now (next .entry)) (now (other .entry))) (now (dep .entry)) goal s r ⌝ }
+{
+    pend[0] = 0;
+    let mut v = s;
+    let mut top = 0;
+    let mut reached = 0;
+    let mut n = 0;
+    while more(kind, top, v) {
+        let a = deep_on(kind, next, other, dep, stack, pend, goal, reached, top, v);
+        v = a.v;
+        top = a.top;
+        reached = a.reached;
+        n += 1;
+    }
+    n + 1
 }

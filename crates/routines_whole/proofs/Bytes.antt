@@ -1,14 +1,14 @@
 -- The way through the arrays is the way through the flow, and its bytes are its places' addresses.
 use mathlib.Core.Path.{_≡_, refl, sym, ap, ap₂, _∙_}
-use mathlib.Core.Logic.{_⊎_, inl, inr, ⊎-elim}
+use mathlib.Core.Logic.{inl, inr}
 use mathlib.Core.Bool.{Bool}
-use mathlib.Core.List.{List, [], _∷_, _++_}
-use Prim.Native.Nat.{ℕ, suc, _+_, _*_, _/_, _%_, _≤_, _<_}
+use mathlib.Core.List.{List, [], _∷_}
+use Prim.Native.Nat.{ℕ, suc, _/_, _%_}
 use native.Mathlib.Omega.{arith}
-use lib.ListN.{length, getD, drop}
+use lib.ListN.{length, getD}
 use Rattle.graph.specs.Graph.{Graph, Reach, here, sum}
 use Rattle.graph.proofs.Reach.{reach-snoc}
-use Rattle.routines.specs.Calling.{Flow, Routine, outer, called, endOf, startIn, after, within, In, Live, handler, call, IsBad, HandlerPath, FirstOf}
+use Rattle.routines.specs.Calling.{Flow, Routine, outer, called, endOf, startIn, after, within, In, Live, handler, call, IsBad}
 use Rattle.routines.specs.Answer.{bytesOf}
 use Rattle.routines.proofs.Within.{Kind, kind-of, edge-on, edge-call, out-excluded}
 use Rattle.routines.proofs.Done.{Nested, none, inner}
@@ -17,8 +17,9 @@ use Rattle.routines_sums.specs.Sums.{sumIn, sumAt, Sums}
 use Rattle.routines_sums.proofs.Longest.{way-is-longest}
 use Rattle.routines_joined.specs.Joined.{code}
 use Rattle.routines_route.specs.Way as arrays
-use Rattle.routines_route.specs.Way.{encode, Move, to-next, to-other, into, back, Written}
-use Rattle.routines_whole.specs.Coded.{On, Call, Coded}
+use Rattle.routines_route.specs.Way.{encode, to-next, to-other, into, back}
+use Rattle.routines_whole.specs.Coded.{Coded}
+use Rattle.routines_whole.specs.Paths.{PathOf}
 
 -- where the open calls go on, as nodes
 unfoldable pub codes : {f : Flow} {K : ℕ → Bool} {r : Routine} {ks : List ℕ} → Nested f K r ks → List ℕ
@@ -131,11 +132,10 @@ module _ (f : Flow) (K : ℕ → Bool) (g : Graph) (d : List ℕ) (inn out : ℕ
   way-of {r} n v live i x xs l e z (arrays.Route.move {l = t} (back {ks = ys} {w = w} k) p) =
       rw e (way-back n v w ys t z (is-end r v live i (rw e at k)) (λ r′ ks′ n′ v′ l′ i′ a b. way-of n′ v′ l′ i′ w ys t a b p))
 
-  -- what was written is N's path, in document 01's form, and N is the sum at the start
-  pub written-is-path : {cycles : ℕ → ℕ} → Sums f K cycles inn out → {p p′ : List ℕ} → Written g d (code 0 outer (f .start)) p p′
-      → (path : List ℕ) × FirstOf f (HandlerPath f K) (sum cycles) path × (sum cycles path ≡ out (f .start)) × (p′ ≡ bytesOf (λ v. v / 2) path ++ drop (2 * length path) p)
+  -- the way by exact sums is N's path, in document 01's form, and N is the sum at the start
+  pub exact-is-path : {cycles : ℕ → ℕ} → Sums f K cycles inn out → {route : List ℕ} → arrays.Route g d [] (code 0 outer (f .start)) route → PathOf f K (sum cycles) (out (f .start)) route
   unfolding codes
-  written-is-path {cycles} sums w =
-      let x = way-of none (f .start) handler here (code 0 outer (f .start)) [] (w .route) refl refl (w .is) in
+  exact-is-path {cycles} sums {route} is =
+      let x = way-of none (f .start) handler here (code 0 outer (f .start)) [] route refl refl is in
       let y = way-is-longest f K cycles inn out sums (x .way) in
-      (x .places, y .0, y .1, rw (← x .bytes, ← x .long) (w .bytes))
+      record { path = x .places; first = y .0; value = y .1; long = sym (x .long); bytes = x .bytes }

@@ -1,9 +1,9 @@
 -- The depth's way through the arrays is the depth's way through the flow: the bytes that are written are depth's path.
 use mathlib.Core.Path.{_≡_, refl, sym, ap, ap₂, _∙_}
-use mathlib.Core.Logic.{_⊎_, inl, inr}
+use mathlib.Core.Logic.{inl, inr}
 use mathlib.Core.Bool.{Bool}
 use mathlib.Core.List.{List, [], _∷_, _++_}
-use Prim.Native.Nat.{ℕ, suc, _+_, _*_, _/_, _%_, _≤_, _<_, max}
+use Prim.Native.Nat.{ℕ, suc, _+_, _*_, _/_, max}
 use native.Mathlib.Omega.{arith}
 use lib.ListN.{length, getD, drop}
 use Rattle.graph.specs.Graph.{Graph, Reach, here}
@@ -18,8 +18,10 @@ use Rattle.routines_depth.specs.Depths.{depthIn, depthAt, Depths, pending}
 use Rattle.routines_depth.proofs.Deepest.{way-is-deepest}
 use Rattle.routines_route.specs.Way.{encode}
 use Rattle.routines_deep.specs.Deep as arrays
-use Rattle.routines_deep.specs.Deep.{later, Move, to-next, to-other, into, back, Written}
+use Rattle.routines_deep.specs.Deep.{later, to-next, to-other, into, back, Written}
 use Rattle.routines_whole.specs.Coded.{Shaped, Coded, innOf, outOf}
+use Rattle.routines_whole.specs.Paths.{PathOf}
+use Rattle.routines_whole.proofs.Written.{written-path}
 use Rattle.routines_whole.proofs.Bytes.{codes, label, is-on, is-call, is-end}
 
 record Places (f : Flow) (K : ℕ → Bool) (dep : List ℕ) (goal reached : ℕ) (ks : List ℕ) (v : ℕ) (l : List ℕ) : Type 0 where
@@ -110,12 +112,17 @@ module _ (f : Flow) (K : ℕ → Bool) (g : Graph) (dep : List ℕ) (goal : ℕ)
   way-of {r} n reached v live i x xs l e z (arrays.Route.move {l = t} (back {w = w} {ks = ys} k) p) =
       rw e (way-back n reached v w ys t z (is-end f K g dep (innOf dep) (outOf dep) coded no-bad r v live i (rw e at k)) (λ r′ ks′ n′ v′ l′ i′ a b. way-of n′ reached v′ l′ i′ w ys t a b p))
 
--- what was written is depth's path, and the depth is the one at the start
+-- the way to the depth at the start is depth's path
+pub route-is-deepest : (f : Flow) (K : ℕ → Bool) (g : Graph) (dep : List ℕ) → Shaped f K g → ((v : ℕ) → IsBad f K v → ⊥) → Depths f K (innOf dep) (outOf dep) → {route : List ℕ}
+    → arrays.Route g dep (outOf dep (f .start)) 0 [] (code 0 outer (f .start)) route → PathOf f K (depth f) (outOf dep (f .start)) route
+unfolding codes
+route-is-deepest f K g dep shape no-bad depths {route} is =
+    let x = way-of f K g dep (outOf dep (f .start)) shape no-bad none 0 (f .start) handler here (code 0 outer (f .start)) [] route refl refl is in
+    let y = way-is-deepest f K (innOf dep) (outOf dep) depths (x .way) in
+    record { path = x .places; first = y .0; value = y .1; long = sym (x .long); bytes = x .bytes }
+
+-- and where it was written, the bytes are that path's
 pub written-is-deepest : (f : Flow) (K : ℕ → Bool) (g : Graph) (dep : List ℕ) → Shaped f K g → ((v : ℕ) → IsBad f K v → ⊥) → Depths f K (innOf dep) (outOf dep) → {p p′ : List ℕ}
     → Written g dep (outOf dep (f .start)) (code 0 outer (f .start)) p p′
     → (deep : List ℕ) × FirstOf f (HandlerPath f K) (depth f) deep × (depth f deep ≡ outOf dep (f .start)) × (p′ ≡ bytesOf (λ v. v / 2) deep ++ drop (2 * length deep) p)
-unfolding codes
-written-is-deepest f K g dep shape no-bad depths w =
-    let x = way-of f K g dep (outOf dep (f .start)) shape no-bad none 0 (f .start) handler here (code 0 outer (f .start)) [] (w .route) refl refl (w .is) in
-    let y = way-is-deepest f K (innOf dep) (outOf dep) depths (x .way) in
-    (x .places, y .0, y .1, rw (← x .bytes, ← x .long) (w .bytes))
+written-is-deepest f K g dep shape no-bad depths {p} w = written-path p (route-is-deepest f K g dep shape no-bad depths (w .is)) (w .bytes)

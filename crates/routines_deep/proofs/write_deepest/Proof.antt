@@ -9,14 +9,10 @@ use Rattle.routines_route.specs.Way.{openOf}
 use Rattle.routines_route.specs.Arrays.{Stacked}
 use Rattle.routines_route.proofs.Ways.{open-length}
 use Rattle.routines_deep.specs.Deep.{Pended, Writing}
-use Rattle.routines_deep.proofs.Ways.{pend-length, route-goes, pended-start, writing-start, writing-room, writing-stack, writing-more, writing-end}
+use Rattle.routines_deep.proofs.Ways.{pend-length, route-goes, pended-start}
+use Rattle.routines_deep.proofs.Along.{along-stack, writing-start, writing-room, writing-more, writing-end}
 use Rattle.routines_deep.proofs.write_deepest.Statement.{statement}
 use Rattle.routines_deep.proofs.write_deepest.Tie as tie
-use Rattle.routines_deep.proofs.write_deepest.Reads as reads
-use Rattle.routines_deep.proofs.write_deepest.Lts as lts
-use Rattle.routines_deep.proofs.deep_on.Reads as deep-on-reads
-use Rattle.routines_route.proofs.more.Reads as more-reads
-use Rattle.routines_route.proofs.put.Reads as put-reads
 
 abbrev Inv-loop : tie.InvT-loop
 Inv-loop kind next other dep s goal stack₀ pend₀ path₀ v₀ top₀ reached₀ at₀ stack pend path v top reached at =
@@ -46,12 +42,12 @@ deep-on-requires c κs =
     let i = c .before .before .before .before .before .before .before .before .loop .inv in (
       p .0,
       i .5,
-      omega (arith, i .1, writing-stack (i .6), open-length (c .before .before .before .before .before .before .before .before .loop .stack) (c .before .before .before .before .before .before .before .before .loop .top)),
+      omega (arith, i .1, along-stack (i .6 .along), open-length (c .before .before .before .before .before .before .before .before .loop .stack) (c .before .before .before .before .before .before .before .before .loop .top)),
       omega (arith, i .1, i .2, p .2, pend-length (c .before .before .before .before .before .before .before .before .before .before .before .before .before .before .before .before .args .pend .now)),
       omega (arith, i .1, p .3),
       i .3,
       i .4,
-      route-goes _ _ _ _ _ _ _ _ _ _ (i .6 .rest-is) (c .before .before .before .before .before .before .before .more .ensures .goes-on (c .before .before .before .before .before .before .if1 .taken)),
+      route-goes _ _ _ _ _ _ _ _ _ _ (i .6 .along .rest-is) (c .before .before .before .before .before .before .before .more .ensures .goes-on (c .before .before .before .before .before .before .if1 .taken)),
     )
 
 add-at : tie.Need-add-at Inv-loop μ-loop

@@ -5,8 +5,6 @@ use Rattle.routines_route.proofs.Moves.{never}
 use Rattle.routines_sweep.proofs.Settling.{not-three}
 use Rattle.routines_sweep.proofs.stays.Statement.{statement}
 use Rattle.routines_sweep.proofs.stays.Tie as tie
-use Rattle.routines_sweep.proofs.stays.Reads as reads
-use Rattle.routines_sweep.proofs.stays.Lts as lts
 
 returns : tie.Need-returns
 returns c = record { neither = λ e. absurd (never (sym e)); one = λ e. inl (c .if1 .taken) }

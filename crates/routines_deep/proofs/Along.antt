@@ -1,0 +1,69 @@
+-- Along the way place by place: what is passed and what is left make it up, and what is written are the bytes of what is passed.
+use mathlib.Core.Path.{_≡_, refl, sym, ap, _∙_}
+use mathlib.Core.List.{List, [], _∷_, _++_, append-assoc}
+use Prim.Native.Nat.{ℕ, _+_, _*_, _/_, _%_, _≤_, _<_}
+use native.Mathlib.Omega.{arith}
+use lib.ListN.{length, set, drop, length-append}
+use Rattle.graph.specs.Graph.{Graph}
+use Rattle.routines_route.specs.Way.{encode}
+use Rattle.routines_route.proofs.Bytes.{put-more}
+use Rattle.routines_deep.specs.Deep.{Move, Roomy, Short, LengthIs, Along, Writing, Written}
+use Rattle.routines_deep.proofs.Ways.{move-opens, route-after, route-end, route-length}
+
+pub along-start : {g : Graph} {dep : List ℕ} {goal s stack : ℕ} → Short g dep goal s stack → Along g dep goal s stack 0 [] s 0
+along-start r = record { route = r .route; is = r .is; few = r .few; pre = []; rest = r .route; split = refl; rest-is = r .is; passed = refl; opens = omega arith }
+
+module _ {g : Graph} {dep ks : List ℕ} {goal s stack reached v n : ℕ} (a : Along g dep goal s stack reached ks v n) where
+  -- v is one of the way's places
+  pub along-few : n < length (a .route)
+  along-few = omega (arith, a .passed, ap length (a .split), length-append (a .pre) (a .rest), route-length (a .rest-is))
+
+  -- each open call has been passed and has yet to end
+  pub along-stack : length ks < stack
+  along-stack = omega (arith, a .few, a .opens, a .passed, ap length (a .split), length-append (a .pre) (a .rest), route-length (a .rest-is))
+
+  pub along-more : {w y : ℕ} {ks′ : List ℕ} → Move g dep goal reached ks v y ks′ w → Along g dep goal s stack y ks′ w (n + 1)
+  along-more m =
+      let x = route-after m (a .rest-is) in
+      record {
+        route = a .route;
+        is = a .is;
+        few = a .few;
+        pre = a .pre ++ (v ∷ []);
+        rest = x .0;
+        split = a .split ∙ ap (λ (l : List ℕ). a .pre ++ l) (x .1) ∙ sym (append-assoc (a .pre) (v ∷ []) (x .0));
+        rest-is = x .2;
+        passed = omega (arith, a .passed, length-append (a .pre) (v ∷ []));
+        opens = omega (arith, move-opens m, a .opens);
+      }
+
+  -- at the end of the outer routine v is the last
+  pub along-last : ks ≡ [] → g .kind v ≡ 2 → a .route ≡ a .pre ++ (v ∷ [])
+  along-last none k = a .split ∙ ap (λ (l : List ℕ). a .pre ++ l) (route-end k (rw none at (a .rest-is)))
+
+  pub along-end : ks ≡ [] → g .kind v ≡ 2 → LengthIs g dep goal s (n + 1)
+  along-end none k =
+      record { route = a .route; is = a .is; len = omega (arith, a .passed, ap length (along-last none k), length-append (a .pre) (v ∷ [])) }
+
+pub writing-start : {g : Graph} {dep p : List ℕ} {goal s stack : ℕ} → Roomy g dep goal s p stack → Writing g dep goal s p stack p 0 [] s 0
+unfolding encode along-start
+writing-start r = record { n = 0; along = along-start (record { route = r .route; is = r .is; few = r .few }); fits = r .fits; at-is = refl; bytes = refl }
+
+module _ {g : Graph} {dep p p′ ks : List ℕ} {goal s reached v at stack : ℕ} (wr : Writing g dep goal s p stack p′ reached ks v at) where
+  pub writing-room : at + 2 ≤ length p
+  writing-room = omega (arith, wr .at-is, wr .fits, along-few (wr .along))
+
+  put-bytes : (p″ : List ℕ) → p″ ≡ set (set p′ at (v / 4 % 256)) (at + 1) (v / 1024 % 256) → p″ ≡ encode (wr .along .pre ++ (v ∷ [])) ++ drop (at + 2) p
+  put-bytes p″ e =
+      e ∙ ap (λ (l : List ℕ). set (set l at (v / 4 % 256)) (at + 1) (v / 1024 % 256)) (wr .bytes)
+      ∙ put-more p (wr .along .pre) at v (omega (arith, wr .at-is, wr .along .passed)) writing-room
+
+  pub writing-more : {w y : ℕ} {ks′ : List ℕ} (p″ : List ℕ) → Move g dep goal reached ks v y ks′ w → p″ ≡ set (set p′ at (v / 4 % 256)) (at + 1) (v / 1024 % 256) → Writing g dep goal s p stack p″ y ks′ w (at + 2)
+  unfolding along-more
+  writing-more p″ m e =
+      record { n = wr .n + 1; along = along-more (wr .along) m; fits = wr .fits; at-is = omega (arith, wr .at-is); bytes = put-bytes p″ e }
+
+  pub writing-end : ks ≡ [] → g .kind v ≡ 2 → (p″ : List ℕ) → p″ ≡ set (set p′ at (v / 4 % 256)) (at + 1) (v / 1024 % 256) → Written g dep goal s p p″
+  writing-end none k p″ e =
+      let m : 2 * length (wr .along .pre ++ (v ∷ [])) ≡ at + 2 = omega (arith, wr .at-is, wr .along .passed, length-append (wr .along .pre) (v ∷ [])) in
+      record { route = wr .along .route; is = wr .along .is; room = wr .fits; bytes = rw (along-last (wr .along) none k, m) (put-bytes p″ e) }
