@@ -3,32 +3,33 @@ use mathlib.Core.Path.{_≡_, refl}
 use mathlib.Core.Logic.{_⊎_, inl, inr}
 use mathlib.Core.Bool.{Bool}
 use mathlib.Core.List.{List}
-use Prim.Native.Nat.{ℕ, _<_}
+use Prim.Native.Nat.{ℕ, _-_, _≤_, _<_}
 use native.Mathlib.Omega.{arith}
 use lib.ListN.{getD}
 use Rattle.graph.specs.Graph.{Graph, Edge, here}
 use Rattle.graph.proofs.Reach.{reach-snoc, reach-in}
+use Rattle.graph_search.specs.Marks.{OnQ}
 use Rattle.routines.specs.Calling.{Flow, Routine, outer, called, startIn, endOf, after, within, In, Live, handler, call}
 use Rattle.routines.proofs.Within.{edge-cases, edge-on, edge-call}
 use Rattle.routines.proofs.Done.{Done}
 use Rattle.routines_joined.specs.Joined.{code}
-use Rattle.routines_sweep.specs.Dist.{Idle, has, out, next-waits, other-waits}
+use Rattle.routines_sweep.specs.Dist.{IdleFrom, Idle, has, out, next-waits, other-waits}
 use Rattle.routines_whole.specs.Coded.{Shaped}
 
-module _ (f : Flow) (K : ℕ → Bool) where
-  -- an end neither goes on nor calls
-  no-end : (r : Routine) {v k : ℕ} → f .kind v ≡ endOf r → f .kind v ≡ k → (k ≡ 1) ⊎ (k ≡ 3) → ⊥
-  no-end outer e h (inl z) = omega arith
-  no-end outer e h (inr z) = omega arith
-  no-end (called x) e h (inl z) = omega arith
-  no-end (called x) e h (inr z) = omega arith
+-- an end neither goes on nor calls
+pub no-end : (f : Flow) (r : Routine) {v k : ℕ} → f .kind v ≡ endOf r → f .kind v ≡ k → (k ≡ 1) ⊎ (k ≡ 3) → ⊥
+no-end f outer e h (inl z) = omega arith
+no-end f outer e h (inr z) = omega arith
+no-end f (called x) e h (inl z) = omega arith
+no-end f (called x) e h (inr z) = omega arith
 
+module _ (f : Flow) (K : ℕ → Bool) where
   done-edge : {r : Routine} (v w : ℕ) → Done f K r v → Edge (within f K r) v w → Done f K r w
   done-edge {r} v w d e = go d (edge-cases f K r e)
     where
       go : Done f K r v → ((f .kind v ≡ 1) × ((w ≡ f .next v) ⊎ (w ≡ f .other v))) ⊎ ((f .kind v ≡ 3) × (w ≡ after f K v)) → Done f K r w
-      go (Done.ends k) (inl (z, x)) = absurd (no-end r k z (inl refl))
-      go (Done.ends k) (inr (z, x)) = absurd (no-end r k z (inr refl))
+      go (Done.ends k) (inl (z, x)) = absurd (no-end f r k z (inl refl))
+      go (Done.ends k) (inr (z, x)) = absurd (no-end f r k z (inr refl))
       go (Done.goes k a b) (inl (z, inl x)) = rw x a
       go (Done.goes k a b) (inl (z, inr x)) = rw x b
       go (Done.goes k a b) (inr (z, x)) = absurd (omega arith)
@@ -36,7 +37,7 @@ module _ (f : Flow) (K : ℕ → Bool) where
       go (Done.calls k a b) (inr (z, x)) = rw x b
 
   done-call : {r : Routine} {v : ℕ} → Done f K r v → f .kind v ≡ 3 → Done f K (called (f .entry v)) (f .from (f .entry v))
-  done-call {r} (Done.ends k) z = absurd (no-end r k z (inr refl))
+  done-call {r} (Done.ends k) z = absurd (no-end f r k z (inr refl))
   done-call (Done.goes k a b) z = absurd (omega arith)
   done-call (Done.calls k a b) z = a
 
@@ -76,3 +77,15 @@ module _ (f : Flow) (K : ℕ → Bool) where
     -- what `capped` and `depths` ask for
     pub all-have : Done f K outer (f .start) → (r : Routine) (v : ℕ) → Live f K r → In f K r v → 0 < getD d (code 0 r v) 0
     all-have done r v l i = have (done-all done l i) l i
+
+-- the queue holds each place by its number in the joined graph, where the entries come first
+pub idle-all : (f : Flow) (K : ℕ → Bool) {g : Graph} {d q : List ℕ} {E count : ℕ} → ((r : Routine) (v : ℕ) → Live f K r → In f K r v → OnQ q count (code E r v)) → IdleFrom g d q E count
+    → (r : Routine) (v : ℕ) → Live f K r → In f K r v → Idle g d (code 0 r v)
+idle-all f K {g} {d} {q} {E} {count} on idle r v l i = go r (on r v l i)
+  where
+    at : (r : Routine) → (E ≤ code E r v) × (code E r v - E ≡ code 0 r v)
+    at outer = (omega arith, omega arith)
+    at (called e) = (omega arith, omega arith)
+
+    go : (r : Routine) → OnQ q count (code E r v) → Idle g d (code 0 r v)
+    go r o = let a = at r in rw (← a .1, ← o .2) (idle .at (o .0) (o .1) (rw (o .2) (a .0)))

@@ -18,7 +18,7 @@ use Rattle.routines_sums.proofs.Longest.{way-is-longest}
 use Rattle.routines_joined.specs.Joined.{code}
 use Rattle.routines_route.specs.Way as arrays
 use Rattle.routines_route.specs.Way.{encode, to-next, to-other, into, back}
-use Rattle.routines_whole.specs.Coded.{Coded}
+use Rattle.routines_whole.specs.Coded.{Coded, innOf, outOf}
 use Rattle.routines_whole.specs.Paths.{PathOf}
 
 -- where the open calls go on, as nodes
@@ -30,6 +30,11 @@ codes {f} {K} (inner {r = r} {u = u} n l i k) = code 0 r (after f K u) ∷ codes
 pub label : (r : Routine) (v : ℕ) → (code 0 r v / 4 % 256 ≡ v / 2 % 256) × (code 0 r v / 1024 % 256 ≡ v / 2 / 256 % 256)
 label outer v = (omega arith, omega arith)
 label (called e) v = (omega arith, omega arith)
+
+-- what stands at a place's node, by routine
+pub sum-is : (d : List ℕ) (r : Routine) (v : ℕ) → getD d (code 0 r v) 0 ≡ sumIn (innOf d) (outOf d) r v
+sum-is d outer v = refl
+sum-is d (called e) v = refl
 
 -- places whose nodes these are, which are the way
 record Places (f : Flow) (K : ℕ → Bool) (inn out : ℕ → ℕ) (ks : List ℕ) (v : ℕ) (l : List ℕ) : Type 0 where

@@ -14,7 +14,7 @@ use Rattle.routines.proofs.Within.{edge-on, edge-call}
 use Rattle.routines.proofs.Done.{Nested, none, inner}
 use Rattle.routines_joined.specs.Joined.{code}
 use Rattle.routines_depth.specs.Depths as flow
-use Rattle.routines_depth.specs.Depths.{depthIn, depthAt, Depths, pending}
+use Rattle.routines_depth.specs.Depths.{depthAt, Depths, pending}
 use Rattle.routines_depth.proofs.Deepest.{way-is-deepest}
 use Rattle.routines_route.specs.Way.{encode}
 use Rattle.routines_deep.specs.Deep as arrays
@@ -22,7 +22,7 @@ use Rattle.routines_deep.specs.Deep.{later, to-next, to-other, into, back, Writ
 use Rattle.routines_whole.specs.Coded.{Shaped, Coded, innOf, outOf}
 use Rattle.routines_whole.specs.Paths.{PathOf}
 use Rattle.routines_whole.proofs.Written.{written-path}
-use Rattle.routines_whole.proofs.Bytes.{codes, label, is-on, is-call, is-end}
+use Rattle.routines_whole.proofs.Bytes.{codes, sum-is, label, is-on, is-call, is-end}
 
 record Places (f : Flow) (K : ℕ → Bool) (dep : List ℕ) (goal reached : ℕ) (ks : List ℕ) (v : ℕ) (l : List ℕ) : Type 0 where
   places : List ℕ
@@ -32,11 +32,7 @@ record Places (f : Flow) (K : ℕ → Bool) (dep : List ℕ) (goal reached : ℕ
 
 module _ (f : Flow) (K : ℕ → Bool) (g : Graph) (dep : List ℕ) (goal : ℕ) (shape : Shaped f K g) (no-bad : (v : ℕ) → IsBad f K v → ⊥) where
   coded : Coded f K g dep (innOf dep) (outOf dep)
-  coded = record { shape = shape; sums = λ r v l i. go r v }
-    where
-      go : (r : Routine) (v : ℕ) → getD dep (code 0 r v) 0 ≡ depthIn (innOf dep) (outOf dep) r v
-      go outer v = refl
-      go (called e) v = refl
+  coded = record { shape = shape; sums = λ r v l i. sum-is dep r v }
 
   place-more : {reached y : ℕ} {ks ks′ : List ℕ} {v w : ℕ} (r : Routine) {l : List ℕ} → Places f K dep goal y ks′ w l
       → ((t : List ℕ) → flow.Route f K (innOf dep) (outOf dep) goal y ks′ w t → flow.Route f K (innOf dep) (outOf dep) goal reached ks v (v ∷ t)) → Places f K dep goal reached ks v (code 0 r v ∷ l)
