@@ -47,7 +47,7 @@ fn beside(w: u16, side: usize) -> u16
 }
 
 // A place's kind in its routine: a call goes on; RTI ends the outer routine, and RET a called one.
-fn kind_in(kind: u8, side: usize) -> u8
+pub fn kind_in(kind: u8, side: usize) -> u8
     ensures { λ r. ⌜ r ≡ kindIn kind side ⌝ }
 {
     if kind == 1 {
@@ -69,7 +69,7 @@ fn kind_in(kind: u8, side: usize) -> u8
 }
 
 // The place after the call of the routine at e that stands at v.
-fn after_call(next: &[u16], other: &[u16], losing: &[u8], v: usize, e: usize) -> u16
+pub fn after_call(next: &[u16], other: &[u16], losing: &[u8], v: usize, e: usize) -> u16
     requires { ⌜ (length (now next) ≡ places) × (length (now other) ≡ places) × (length (now losing) ≡ places) × (v < places) × (2 * e < places) ⌝ }
     ensures { λ r. ⌜ r ≡ pick (not (marksOf (now (losing .entry)) (2 * e))) (getD (now (other .entry)) v 0) (getD (now (next .entry)) v 0) ⌝ }
 {
