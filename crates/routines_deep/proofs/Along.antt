@@ -41,9 +41,9 @@ module _ {g : Graph} {dep ks : List ℕ} {goal s stack reached v n : ℕ} (a : A
   pub along-last : ks ≡ [] → g .kind v ≡ 2 → a .route ≡ a .pre ++ (v ∷ [])
   along-last none k = a .split ∙ ap (λ (l : List ℕ). a .pre ++ l) (route-end k (rw none at (a .rest-is)))
 
-  pub along-end : ks ≡ [] → g .kind v ≡ 2 → LengthIs g dep goal s (n + 1)
+  pub along-end : ks ≡ [] → g .kind v ≡ 2 → LengthIs g dep goal s stack (n + 1)
   along-end none k =
-      record { route = a .route; is = a .is; len = omega (arith, a .passed, ap length (along-last none k), length-append (a .pre) (v ∷ [])) }
+      record { few = a .few; route = a .route; is = a .is; len = omega (arith, a .passed, ap length (along-last none k), length-append (a .pre) (v ∷ [])) }
 
 pub writing-start : {g : Graph} {dep p : List ℕ} {goal s stack : ℕ} → Roomy g dep goal s p stack → Writing g dep goal s p stack p 0 [] s 0
 unfolding encode along-start

@@ -55,10 +55,11 @@ pub record Short (g : Graph) (dep : List ℕ) (goal s stack : ℕ) : Type 0 wher
   pub is : Route g dep goal 0 [] s route
   pub few : length route ≤ 2 * stack
 
--- the way from s has r places
-pub record LengthIs (g : Graph) (dep : List ℕ) (goal s r : ℕ) : Type 0 where
+-- the way from s has r places, no more than the stack allows
+pub record LengthIs (g : Graph) (dep : List ℕ) (goal s stack r : ℕ) : Type 0 where
   pub route : List ℕ
   pub is : Route g dep goal 0 [] s route
+  pub few : length route ≤ 2 * stack
   pub len : r ≡ length route
 
 -- n places of the way are passed before v; ks are the open calls there

@@ -129,7 +129,7 @@ pub fn deep_len(
 ) -> usize
     requires { ⌜ Nodes (now kind) (now next) (now other) (length (now dep)) × (s < length (now dep)) × (length (now stack) < length (now pend)) × (length (now stack) ≤ 65536)
         × Stacked (now stack) (length (now dep)) × Short (graphOf (now kind) (now next) (now other)) (now dep) goal s (length (now stack)) ⌝ }
-    ensures { λ r. ⌜ LengthIs (graphOf (now (kind .entry)) (now (next .entry)) (now (other .entry))) (now (dep .entry)) goal s r ⌝ }
+    ensures { λ r. ⌜ LengthIs (graphOf (now (kind .entry)) (now (next .entry)) (now (other .entry))) (now (dep .entry)) goal s (length (now (stack .entry))) r ⌝ }
 {
     pend[0] = 0;
     let mut v = s;
