@@ -12,10 +12,13 @@ use Rattle.routines_judge.specs.Judging.{entries}
 use Rattle.routines_judge.specs.declared.Judgement.{Judgement}
 use Rattle.routines_judge.specs.declared.Judgement.the-variants.{Excluded, Repeats, Sound}
 
+abbrev pub NothingRecurs : Flow → Type 0
+NothingRecurs f = (e : ℕ) → Recurs f e → ⊥
+
 -- 24: r is the lowest entry that recurs, or 2,048 or more where none does
 pub record Recursion (f : Flow) (r : ℕ) : Type 0 where
   pub lowest : r < entries → Least (Recurs f) r
-  pub none : entries ≤ r → (e : ℕ) → Recurs f e → ⊥
+  pub none : entries ≤ r → NothingRecurs f
 
 -- 21: the lowest address of an excluded place
 pub record IsExcluded (f : Flow) (K : ℕ → Bool) (a : ℕ) : Type 0 where

@@ -73,18 +73,21 @@ pub record ReachedAs (g : Graph) (s : ℕ) (k nx o m q : List ℕ) (count : ℕ)
   pub listed : Listed m q count
   pub len : length m ≡ mostNodes
 
--- arrays to work in, of as many elements as there are nodes
-pub record Roomy (jk jn jo m q rank number below back stage : List ℕ) : Type 0 where
-  pub jk-len : length jk ≡ mostNodes
-  pub jn-len : length jn ≡ mostNodes
-  pub jo-len : length jo ≡ mostNodes
-  pub m-len : length m ≡ mostNodes
-  pub q-len : length q ≡ mostNodes
-  pub rank-len : length rank ≡ mostNodes
-  pub number-len : length number ≡ mostNodes
-  pub below-len : length below ≡ mostNodes
-  pub back-len : length back ≡ mostNodes
-  pub stage-len : length stage ≡ mostNodes
+-- arrays for the joined graph and for what is reached in it
+pub record Roomy (k nx o m q : List ℕ) : Type 0 where
+  pub kinds : length k ≡ mostNodes
+  pub nexts : length nx ≡ mostNodes
+  pub others : length o ≡ mostNodes
+  pub marks : length m ≡ mostNodes
+  pub queue : length q ≡ mostNodes
+
+-- arrays to work in
+pub record Works (rank number below back stage : List ℕ) : Type 0 where
+  pub ranks : length rank ≡ mostNodes
+  pub numbers : length number ≡ mostNodes
+  pub belows : length below ≡ mostNodes
+  pub backs : length back ≡ mostNodes
+  pub stages : length stage ≡ mostNodes
 
 -- every element is not 0
 pub record Ones (l : List ℕ) : Type 0 where

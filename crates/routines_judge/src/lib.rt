@@ -12,12 +12,13 @@ ghost use Rattle.graph.specs.Laid.{places, mostNodes, graphOf, Laid};
 ghost use Rattle.graph_search.specs.Marks.{Marked, Queue, Listed};
 ghost use Rattle.graph_search.specs.Search.{Reached};
 ghost use Rattle.graph_loops.specs.Loops.{Scan};
-ghost use Rattle.routines.specs.Calling.{Recurs};
+ghost use Rattle.routines.specs.Calling.{outer};
 ghost use Rattle.routines.specs.Shape.{Widens};
+ghost use Rattle.routines_joined.specs.Joined.{code};
 ghost use Rattle.routines_known.specs.Losing.{knownBy};
 ghost use Rattle.routines_marks.specs.Marking.{flowIn};
-ghost use Rattle.routines_judge.specs.Judging.{entries, FlowLaid, flowFrom, marksOf, joinedBy, kindIn, NodeIs, LaidAs, ReachedAs, Roomy, Ones};
-ghost use Rattle.routines_judge.specs.Answers.{Recursion, Judges};
+ghost use Rattle.routines_judge.specs.Judging.{entries, FlowLaid, flowFrom, marksOf, joinedBy, kindIn, NodeIs, LaidAs, ReachedAs, Roomy, Works, Ones};
+ghost use Rattle.routines_judge.specs.Answers.{NothingRecurs, Recursion, Judges};
 
 // How many entries a call can have, and how many nodes the joined graph has: the entries, then each place twice.
 pub const ENTRIES: usize = 2048;
@@ -141,4 +142,201 @@ pub fn lay_joined(
         jother[x] = node.other;
         x += 1;
     }
+}
+
+// Lays the routines joined, and marks and lists what is reached from place s of the outer one. Returns how many nodes that is.
+fn lay_and_reach(
+    kind: &[u8],
+    next: &[u16],
+    other: &[u16],
+    entry: &[u16],
+    losing: &[u8],
+    s: usize,
+    jkind: &mut [u8],
+    jnext: &mut [u16],
+    jother: &mut [u16],
+    marks: &mut [u8],
+    queue: &mut [u16],
+) -> usize
+    requires { ⌜ FlowLaid (now kind) (now next) (now other) (now entry) × (length (now losing) ≡ places) × (s < places)
+        × Roomy (now jkind) (now jnext) (now jother) (now marks) (now queue) ⌝ }
+    ensures { λ r. ⌜ ReachedAs (joinedBy (now (kind .entry)) (now (next .entry)) (now (other .entry)) (now (entry .entry)) (now (losing .entry))) s (now (jkind .exit)) (now (jnext .exit)) (now (jother .exit)) (now (marks .exit)) (now (queue .exit)) r ⌝ }
+{
+    lay_joined(kind, next, other, entry, losing, jkind, jnext, jother);
+    reach(jkind, jnext, jother, ENTRIES + (2 * s + 1), marks, queue)
+}
+
+// The ranks and stages of the nodes of the queue become 0.
+fn forget(queue: &[u16], count: usize, rank: &mut [u16], stage: &mut [u8])
+    requires { ⌜ Queue (now queue) count (length (now rank)) × (length (now stage) ≡ length (now rank)) ⌝ }
+{
+    let mut i = 0;
+    while i < count {
+        let v = queue[i] as usize;
+        rank[v] = 0;
+        stage[v] = 0;
+        i += 1;
+    }
+}
+
+// The lowest node that is reached and is reached from itself, or 34,816.
+fn lowest_loop(
+    jkind: &[u8],
+    jnext: &[u16],
+    jother: &[u16],
+    s: usize,
+    marks: &[u8],
+    queue: &[u16],
+    count: usize,
+    rank: &mut [u16],
+    number: &mut [u16],
+    below: &mut [u16],
+    back: &mut [u16],
+    stage: &mut [u8],
+) -> usize
+    requires { ⌜ Laid (now jkind) (now jnext) (now jother) mostNodes × (s < places) × Reached (graphOf (now jkind) (now jnext) (now jother)) (code entries outer s) (now marks)
+        × Listed (now marks) (now queue) count × (length (now marks) ≡ mostNodes) × Works (now rank) (now number) (now below) (now back) (now stage) ⌝ }
+    ensures { λ r. ⌜ Scan (λ v. Marked (now (marks .entry)) v × ReachPlus (graphOf (now (jkind .entry)) (now (jnext .entry)) (now (jother .entry))) v v) mostNodes r ⌝ }
+{
+    forget(queue, count, rank, stage);
+    let at = ENTRIES + (2 * s + 1);
+    first_loop_in(
+        jkind,
+        jnext,
+        jother,
+        at,
+        marks,
+        queue,
+        count,
+        rank,
+        number,
+        below,
+        back,
+        stage,
+    )
+}
+
+fn fill(losing: &mut [u8])
+    ensures { λ _. ⌜ Ones (now (losing .exit)) ⌝ }
+{
+    let mut i = 0;
+    while i < losing.len() {
+        losing[i] = 1;
+        i += 1;
+    }
+}
+
+// The lowest entry that recurs, or 2,048 or more where none does: judged with SF unknown after every call, so that every place is marked in losing. The arrays after it are to work in.
+pub fn recursion(
+    kind: &[u8],
+    next: &[u16],
+    other: &[u16],
+    entry: &[u16],
+    s: usize,
+    losing: &mut [u8],
+    jkind: &mut [u8],
+    jnext: &mut [u16],
+    jother: &mut [u16],
+    marks: &mut [u8],
+    queue: &mut [u16],
+    rank: &mut [u16],
+    number: &mut [u16],
+    below: &mut [u16],
+    back: &mut [u16],
+    stage: &mut [u8],
+) -> usize
+    requires { ⌜ FlowLaid (now kind) (now next) (now other) (now entry) × (s < places) × (length (now losing) ≡ places)
+        × Roomy (now jkind) (now jnext) (now jother) (now marks) (now queue) × Works (now rank) (now number) (now below) (now back) (now stage) ⌝ }
+    ensures { λ r. ⌜ Recursion (flowFrom (now (kind .entry)) (now (next .entry)) (now (other .entry)) (now (entry .entry)) s) r ⌝ }
+{
+    fill(losing);
+    let count = lay_and_reach(
+        kind,
+        next,
+        other,
+        entry,
+        losing,
+        s,
+        jkind,
+        jnext,
+        jother,
+        marks,
+        queue,
+    );
+    lowest_loop(
+        jkind,
+        jnext,
+        jother,
+        s,
+        marks,
+        queue,
+        count,
+        rank,
+        number,
+        below,
+        back,
+        stage,
+    )
+}
+
+// Judges a handler in which nothing recurs, where losing marks the places that lose SF. Where it is sound, marks and queue tell the nodes that are reached.
+pub fn judge(
+    kind: &[u8],
+    next: &[u16],
+    other: &[u16],
+    entry: &[u16],
+    losing: &[u8],
+    s: usize,
+    jkind: &mut [u8],
+    jnext: &mut [u16],
+    jother: &mut [u16],
+    marks: &mut [u8],
+    queue: &mut [u16],
+    rank: &mut [u16],
+    number: &mut [u16],
+    below: &mut [u16],
+    back: &mut [u16],
+    stage: &mut [u8],
+) -> Judgement
+    requires { ⌜ FlowLaid (now kind) (now next) (now other) (now entry) × (s < places) × (length (now losing) ≡ places)
+        × Roomy (now jkind) (now jnext) (now jother) (now marks) (now queue) × Works (now rank) (now number) (now below) (now back) (now stage)
+        × Widens (flowFrom (now kind) (now next) (now other) (now entry) s) × NothingRecurs (flowFrom (now kind) (now next) (now other) (now entry) s) ⌝ }
+    ensures { λ r. ⌜ Judges (flowFrom (now (kind .entry)) (now (next .entry)) (now (other .entry)) (now (entry .entry)) s)
+        (knownBy (flowFrom (now (kind .entry)) (now (next .entry)) (now (other .entry)) (now (entry .entry)) s) (marksOf (now (losing .entry)))) (now (marks .exit)) (now (queue .exit)) r ⌝ }
+{
+    let count = lay_and_reach(
+        kind,
+        next,
+        other,
+        entry,
+        losing,
+        s,
+        jkind,
+        jnext,
+        jother,
+        marks,
+        queue,
+    );
+    let bad = lowest(jkind, queue, count);
+    if bad < NODES {
+        return Judgement::Excluded((bad - ENTRIES) / 4);
+    }
+    let v = lowest_loop(
+        jkind,
+        jnext,
+        jother,
+        s,
+        marks,
+        queue,
+        count,
+        rank,
+        number,
+        below,
+        back,
+        stage,
+    );
+    if v < NODES {
+        return Judgement::Repeats((v - ENTRIES) / 4);
+    }
+    Judgement::Sound(count)
 }
