@@ -7,7 +7,7 @@ use Prim.Native.Nat.{ℕ, _+_, _≤_, _<_, max}
 use native.Mathlib.Omega.{arith}
 use native.Mathlib.Decide.{ℕ-discrete}
 use Rattle.graph.specs.Graph as graph
-use Rattle.graph.specs.Graph.{Graph, GoesOn, Ends, Edge, Reach, here, step, sum, Longest, stop, by-next, by-other, Bad, Loops, Sound}
+use Rattle.graph.specs.Graph.{Graph, GoesOn, Ends, Edge, Reach, here, step, sum, Longest, stop, by-next, by-other, nextOnly, Bad, Loops, Sound}
 use Rattle.graph.proofs.Reach.{reach-snoc}
 use Rattle.graph.proofs.Unique.{longest-path, longest-most}
 use Rattle.routines.specs.Calling.{Flow, Routine, outer, called, after, within, In, Live, handler, call, unknown, Knows, Recurs, IsBad, IsLoop, Path, rti, goes, calls, ret, HandlerPath, opened, deepest, depth, Before, turns, later, FirstOf}
@@ -44,6 +44,23 @@ module _ (f : Flow) (K : ℕ → Bool) (none : NoCalls f K) where
       go (inl (k, n)) q = goes k n q
       go (inr (k, n)) q = absurd (none v i k)
 
+  -- a path that goes on to the next instruction, beside one that goes on to the target or, from the next instruction, is it or behind it
+  behind-next : {v w : ℕ} {l t : List ℕ} → In f K outer v → GoesOn (within f K outer) v → graph.Path (within f K outer) (within f K outer .next v) l → Edge (within f K outer) v w → graph.Path (within f K outer) w t
+      → (graph.Path (within f K outer) (within f K outer .next v) t → (t ≡ l) ⊎ Before f l t) → (v ∷ t ≡ v ∷ l) ⊎ Before f (v ∷ l) (v ∷ t)
+  behind-next {v} {w} {l} {t} i k b d p ih = go (d .1) (ℕ-discrete (within f K outer .next v) (within f K outer .other v))
+    where
+      lift : (t ≡ l) ⊎ Before f l t → (v ∷ t ≡ v ∷ l) ⊎ Before f (v ∷ l) (v ∷ t)
+      lift x = ⊎-elim (λ h. inl (ap (λ (z : List ℕ). v ∷ z) h)) (λ h. inr (later h)) x
+
+      go : (w ≡ within f K outer .next v) ⊎ (w ≡ within f K outer .other v) → Dec (within f K outer .next v ≡ within f K outer .other v) → (v ∷ t ≡ v ∷ l) ⊎ Before f (v ∷ l) (v ∷ t)
+      go (inl n) s = lift (ih (rw n at p))
+      go (inr o) (yes s) = lift (ih (rw (o ∙ sym s) at p))
+      go (inr o) (no s) =
+          let on = on-kind v i k in
+          let hl = path-head (of-base (reach-snoc i (k, inl refl)) b) in
+          let ht = path-head (of-base (reach-snoc i d) p) in
+          inr (rw (hl .1, ht .1) (turns on (next-on f K outer v on) (o ∙ other-on f K outer v on) (λ x. s (x ∙ o))))
+
   module _ (c : ℕ → ℕ) where
     -- of the paths with the longest one's sum it comes first
     longest-first : {v : ℕ} {l : List ℕ} → In f K outer v → Longest (within f K outer) c v l → (m : List ℕ) → graph.Path (within f K outer) v m → sum c m ≡ sum c l → (m ≡ l) ⊎ Before f l m
@@ -52,21 +69,7 @@ module _ (f : Flow) (K : ℕ → Bool) (none : NoCalls f K) where
     longest-first i (stop k) m (graph.Path.goes d p) e = absurd (omega (arith, d .0))
     longest-first i (by-next k b a) m (graph.Path.ends k′) e = absurd (omega arith)
     longest-first i (by-other k b a) m (graph.Path.ends k′) e = absurd (omega arith)
-    longest-first {v} i (by-next {l = l} k b a) m (graph.Path.goes {w = w} {l = t} d p) e =
-        go (d .1) (ℕ-discrete (within f K outer .next v) (within f K outer .other v)) (λ q. longest-first (reach-snoc i (k, inl refl)) b t q (omega arith))
-      where
-        lift : (t ≡ l) ⊎ Before f l t → (v ∷ t ≡ v ∷ l) ⊎ Before f (v ∷ l) (v ∷ t)
-        lift x = ⊎-elim (λ h. inl (ap (λ (z : List ℕ). v ∷ z) h)) (λ h. inr (later h)) x
-
-        go : (w ≡ within f K outer .next v) ⊎ (w ≡ within f K outer .other v) → Dec (within f K outer .next v ≡ within f K outer .other v) → (graph.Path (within f K outer) (within f K outer .next v) t → (t ≡ l) ⊎ Before f l t)
-            → (v ∷ t ≡ v ∷ l) ⊎ Before f (v ∷ l) (v ∷ t)
-        go (inl n) s ih = lift (ih (rw n at p))
-        go (inr o) (yes s) ih = lift (ih (rw (o ∙ sym s) at p))
-        go (inr o) (no s) ih =
-            let on = on-kind v i k in
-            let hl = path-head (of-base (reach-snoc i (k, inl refl)) (longest-path b)) in
-            let ht = path-head (of-base (reach-snoc i d) p) in
-            inr (rw (hl .1, ht .1) (turns on (next-on f K outer v on) (o ∙ other-on f K outer v on) (λ x. s (x ∙ o))))
+    longest-first i (by-next k b a) m (graph.Path.goes {l = t} d p) e = behind-next i k (longest-path b) d p (λ q. longest-first (reach-snoc i (k, inl refl)) b t q (omega arith))
     longest-first {v} i (by-other {l = l} k b a) m (graph.Path.goes {w = w} {l = t} d p) e =
         go (d .1) (λ q. longest-first (reach-snoc i (k, inr refl)) b t q (omega arith))
       where
@@ -174,6 +177,25 @@ module _ (f : Flow) (K : ℕ → Bool) (none : NoCalls f K) where
 
   pub depth-zero : {l : List ℕ} → HandlerPath f K l → depth f l ≡ 0
   depth-zero p = no-depth here p
+
+  -- the path that takes next at every fork is one, and no path comes before it
+  next-path : {v : ℕ} {l : List ℕ} → graph.Path (nextOnly (within f K outer)) v l → graph.Path (within f K outer) v l
+  unfolding nextOnly
+  next-path (graph.Path.ends k) = graph.Path.ends k
+  next-path (graph.Path.goes e p) = graph.Path.goes (e .0, ⊎-elim inl inl (e .1)) (next-path p)
+
+  next-first : {v : ℕ} {l : List ℕ} → In f K outer v → graph.Path (nextOnly (within f K outer)) v l → (m : List ℕ) → graph.Path (within f K outer) v m → (m ≡ l) ⊎ Before f l m
+  unfolding nextOnly
+  next-first i (graph.Path.ends k) m (graph.Path.ends k′) = inl refl
+  next-first i (graph.Path.ends k) m (graph.Path.goes d p) = absurd (omega (arith, k, d .0))
+  next-first i (graph.Path.goes e b) m (graph.Path.ends k) = absurd (omega (arith, k, e .0))
+  next-first {v} i (graph.Path.goes {w = w} {l = l} e b) m (graph.Path.goes {l = t} d p) =
+      let n : w ≡ within f K outer .next v = ⊎-elim (λ x. x) (λ x. x) (e .1) in
+      behind-next i (e .0) (rw n at (next-path b)) d p (λ q. next-first (reach-snoc i (e .0, inl n)) b t (rw n q))
+
+  -- where the depth is 0 on every path, it is the first of the deepest
+  pub next-deepest : {l : List ℕ} → graph.Path (nextOnly (within f K outer)) (f .start) l → FirstOf f (HandlerPath f K) (depth f) l
+  next-deepest b = record { in-it = of-base here (next-path b); most = λ m q. omega (arith, depth-zero q); first = λ m q e. next-first here b m (to-base here q) }
 
   -- the outer routine is the only one
   pub none-live : {e : ℕ} → Live f K (called e) → ⊥

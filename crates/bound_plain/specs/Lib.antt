@@ -1,0 +1,2 @@
+pub mod PlainAnswer
+pub mod Named
