@@ -6,10 +6,10 @@ use Prim.Native.Nat.{ℕ, _+_, _-_, _*_, _/_, _%_, _≤_, _<_}
 use native.Mathlib.Omega.{arith}
 use native.Mathlib.Decide.{ℕ-discrete, decLt}
 use lib.ListN.{length, getD, set, length-set}
-use borrow.Author.Tests.{eq-eqb, ne-eqb, lt-ltb, le-ltb}
+use borrow.Author.Tests.{ne-eqb, lt-ltb, le-ltb}
 use Rattle.laws.specs.Choice.{pick}
 use Rattle.graph.specs.Graph.{Graph}
-use Rattle.graph.specs.Laid.{places, mostNodes}
+use Rattle.graph.specs.Laid.{mostNodes}
 use Rattle.graph_search.proofs.Zeros.{cases-set}
 use Rattle.routines.specs.Calling.{after}
 use Rattle.routines_joined.specs.Joined.{joined}

@@ -2,7 +2,7 @@
 use mathlib.Core.List.{List}
 use Prim.Native.Nat.{ℕ, _+_, _≤_, _<_}
 use native.Mathlib.Omega.{arith}
-use lib.ListN.{length, getD, set}
+use lib.ListN.{length, set}
 use Rattle.graph_search.proofs.Zeros.{cases-set}
 use Rattle.routines_judge.specs.Judging.{Ones, OnesTo}
 

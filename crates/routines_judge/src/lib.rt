@@ -4,7 +4,7 @@ use graph_search::lowest;
 use graph_search::reach;
 ghost use mathlib.Core.Path.{_≡_};
 ghost use mathlib.Core.Bool.{not};
-ghost use Prim.Native.Nat.{_+_, _*_, _<_, _≤_};
+ghost use Prim.Native.Nat.{_+_, _*_, _<_};
 ghost use lib.ListN.{length, getD};
 ghost use Rattle.laws.specs.Choice.{pick};
 ghost use Rattle.graph.specs.Graph.{ReachPlus};
@@ -16,7 +16,6 @@ ghost use Rattle.routines.specs.Calling.{outer};
 ghost use Rattle.routines.specs.Shape.{Widens};
 ghost use Rattle.routines_joined.specs.Joined.{code};
 ghost use Rattle.routines_known.specs.Losing.{knownBy};
-ghost use Rattle.routines_marks.specs.Marking.{flowIn};
 ghost use Rattle.routines_judge.specs.Judging.{entries, FlowLaid, flowFrom, marksOf, joinedBy, kindIn, NodeIs, LaidAs, ReachedAs, Roomy, Works, Ones};
 ghost use Rattle.routines_judge.specs.Answers.{NothingRecurs, Recursion, Judges};
 

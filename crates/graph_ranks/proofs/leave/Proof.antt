@@ -1,6 +1,5 @@
 -- `graph_ranks::leave` meets its contract.
 use borrow.Author.Needs.{needs}
-use native.Mathlib.Omega.{arith}
 use Rattle.graph_search.proofs.Zeros.{wide16}
 use Rattle.graph_ranks.proofs.leave.Statement.{statement}
 use Rattle.graph_ranks.proofs.leave.Tie as tie

@@ -1,6 +1,6 @@
 -- `routines_judge::recursion` meets its contract.
 use mathlib.Core.Path.{_∙_}
-use Rattle.routines_judge.proofs.Judged.{recursion-is}
+use Rattle.routines_judge.proofs.Wide.{recursion-is}
 use borrow.Author.Needs.{needs}
 use Rattle.routines_judge.proofs.recursion.Statement.{statement}
 use Rattle.routines_judge.proofs.recursion.Tie as tie
