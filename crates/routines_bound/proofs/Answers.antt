@@ -1,8 +1,8 @@
 -- A sound handler whose sums and depths are settled: 25, 23, or N and the depth with their paths.
-use mathlib.Core.Path.{_≡_, refl, sym, ap, _∙_}
+use mathlib.Core.Path.{_≡_, refl, sym, subst}
 use mathlib.Core.Bool.{Bool}
 use mathlib.Core.List.{List, []}
-use Prim.Native.Nat.{ℕ, _*_, _/_, _≤_, _<_}
+use Prim.Native.Nat.{ℕ, _+_, _*_, _/_, _≤_, _<_}
 use native.Mathlib.Omega.{arith}
 use lib.ListN.{length, getD, drop}
 use Rattle.graph.specs.Graph.{Graph, here, sum}
@@ -27,11 +27,11 @@ use Rattle.routines_whole.proofs.Chain.{depths, route-is-path, n-over, fall-all
 use Rattle.routines_whole.proofs.Deepest.{route-is-deepest}
 use Rattle.routines_whole.proofs.AllHave.{all-have, idle-all}
 use Rattle.routines_paths.specs.Paths.{Paths, first-short, second-short, written}
-use Rattle.routines_bound.specs.Handler.{foundOf, Measures, Comes}
+use Rattle.routines_bound.specs.Handler.{foundOf, Measures, Comes, ToSettle, SettledTo}
 use Rattle.routines_bound.specs.declared.Found.{Found}
-use Rattle.routines_bound.proofs.Joins.{small, on-queue, shaped, cost-at, pays, place-of}
+use Rattle.routines_bound.proofs.Joins.{small, on-queue, queue-fits, shaped, nodes, costly, cost-at, pays, place-of}
 
-module _ (k nx o en c losing m q : List ℕ) (count s : ℕ) (measures : Measures k nx o en c losing m q count s) (ck cn co cc : List ℕ)
+module _ (k nx o en c losing q : List ℕ) (count s : ℕ) (measures : Measures k nx o en c losing q count s) (ck cn co cc : List ℕ)
     (coded : CodedTo (flowIn k nx o en) (knownBy (flowIn k nx o en) (marksOf losing)) c q count ck cn co cc) (d dep : List ℕ)
     (dist : Dist (graphOf ck cn co) (costOf cc) d dep) (idle : IdleFrom (graphOf ck cn co) d q 2048 count) where
   abbrev f : Flow
@@ -44,16 +44,16 @@ module _ (k nx o en c losing m q : List ℕ) (count s : ℕ) (measures : Measure
   g = graphOf ck cn co
 
   shape : Shaped f K g
-  shape = shaped k nx o en losing s c m q count measures ck cn co cc coded
+  shape = shaped k nx o en losing s c q count measures ck cn co cc coded
 
   ends : Done f K outer (f .start)
   ends = done f K (small k nx o en losing s (measures .flow) (measures .start)) (measures .widens) (measures .judged .no-recursion) (measures .sound .no-bad) (measures .sound .no-loop)
 
   pub has : (r : Routine) (v : ℕ) → Live f K r → In f K r v → 0 < getD d (code 0 r v) 0
-  has = all-have f K g d shape (idle-all f K (on-queue k nx o en losing s c m q count measures) idle) ends
+  has = all-have f K g d shape (idle-all f K (on-queue k nx o en losing s c q count measures) idle) ends
 
   costs : (r : Routine) (v : ℕ) → Live f K r → In f K r v → costOf cc (code 0 r v) ≡ costOf c v
-  costs = cost-at k nx o en losing s c m q count measures ck cn co cc coded
+  costs = cost-at k nx o en losing s c q count measures ck cn co cc coded
 
   abbrev N : ℕ
   N = outOf d (f .start)
@@ -75,8 +75,8 @@ module _ (k nx o en c losing m q : List ℕ) (count s : ℕ) (measures : Measure
     pub fall : way.Fall g d
     fall =
         fall-all f K g (costOf cc) (costOf c) d dep shape costs (measures .sound .no-bad) dist has
-        (pays k nx o en losing s c m q count measures ck cn co cc coded d dep dist)
-        (place-of k nx o en losing s c m q count measures ck cn co cc coded d dep dist)
+        (pays k nx o en losing s c q count measures ck cn co cc coded d dep dist)
+        (place-of k nx o en losing s c q count measures ck cn co cc coded d dep dist)
         low
 
     path-of : {route : List ℕ} → way.Route g d [] (code 0 outer (f .start)) route → PathOf f K (sum (costOf c)) N route
@@ -121,3 +121,25 @@ module _ (k nx o en c losing m q : List ℕ) (count s : ℕ) (measures : Measure
   answered {p} {r = r} (Comes.too-large h a b) = rw (a, b) (too-large p r h)
   answered {p} {p′} {r} {r′} (Comes.short {n} low w ne) = short low p p′ r r′ n w ne
   answered {p} {p′} {r} {r′} (Comes.bounds {n = n} low w z a b) = rw (a, b) (both low p p′ r r′ n w z)
+
+module _ (k nx o en c losing q : List ℕ) (count s : ℕ) (measures : Measures k nx o en c losing q count s) (ck cn co cc : List ℕ)
+    (coded : CodedTo (flowIn k nx o en) (knownBy (flowIn k nx o en) (marksOf losing)) c q count ck cn co cc) where
+  start-is : code 0 outer s ≡ 2 * s + 1
+  start-is = omega arith
+
+  pub to-settle : ToSettle ck cn co cc q count (2 * s + 1)
+  unfolding flowFrom
+  to-settle =
+      record {
+        nodes = nodes k nx o en losing s c q count measures ck cn co cc coded;
+        costly = costly k nx o en losing s c q count measures ck cn co cc coded;
+        queue = queue-fits k nx o en losing s c q count measures;
+        inside = omega (arith, measures .start);
+        has = λ d dep dist idle. subst (λ a. 0 < getD d a 0) start-is (has-start k nx o en c losing q count s measures ck cn co cc coded d dep dist idle);
+        falls = λ d dep dist idle low. fall k nx o en c losing q count s measures ck cn co cc coded d dep dist idle (subst (λ a. getD d a 0 < 65536) (sym start-is) low);
+      }
+
+  pub from-settled : {p p′ r r′ : List ℕ} {x : Found} → SettledTo (graphOf ck cn co) (costOf cc) q count (2 * s + 1) p p′ r r′ x
+      → FlowAnswer (flowFrom k nx o en s) (costOf c) (λ v. v / 2) p p′ r r′ (knownBy (flowFrom k nx o en s) (marksOf losing)) (foundOf x)
+  from-settled {p} {p′} {r} {r′} {x} t =
+      answered k nx o en c losing q count s measures ck cn co cc coded (t .d) (t .dep) (t .dist) (t .idle) (subst (λ a. Comes (graphOf ck cn co) (t .d) (t .dep) a p p′ r r′ x) (sym start-is) (t .comes))

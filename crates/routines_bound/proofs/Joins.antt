@@ -94,7 +94,7 @@ module _ (k nx o en losing : List ℕ) (s : ℕ) where
   unfolding flowFrom flowIn
   small l h = record { start = h; from = λ e lt. omega arith; next = λ v lt. l .sized .next-lt v lt; other = λ v lt. l .sized .other-lt v lt; entry = λ v lt. l .entry-lt v }
 
-  module _ (c m q : List ℕ) (count : ℕ) (measures : Measures k nx o en c losing m q count s) where
+  module _ (c q : List ℕ) (count : ℕ) (measures : Measures k nx o en c losing q count s) where
     tiny : Small f 16384 2048
     tiny = small (measures .flow) (measures .start)
 
@@ -106,7 +106,7 @@ module _ (k nx o en losing : List ℕ) (s : ℕ) where
     queue-fits = rw (measures .length) at (listed-queue (measures .sound .listed) (omega (arith, measures .length)))
 
     stands : (x : ℕ) → OnQ q count (2048 + x) → (r : Routine) × (v : ℕ) × Live f K r × In f K r v × (x ≡ code 0 r v)
-    stands x at = go (reached f K 2048 tiny (measures .sound .reached .sound (2048 + x) (subst (λ y. Marked m y) (at .2) (measures .sound .listed .marked (at .0) (at .1)))))
+    stands x at = go (reached f K 2048 tiny (measures .sound .reached .sound (2048 + x) (subst (λ y. Marked (measures .m) y) (at .2) (measures .sound .listed .marked (at .0) (at .1)))))
       where
         go : Stands f K 2048 (2048 + x) → (r : Routine) × (v : ℕ) × Live f K r × In f K r v × (x ≡ code 0 r v)
         go (Stands.entry l) = absurd (omega (arith, entry-lt f K 2048 tiny l))

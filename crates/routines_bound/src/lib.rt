@@ -14,7 +14,8 @@ ghost use Rattle.routines_judge.specs.Judging.{flowFrom, marksOf};
 ghost use Rattle.routines_route.specs.Arrays.{Nodes};
 ghost use Rattle.routines_route.specs.Way.{Fall};
 ghost use Rattle.routines_sweep.specs.Dist.{Costly, Dist, IdleFrom};
-ghost use Rattle.routines_bound.specs.Handler.{foundOf, Measures, Comes};
+ghost use Rattle.routines_coded.specs.Nodes.{Sized};
+ghost use Rattle.routines_bound.specs.Handler.{foundOf, Measures, Comes, ToSettle, SettledTo};
 
 // The greatest of what is spent, and of the calls that are open at once.
 pub struct Greatest {
@@ -100,30 +101,86 @@ fn answer_of(
     })
 }
 
-// The bound of a handler that is judged and sound, of which queue lists the nodes that are reached.
-fn measured(
+// The same as settled, with arrays of zeros lent to settle in.
+fn settled_in(
+    kind: &[u8],
+    next: &[u16],
+    other: &[u16],
+    cost: &[u32],
+    at: usize,
+    queue: &[u16],
+    count: usize,
+    path: &mut [u8],
+    deep: &mut [u8],
+    d: &mut [u32],
+    dep: &mut [u16],
+) -> Found
+    requires { ⌜ ToSettle (now kind) (now next) (now other) (now cost) (now queue) count at
+        × (length (now d) ≡ 32768) × Blank (now d) × (length (now dep) ≡ 32768) × Blank (now dep) ⌝ }
+    ensures { λ r. ⌜ SettledTo (graphOf (now (kind .entry)) (now (next .entry)) (now (other .entry))) (costOf (now (cost .entry))) (now (queue .entry)) count at
+        (now (path .entry)) (now (path .exit)) (now (deep .entry)) (now (deep .exit)) r ⌝ }
+{
+    settle_nodes(kind, next, other, cost, at, queue, count, d, dep);
+    answer_of(kind, next, other, d, dep, at, path, deep)
+}
+
+// Settles sums and depths, and says what they come to.
+fn settled(
+    kind: &[u8],
+    next: &[u16],
+    other: &[u16],
+    cost: &[u32],
+    at: usize,
+    queue: &[u16],
+    count: usize,
+    path: &mut [u8],
+    deep: &mut [u8],
+) -> Found
+    requires { ⌜ ToSettle (now kind) (now next) (now other) (now cost) (now queue) count at ⌝ }
+    ensures { λ r. ⌜ SettledTo (graphOf (now (kind .entry)) (now (next .entry)) (now (other .entry))) (costOf (now (cost .entry))) (now (queue .entry)) count at
+        (now (path .entry)) (now (path .exit)) (now (deep .entry)) (now (deep .exit)) r ⌝ }
+{
+    let mut d = [0u32; BOTH];
+    let mut dep = [0u16; BOTH];
+    settled_in(
+        kind,
+        next,
+        other,
+        cost,
+        at,
+        queue,
+        count,
+        path,
+        deep,
+        &mut d,
+        &mut dep,
+    )
+}
+
+// The same as measured, with arrays of zeros lent to lay the nodes in.
+fn measured_in(
     kind: &[u8],
     next: &[u16],
     other: &[u16],
     entry: &[u16],
     cost: &[u32],
     losing: &[u8],
-    marks: &[u8],
     queue: &[u16],
     count: usize,
     s: usize,
     path: &mut [u8],
     deep: &mut [u8],
+    ckind: &mut [u8],
+    cnext: &mut [u16],
+    cother: &mut [u16],
+    ccost: &mut [u32],
 ) -> Found
-    requires { ⌜ Measures (now kind) (now next) (now other) (now entry) (now cost) (now losing) (now marks) (now queue) count s ⌝ }
+    requires { ⌜ Measures (now kind) (now next) (now other) (now entry) (now cost) (now losing) (now queue) count s
+        × Sized (now ckind) (now cnext) (now cother) (now ccost) × Blank (now ckind) × Blank (now cnext) × Blank (now cother) × Blank (now ccost) ⌝ }
     ensures { λ r. ⌜ FlowAnswer (flowFrom (now (kind .entry)) (now (next .entry)) (now (other .entry)) (now (entry .entry)) s) (costOf (now (cost .entry))) (λ v. v / 2)
         (now (path .entry)) (now (path .exit)) (now (deep .entry)) (now (deep .exit))
         (knownBy (flowFrom (now (kind .entry)) (now (next .entry)) (now (other .entry)) (now (entry .entry)) s) (marksOf (now (losing .entry)))) (foundOf r) ⌝ }
 {
-    let mut ckind = [0u8; BOTH];
-    let mut cnext = [0u16; BOTH];
-    let mut cother = [0u16; BOTH];
-    let mut ccost = [0u32; BOTH];
     lay_coded(
         kind,
         next,
@@ -133,24 +190,62 @@ fn measured(
         losing,
         queue,
         count,
+        ckind,
+        cnext,
+        cother,
+        ccost,
+    );
+    settled(
+        ckind,
+        cnext,
+        cother,
+        ccost,
+        2 * s + 1,
+        queue,
+        count,
+        path,
+        deep,
+    )
+}
+
+// The bound of a handler that is judged and sound, of which queue lists the nodes that are reached.
+fn measured(
+    kind: &[u8],
+    next: &[u16],
+    other: &[u16],
+    entry: &[u16],
+    cost: &[u32],
+    losing: &[u8],
+    queue: &[u16],
+    count: usize,
+    s: usize,
+    path: &mut [u8],
+    deep: &mut [u8],
+) -> Found
+    requires { ⌜ Measures (now kind) (now next) (now other) (now entry) (now cost) (now losing) (now queue) count s ⌝ }
+    ensures { λ r. ⌜ FlowAnswer (flowFrom (now (kind .entry)) (now (next .entry)) (now (other .entry)) (now (entry .entry)) s) (costOf (now (cost .entry))) (λ v. v / 2)
+        (now (path .entry)) (now (path .exit)) (now (deep .entry)) (now (deep .exit))
+        (knownBy (flowFrom (now (kind .entry)) (now (next .entry)) (now (other .entry)) (now (entry .entry)) s) (marksOf (now (losing .entry)))) (foundOf r) ⌝ }
+{
+    let mut ckind = [0u8; BOTH];
+    let mut cnext = [0u16; BOTH];
+    let mut cother = [0u16; BOTH];
+    let mut ccost = [0u32; BOTH];
+    measured_in(
+        kind,
+        next,
+        other,
+        entry,
+        cost,
+        losing,
+        queue,
+        count,
+        s,
+        path,
+        deep,
         &mut ckind,
         &mut cnext,
         &mut cother,
         &mut ccost,
-    );
-    let at = 2 * s + 1;
-    let mut d = [0u32; BOTH];
-    let mut dep = [0u16; BOTH];
-    settle_nodes(
-        &ckind,
-        &cnext,
-        &cother,
-        &ccost,
-        at,
-        queue,
-        count,
-        &mut d,
-        &mut dep,
-    );
-    answer_of(&ckind, &cnext, &cother, &d, &dep, at, path, deep)
+    )
 }
