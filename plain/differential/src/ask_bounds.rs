@@ -32,17 +32,18 @@ pub fn bounds(asker: &mut Asker, chance: &mut Chance, codes: &Codes, wanted: u64
     asker.compare_queued()
 }
 
-/// Bounds of handlers that call, so many besides those that were asked before.
-pub fn calling_bounds(asker: &mut Asker, chance: &mut Chance, codes: &Codes, wanted: u64) -> Result<(), Difference> {
+/// So many bounds of handlers that reach a call, and some that may not.
+pub fn calling_bounds(asker: &mut Asker, chance: &mut Chance, codes: &Codes, wanted: usize) -> Result<(), Difference> {
     let device = codes.device;
-    let before = asker.asked(device, Kind::Bound);
-    while asker.asked(device, Kind::Bound) < before + wanted {
-        let (bytes, starts) = if chance.one_in(100) { nested(chance) } else { calling(chance, codes) };
+    let mut asked = 0;
+    while asked < wanted {
+        let made = if chance.one_in(100) { nested(chance) } else { calling(chance, codes) };
         let p3 = any_p3(chance, device);
-        let handlers = Handlers { device, image: shown(chance, device, p3, &bytes), p3 };
-        for start in starts {
+        let handlers = Handlers { device, image: shown(chance, device, p3, &made.image), p3 };
+        for start in made.starts.iter().chain(&made.others) {
             ask_with_a_buffer(asker, chance, &handlers, (start % ADDRESSES) as u32)?;
         }
+        asked += made.starts.len();
     }
     asker.compare_queued()
 }
@@ -171,12 +172,15 @@ fn ask_with_a_buffer(
         Bound::Cycles { path_bytes, deep_bytes, .. } => [path_bytes, deep_bytes],
         _ => [0, 0],
     };
-    let enough = [true, true];
-    let is_enough =
-        chance.pick(&[enough, enough, enough, enough, [false, true], [true, false], [true, false], [false; 2]]);
+    let are_enough = match chance.below(9) {
+        0 => [false, true],
+        1 => [true, false],
+        2 => [false, false],
+        _ => [true, true],
+    };
     let [path, deep] = [0, 1].map(|which| {
         let room =
-            if is_enough[which] { enough_room(chance, needed[which]) } else { short_room(chance, needed[which]) };
+            if are_enough[which] { enough_room(chance, needed[which]) } else { short_room(chance, needed[which]) };
         chance.bytes(room)
     });
     let (device, p3, image) = (*device, *p3, image.clone());

@@ -9,12 +9,21 @@ const RTI: u8 = 0x4D;
 const RET: u8 = 0x4F;
 const NOP: u8 = 0x56;
 
-/// A handler's 8,192 bytes, and addresses to bound it from.
-pub type Calling = ([u8; ADDRESSES], Vec<usize>);
+/// A handler's 8,192 bytes and addresses to bound it from.
+pub struct Calling {
+    pub image: [u8; ADDRESSES],
+    /// From these a call is reached.
+    pub starts: Vec<usize>,
+    /// From these perhaps.
+    pub others: Vec<usize>,
+}
 
 /// STASP, EICIL, OUTA P16, an unassigned code, OUTA and SEP of P3, RTI and RET.
 const WRONG: [&[u8]; 8] =
     [&[0x69, 0xFF], &[0x63, 0x4F], &[0x6F, 0x10], &[0x54], &[0x6F, 0x03], &[0x6D, 0x53], &[RTI], &[RET]];
+
+/// As one row in so many.
+const NEVER: usize = 1_000_000;
 
 /// What makes the rows of one image.
 struct Maker<'a> {
@@ -37,9 +46,9 @@ pub fn calling(chance: &mut Chance, codes: &Codes) -> Calling {
     let entries = any_entries(chance);
     let mut maker = Maker {
         entries,
-        wrong_one_in: chance.pick(&[20, 100, 1_000_000, 1_000_000, 1_000_000]),
-        recursive_one_in: chance.pick(&[10, 50, 1_000_000, 1_000_000, 1_000_000]),
-        backward_one_in: chance.pick(&[20, 100, 1_000_000, 1_000_000, 1_000_000]),
+        wrong_one_in: chance.pick(&[20, 100, NEVER, NEVER, NEVER, NEVER]),
+        recursive_one_in: chance.pick(&[10, 50, NEVER, NEVER, NEVER, NEVER, NEVER]),
+        backward_one_in: chance.pick(&[20, 100, NEVER, NEVER, NEVER, NEVER, NEVER]),
         calls: chance.pick(&[10, 25, 45]),
         chance,
         codes,
@@ -77,14 +86,20 @@ impl Maker<'_> {
             put(&mut image, entry, &[&code[..], &[RET]].concat());
         }
         let start = self.chance.pick(&[0x820, 0xA00, 0xFE0, 0x1000, 0x1234, 0x1FC0]);
+        let mut code = Vec::new();
+        let mut starts = vec![start, start];
+        for _ in 0..self.chance.below(3) {
+            code.extend(self.ordinary());
+            starts.push(start + code.len());
+        }
+        code.extend(self.call(0));
         let room = self.chance.pick(&[6, 20, 60, 150]);
-        let code = self.rows(start, None, room);
-        put(&mut image, start, &[&code[..], &[RTI]].concat());
+        code.extend(self.rows(start + code.len(), None, room));
+        code.push(RTI);
+        put(&mut image, start, &code);
         let entry = self.chance.below(self.entries.len());
-        (
-            image,
-            vec![start, start, start + 1, start + 2, start + self.chance.below(code.len() + 1), self.entries[entry]],
-        )
+        let others = [start + self.chance.below(code.len()), self.entries[entry]];
+        Calling { image, starts, others: vec![others[self.chance.below(2)]] }
     }
 
     /// Rows of a routine, in at most so many bytes.
@@ -188,7 +203,7 @@ pub fn nested(chance: &mut Chance) -> Calling {
     }
     let loads = left.min(ADDRESSES - at - 1);
     put(&mut image, at, &[&vec![0xD0; loads][..], &[RTI]].concat());
-    (image, vec![0x1000, 0x1000, 0x1002, FIRST + APART * (costs.len() - 1)])
+    Calling { image, starts: vec![0x1000, 0x1000, 0x1002], others: vec![FIRST + APART * (costs.len() - 1)] }
 }
 
 fn put(image: &mut [u8; ADDRESSES], at: usize, code: &[u8]) {

@@ -25,7 +25,7 @@ const AT_LEAST: [(Kind, &[(u8, u64)]); Kind::ALL.len()] = [
     (Kind::IsValid, &[(0, 30_000), (2, 30_000)]),
 ];
 const BOUND_AT_LEAST: [(u8, u64); 8] =
-    [(0, 60_000), (1, 500), (20, 500), (21, 20_000), (22, 10_000), (23, 20_000), (24, 3_000), (25, 300)];
+    [(0, 60_000), (1, 500), (20, 500), (21, 30_000), (22, 15_000), (23, 25_000), (24, 10_000), (25, 500)];
 const STEP_AT_LEAST: [(u8, u64); 10] = [
     (0, 400_000),
     (1, 5_000),
@@ -198,7 +198,7 @@ const BOUNDS: [&str; 6] = [
 ];
 const PATHS_APART: usize = 4;
 const DEEP_SHORT: usize = 5;
-const EACH_BOUND: u64 = 2_000;
+const EACH_BOUND: u64 = 4_000;
 
 /// What a why says, by its case from 1 on, and the last one by its source from IL0 up, with none waiting and with some: each comes so often at least.
 const REASONS: [&str; 5] = ["waits", "has EI clear", "has nothing latched", "has all masked", "has no stack level"];
