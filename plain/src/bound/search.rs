@@ -23,7 +23,12 @@ pub struct Reached<'a> {
 
 impl Reached<'_> {
     pub fn view(&self, place: Place) -> View {
-        match self.handlers.view(place) {
+        self.with_sf_after(self.handlers.view(place))
+    }
+
+    /// What the handlers show, with what is known of SF after a call.
+    fn with_sf_after(&self, seen: View) -> View {
+        match seen {
             View::Call { cycles, entry, after } if self.after == After::Exact => {
                 let known = !self.returns_unknown[entry.index()];
                 View::Call { cycles, entry, after: Place { known, ..after } }
@@ -41,6 +46,8 @@ impl Reached<'_> {
 /// A place that the search has entered and not left.
 struct Visit {
     place: Place,
+    /// As the handlers show it: what is known of SF after a call is told when its routine is left.
+    seen: View,
     followed: usize,
 }
 
@@ -80,7 +87,7 @@ pub(super) fn search(handlers: Handlers, start: Place, after: After) -> Reached 
         let (place, turn) = (visit.place, visit.followed);
         visit.followed += 1;
         // A called routine comes first: it tells what is known of SF after the call.
-        let seen = search.reached.view(place);
+        let seen = search.reached.with_sf_after(visit.seen);
         let [next, target] = seen.followers();
         match [seen.entry(), next, target].get(turn) {
             None => search.leave(),
@@ -97,7 +104,8 @@ impl Search<'_> {
         self.entered[place.index()] = self.entries;
         self.earliest[place.index()] = self.entries;
         self.open.push(place);
-        self.visits.push(Visit { place, followed: 0 });
+        let seen = self.reached.handlers.view(place);
+        self.visits.push(Visit { place, seen, followed: 0 });
     }
 
     fn follow(&mut self, place: Place, follower: Place) {
@@ -115,9 +123,9 @@ impl Search<'_> {
 
     /// Leaves the last visit, and closes its component where it is the first place of one.
     fn leave(&mut self) {
-        let Some(Visit { place, .. }) = self.visits.pop() else { return };
+        let Some(Visit { place, seen, .. }) = self.visits.pop() else { return };
         self.reached.finished.push(place);
-        self.reached.returns_unknown[place.index()] = self.returns_unknown(place);
+        self.reached.returns_unknown[place.index()] = self.returns_unknown(place, seen);
         let earliest = self.earliest[place.index()];
         if let Some(before) = self.visits.last().map(|visit| visit.place) {
             self.reaches(before, earliest);
@@ -128,11 +136,10 @@ impl Search<'_> {
     }
 
     /// By the place itself and by those that follow it as far as they are judged; the others are of its component.
-    fn returns_unknown(&self, place: Place) -> bool {
-        let seen = self.reached.view(place);
-        let followers = seen.followers().into_iter().flatten();
+    fn returns_unknown(&self, place: Place, seen: View) -> bool {
+        let mut followers = self.reached.with_sf_after(seen).followers().into_iter().flatten();
         let ends_unknown = matches!(seen, View::End { .. }) && !place.known;
-        ends_unknown || followers.into_iter().any(|follower| self.reached.returns_unknown[follower.index()])
+        ends_unknown || followers.any(|follower| self.reached.returns_unknown[follower.index()])
     }
 
     fn close_component(&mut self, first: Place) {
