@@ -77,20 +77,17 @@ fn worst_with_calls(kind: &str) -> Option<Worst> {
         }
         // Each routine calls the next and returns.
         "descent" => {
-            write_calls(&mut image, 3, |routine, last| routine.min(last - 1) + 1);
-            lcall(&mut image, 0x1000, 0);
+            write_calls(&mut image, 3, |routine, _| routine + 1);
             (0x1000, "N")
         }
         // Each routine calls the next and goes on into it.
         "doubling" => {
-            write_calls(&mut image, 2, |routine, last| routine.min(last - 1) + 1);
-            lcall(&mut image, 0x1000, 0);
+            write_calls(&mut image, 2, |routine, _| routine + 1);
             (0x1000, "refused 25")
         }
         // Each routine calls the one as far from the end as it is from the beginning, and goes on into the next.
         "recursion" => {
             write_calls(&mut image, 2, |routine, last| last - 1 - routine);
-            lcall(&mut image, 0x1000, 0);
             (0x1000, "refused 24 0000")
         }
         // A routine of 4,087 rows, called 16 times.
@@ -107,14 +104,15 @@ fn worst_with_calls(kind: &str) -> Option<Worst> {
     Some(Worst { image, start, answer })
 }
 
-/// Routines of so many bytes from address 0 on, a call and returns; the last returns at once. The call goes to the routine that is
-/// told for its number and the number of the last.
+/// Routines of so many bytes from address 0 on, each a call and then RETs as far as it has room; the last returns at once. A call goes to
+/// the routine that is told for its own number and the last one's. The handler at 1000 calls the first.
 fn write_calls(image: &mut [u8; IMAGE_SIZE], bytes: usize, called: impl Fn(usize, usize) -> usize) {
     image[..ENTRIES + bytes].fill(RET);
     let last = ENTRIES / bytes - 1;
     for routine in 0..last {
         lcall(image, bytes * routine, bytes * called(routine, last));
     }
+    lcall(image, 0x1000, 0);
 }
 
 /// Each row branches to the row before it. SBR does not leave its page, nor LBR its half: the

@@ -507,6 +507,12 @@ impl Coverage {
         if self.longest_runs < LONGEST_RUNS {
             found.push(format!("a run made {MOST_FRAMES} steps only {} times, not {LONGEST_RUNS}", self.longest_runs));
         }
+        found.extend(self.bound_shortfalls());
+        found
+    }
+
+    fn bound_shortfalls(&self) -> Vec<String> {
+        let mut found = Vec::new();
         if self.bounds_past_end < BOUNDS_PAST_END {
             let count = self.bounds_past_end;
             found.push(format!("a bound met a code that passes the end only {count} times, not {BOUNDS_PAST_END}"));
