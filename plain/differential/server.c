@@ -149,10 +149,6 @@ static int ask_image(const struct request *r, struct answer *answer) {
                               : em73862_row(image, length, at, &b[0], &w[0], &w[1], &w[2], &b[1], &b[2]);
         values[0] = b[0], values[1] = w[0], values[2] = w[1], values[3] = w[2], values[4] = b[1], values[5] = b[2];
         return 1;
-    case 9:
-        answer->number = p982 ? em73p982_bound(image, length, p3, at, changing, n, &size)
-                              : em73862_bound(image, length, at, changing, n, &size);
-        break;
     case 14:
         answer->number = p982 ? em73p982_notation(image, length, p3, at, changing, n, &size)
                               : em73862_notation(image, length, at, changing, n, &size);
@@ -160,6 +156,20 @@ static int ask_image(const struct request *r, struct answer *answer) {
     default: return 0;
     }
     values[0] = size;
+    return 1;
+}
+
+/* The bound, whose changing buffer is two: N's path, as long as the request's third number, a margin, and the depth's path. */
+static int ask_bound(const struct request *r, struct answer *answer) {
+    size_t n = r->third, length = image_length;
+    uint32_t value = 0xAAAAAAAA, depth = 0xAAAAAAAA;
+    if (r->call != 9 || n + MARGIN > r->changing_length)
+        return 0;
+    size_t m = r->changing_length - n - MARGIN;
+    uint8_t *deep = changing + n + MARGIN;
+    answer->number = r->device == EM73P982 ? em73p982_bound(image, length, r->second, r->first, changing, n, deep, m, &value, &depth)
+                                           : em73862_bound(image, length, r->first, changing, n, deep, m, &value, &depth);
+    answer->values[0] = value, answer->values[1] = depth;
     return 1;
 }
 
@@ -176,7 +186,7 @@ static int ask_writer(const struct request *r, struct answer *answer) {
 
 static struct answer ask(const struct request *r) {
     struct answer answer = {0};
-    if (r->device >= DEVICES || !(ask_record(r, &answer) || ask_image(r, &answer) || ask_writer(r, &answer)))
+    if (r->device >= DEVICES || !(ask_record(r, &answer) || ask_image(r, &answer) || ask_bound(r, &answer) || ask_writer(r, &answer)))
         _exit(1);
     return answer;
 }

@@ -11,6 +11,9 @@ pub const ADDRESS: u8 = 20;
 pub const EXCLUDED: u8 = 21;
 pub const REPETITION: u8 = 22;
 pub const PATH_BUFFER: u8 = 23;
+///
+pub const RECURSION: u8 = 24;
+pub const TOO_MANY_CYCLES: u8 = 25;
 pub const UNASSIGNED: u8 = 30;
 pub const ABSENT_RAM: u8 = 31;
 pub const STACK_LEVEL: u8 = 32;

@@ -205,11 +205,11 @@ fn refusals_in_their_order() {
     for p3 in [3, 7, 11, 15, 16, 19, u32::MAX] {
         assert_eq!(read(DEVICE, &image[1..], p3, 8192), Err(1));
         assert_eq!(read(DEVICE, &image, p3, 8192), Err(2));
-        assert_eq!(bound(DEVICE, &image[1..], p3, 8192, &mut []), Bound::ImageSize);
-        assert_eq!(bound(DEVICE, &image, p3, 8192, &mut []), Bound::P3);
+        assert_eq!(bound(DEVICE, &image[1..], p3, 8192, &mut [], &mut []), Bound::ImageSize);
+        assert_eq!(bound(DEVICE, &image, p3, 8192, &mut [], &mut []), Bound::P3);
     }
     assert_eq!(read(DEVICE, &image, 2, 8192), Err(20));
-    assert_eq!(bound(DEVICE, &image, 2, 8192, &mut []), Bound::AddressOver8191);
+    assert_eq!(bound(DEVICE, &image, 2, 8192, &mut [], &mut []), Bound::AddressOver8191);
 }
 
 #[test]
@@ -232,11 +232,12 @@ fn the_end_is_1fff_and_the_banks_are_no_ends() {
 #[test]
 fn the_bound_sees_the_window_of_its_p3() {
     let image = image_with(&[(0x1100, &[RTI]), (0x2100, &[NOP, RTI]), (0x3100, &[0x4F])]);
-    let mut path = [0; 8];
-    assert_eq!(bound(DEVICE, &image, 0, 0x1100, &mut path), Bound::Cycles { most: 2, path_bytes: 2 });
-    assert_eq!(bound(DEVICE, &image, 5, 0x1100, &mut path), Bound::Cycles { most: 3, path_bytes: 4 });
-    assert_eq!(path[..4], [0x00, 0x11, 0x01, 0x11]);
-    assert_eq!(bound(DEVICE, &image, 2, 0x1100, &mut path), Bound::Excluded(0x1100));
+    let (mut path, mut deep) = ([0; 8], [0; 8]);
+    let mut bounded = |p3| bound(DEVICE, &image, p3, 0x1100, &mut path, &mut deep);
+    assert_eq!(bounded(0), Bound::Cycles { most: 2, path_bytes: 2, depth: 0, deep_bytes: 2 });
+    assert_eq!(bounded(5), Bound::Cycles { most: 3, path_bytes: 4, depth: 0, deep_bytes: 4 });
+    assert_eq!(bounded(2), Bound::Excluded(0x1100));
+    assert_eq!((&path[..4], &deep[..4]), (&[0x00, 0x11, 0x01, 0x11][..], &[0x00, 0x11, 0x01, 0x11][..]));
 }
 
 #[test]
@@ -248,9 +249,9 @@ fn rows_that_write_p3_are_excluded() {
     let bounded = |device: Device, code: &[u8]| {
         let mut image = vec![RTI; device.image_size()];
         image[0x100..0x100 + code.len()].copy_from_slice(code);
-        bound(device, &image, 0, 0x100, &mut [0; 8])
+        bound(device, &image, 0, 0x100, &mut [0; 8], &mut [0; 8])
     };
-    let ended = Bound::Cycles { most: 4, path_bytes: 4 };
+    let ended = Bound::Cycles { most: 4, path_bytes: 4, depth: 0, deep_bytes: 4 };
     for code in writing {
         assert_eq!((bounded(DEVICE, &code), bounded(Device::Em73862, &code)), (Bound::Excluded(0x100), ended));
     }

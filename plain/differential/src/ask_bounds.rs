@@ -1,7 +1,8 @@
-//! Bounds: handlers that end, that repeat and that reach an excluded row, and path buffers of every length.
+//! Bounds: handlers that end, that repeat, that reach an excluded row and that call, and path buffers of every length.
 
 use crate::asker::{Asker, Difference};
-use crate::calls::{Call, Image, Kind};
+use crate::calling::{branch, calling, nested};
+use crate::calls::{Call, Image, Kind, Paths};
 use crate::chance::Chance;
 use crate::images::{any_p3, ending, given_p3, of_wrong_size, shown, whole, Codes};
 use plain::{bound, worst_of, Bound, Device, Row, ADDRESSES, MOST_PATH_BYTES, SHEET, WORST};
@@ -27,6 +28,22 @@ pub fn bounds(asker: &mut Asker, chance: &mut Chance, codes: &Codes, wanted: u64
             1 => refused_bounds(asker, chance, codes.device)?,
             _ => bounds_of_a_handler(asker, chance, codes)?,
         }
+    }
+    asker.compare_queued()
+}
+
+/// So many bounds of handlers that reach a call, and some that may not.
+pub fn calling_bounds(asker: &mut Asker, chance: &mut Chance, codes: &Codes, wanted: usize) -> Result<(), Difference> {
+    let device = codes.device;
+    let mut asked = 0;
+    while asked < wanted {
+        let made = if chance.one_in(100) { nested(chance) } else { calling(chance, codes) };
+        let p3 = any_p3(chance, device);
+        let handlers = Handlers { device, image: shown(chance, device, p3, &made.image), p3 };
+        for start in made.starts.iter().chain(&made.others) {
+            ask_with_a_buffer(asker, chance, &handlers, (start % ADDRESSES) as u32)?;
+        }
+        asked += made.starts.len();
     }
     asker.compare_queued()
 }
@@ -76,8 +93,10 @@ fn refused_bounds(asker: &mut Asker, chance: &mut Chance, device: Device) -> Res
         if chance.one_in(2) { of_wrong_size(chance, device) } else { vec![RTI; device.image_size()].into() };
     for address in [0, 8191, 8192, 16384, 65536, u32::MAX] {
         let p3 = given_p3(chance, device, 3);
-        let length = chance.pick(&[0, 1, 2, 3, 40]);
-        asker.ask(Call::Bound { device, image: image.clone(), p3, address, path: chance.bytes(length) })?;
+        let lengths = [0, 1].map(|_| chance.pick(&[0, 1, 2, 3, 40]));
+        let [path, deep] = lengths.map(|length| chance.bytes(length));
+        let paths = Paths::new(&path, &deep);
+        asker.ask(Call::Bound { device, image: image.clone(), p3, address, paths })?;
     }
     Ok(())
 }
@@ -114,7 +133,7 @@ fn handler(chance: &mut Chance, codes: &Codes, start: usize) -> [u8; ADDRESSES] 
         if chance.one_in(2 * excluded_one_in) {
             put(&mut image, &mut at, chance.pick(&WRITES_P3));
         } else if chance.one_in(excluded_one_in) {
-            let row = chance.pick(&[Row::Ret, Row::Scall, Row::Lcall, Row::Eicil]);
+            let row = chance.pick(&[Row::Ret, Row::Scall, Row::Lcall, Row::Eicil, Row::Stasp]);
             put(&mut image, &mut at, codes.any_of(chance, row));
         } else if chance.one_in(4) {
             let target = if chance.one_in(backward_one_in) {
@@ -134,25 +153,13 @@ fn handler(chance: &mut Chance, codes: &Codes, start: usize) -> [u8; ADDRESSES] 
     image
 }
 
-/// Rows that are excluded or end a path, which come only where they are meant to, and branches, which need a target.
-fn has_its_own_turn(row: Row) -> bool {
-    matches!(row, Row::Lcall | Row::Scall | Row::Ret | Row::Eicil | Row::Rti | Row::Sbr | Row::Lbr | Row::Slbr)
+/// Rows that are excluded, call or end a path, which come only where they are meant to, and branches, which need a target.
+pub fn has_its_own_turn(row: Row) -> bool {
+    let leaves = matches!(row, Row::Lcall | Row::Scall | Row::Ret | Row::Rti | Row::Sbr | Row::Lbr | Row::Slbr);
+    leaves || matches!(row, Row::Eicil | Row::Stasp)
 }
 
-/// The shortest branch that gets there, now and then a longer one.
-fn branch(chance: &mut Chance, at: usize, target: usize) -> Vec<u8> {
-    let low = target as u8;
-    let middle = 0xC0 | (target >> 8 & 15) as u8;
-    if at >> 6 == target >> 6 && !chance.one_in(4) {
-        vec![low & 0x3F]
-    } else if at >> 12 == target >> 12 && !chance.one_in(4) {
-        vec![middle, low]
-    } else {
-        vec![if target >= 0x1000 { 0x55 } else { 0x57 }, middle, low]
-    }
-}
-
-/// Asks with a path buffer of no bytes, of too few, of just enough or of more.
+/// Asks with path buffers of no bytes, of too few, of just enough or of more; mostly neither is short.
 fn ask_with_a_buffer(
     asker: &mut Asker,
     chance: &mut Chance,
@@ -160,21 +167,41 @@ fn ask_with_a_buffer(
     address: u32,
 ) -> Result<(), Difference> {
     let Handlers { device, image, p3 } = handlers;
-    let mut all = vec![0; MOST_PATH_BYTES];
-    let needed = match bound(*device, image, *p3, address, &mut all) {
-        Bound::Cycles { path_bytes, .. } => path_bytes,
-        _ => 0,
+    let [mut path, mut deep] = [vec![0; MOST_PATH_BYTES], vec![0; MOST_PATH_BYTES]];
+    let needed = match bound(*device, image, *p3, address, &mut path, &mut deep) {
+        Bound::Cycles { path_bytes, deep_bytes, .. } => [path_bytes, deep_bytes],
+        _ => [0, 0],
     };
-    let length = match chance.below(8) {
+    let are_enough = match chance.below(9) {
+        0 => [false, true],
+        1 => [true, false],
+        2 => [false, false],
+        _ => [true, true],
+    };
+    let [path, deep] = [0, 1].map(|which| {
+        let room =
+            if are_enough[which] { enough_room(chance, needed[which]) } else { short_room(chance, needed[which]) };
+        chance.bytes(room)
+    });
+    let (device, p3, image) = (*device, *p3, image.clone());
+    asker.ask(Call::Bound { device, image, p3, address, paths: Paths::new(&path, &deep) })?;
+    Ok(())
+}
+
+fn enough_room(chance: &mut Chance, needed: usize) -> usize {
+    match chance.below(4) {
+        0 => needed + 1,
+        1 => needed + chance.below(60),
+        _ => needed,
+    }
+}
+
+/// Too few bytes, where some are needed.
+fn short_room(chance: &mut Chance, needed: usize) -> usize {
+    match chance.below(4) {
         0 => 0,
         1 => needed.saturating_sub(1),
         2 => needed.saturating_sub(2),
-        3 => chance.below(needed + 1),
-        4 => needed + 1,
-        5 => needed + chance.below(60),
-        _ => needed,
-    };
-    let (device, p3, image) = (*device, *p3, image.clone());
-    asker.ask(Call::Bound { device, image, p3, address, path: chance.bytes(length) })?;
-    Ok(())
+        _ => chance.below(needed.max(1)),
+    }
 }

@@ -90,7 +90,7 @@ pub fn first_difference(kind: Kind, one: (&str, &Answer), other: (&str, &Answer)
     if let Some((place, (one, other))) = bytes.into_iter().find(|(_, (one, other))| one != other) {
         let field = match kind {
             Kind::Display => format!("dots, byte {place}"),
-            Kind::Bound => format!("path, byte {place}"),
+            Kind::Bound => format!("paths, byte {place}"),
             _ => format!("record, byte {place}, {}", layout::field_at(place)),
         };
         return differs(&field, (*one).into(), (*other).into());
@@ -153,7 +153,10 @@ fn in_short(call: &Call) -> String {
             write!(text, "address {address:X}h, {} bytes for the text", buffer.len())
         }
         Call::Write { row, a, b } => write!(text, "row {row}, a {a}, b {b}"),
-        Call::Bound { address, path, .. } => write!(text, "address {address:X}h, {} bytes for the path", path.len()),
+        Call::Bound { address, paths, .. } => {
+            let [path, deep] = paths.rooms();
+            write!(text, "address {address:X}h, {path} bytes for N's path, {deep} for the depth's")
+        }
     };
     text
 }

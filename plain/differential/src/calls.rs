@@ -20,10 +20,42 @@ pub enum Call {
     Display { device: Device, record: Vec<u8>, dots: Vec<u8> },
     Read { device: Device, image: Image, p3: u32, address: u32 },
     Write { row: u8, a: u16, b: u8 },
-    Bound { device: Device, image: Image, p3: u32, address: u32, path: Vec<u8> },
+    Bound { device: Device, image: Image, p3: u32, address: u32, paths: Paths },
     Length { device: Device, image: Image, p3: u32, address: u32 },
     Row { device: Device, image: Image, p3: u32, address: u32 },
     Notation { device: Device, image: Image, p3: u32, address: u32, text: Vec<u8> },
+}
+
+/// What stands before, between and behind the buffers that a call may change.
+const GAP: [u8; 16] = [0xA5; 16];
+
+/// The two buffers of a bound in one: N's path, a gap that must stay, and the depth's path.
+#[derive(Clone, Debug)]
+pub struct Paths {
+    path_length: usize,
+    bytes: Vec<u8>,
+}
+
+impl Paths {
+    pub fn new(path: &[u8], deep: &[u8]) -> Paths {
+        Paths { path_length: path.len(), bytes: [path, &GAP, deep].concat() }
+    }
+
+    /// The lengths of both.
+    pub fn rooms(&self) -> [usize; 2] {
+        [self.path_length, self.bytes.len() - self.path_length - GAP.len()]
+    }
+
+    /// All the bytes, as they go into a call and as they may come out of one.
+    pub fn bytes(&self) -> &[u8] {
+        &self.bytes
+    }
+
+    /// Both buffers in bytes that are laid out like these.
+    pub fn apart<'a>(&self, bytes: &'a mut [u8]) -> (&'a mut [u8], &'a mut [u8]) {
+        let (path, others) = bytes.split_at_mut(self.path_length);
+        (path, &mut others[GAP.len()..])
+    }
 }
 
 /// What the calls are counted by.
@@ -119,7 +151,7 @@ impl Kind {
             Kind::Run => &["steps", "cycles"],
             Kind::Read => &["row", "a", "b"],
             Kind::Write => &["length", "b0", "b1", "b2"],
-            Kind::Bound => &["value"],
+            Kind::Bound => &["value", "depth"],
             Kind::Length => &["bytes", "cycles"],
             Kind::Row => &["row", "first", "second", "goes", "bytes", "cycles"],
             Kind::Notation => &["length"],
@@ -135,7 +167,7 @@ pub const MOST_VALUES: usize = 6;
 pub struct Answer {
     pub number: u8,
     pub values: [u32; MOST_VALUES],
-    /// The buffer that the call may change, as it was left: the record, the dots, the path or the text.
+    /// The buffer that the call may change, as it was left: the record, the dots, the paths or the text.
     pub buffer: Vec<u8>,
     /// Whether all other bytes stayed: the image, the steady buffer, and what is just before and behind `buffer`.
     pub others_kept: bool,
@@ -204,7 +236,7 @@ impl Call {
             Call::Step { record, .. } | Call::Look { record, .. } => record,
             Call::Act { record, .. } | Call::Run { record, .. } | Call::Why { record, .. } => record,
             Call::Display { dots, .. } => dots,
-            Call::Bound { path, .. } => path,
+            Call::Bound { paths, .. } => paths.bytes(),
             Call::Notation { text, .. } => text,
             Call::Read { .. } | Call::Write { .. } | Call::Length { .. } | Call::Row { .. } => &[],
         }

@@ -1,6 +1,6 @@
 //! What the calls met, counted, and how often each must have come: so that the comparison cannot go blind.
 
-use crate::calls::{Answer, Call, Kind};
+use crate::calls::{Answer, Call, Kind, Paths};
 use crate::layout::machine_of;
 use plain::{is_valid, numbers, place_in_image, read, Device, Insn, Machine, Mode, Row, MOST_FRAMES, SHEET};
 
@@ -16,7 +16,7 @@ const AT_LEAST: [(Kind, &[(u8, u64)]); Kind::ALL.len()] = [
     (Kind::Display, &[(0, 30_000), (2, 10_000), (5, 10_000)]),
     (Kind::Read, &[(0, 60_000), (1, 500), (20, 5_000), (30, 1_500), (35, 3_000)]),
     (Kind::Write, &[(0, 10_000), (11, 50_000)]),
-    (Kind::Bound, &[(0, 20_000), (1, 500), (20, 500), (21, 10_000), (22, 10_000), (23, 10_000)]),
+    (Kind::Bound, &BOUND_AT_LEAST),
     (Kind::Length, &[(0, 50_000), (1, 500), (20, 5_000), (30, 1_000), (35, 1_500)]),
     (Kind::Row, &[(0, 50_000), (1, 500), (20, 5_000), (30, 1_000), (35, 1_500)]),
     (Kind::Notation, &[(0, 50_000), (1, 500), (20, 5_000), (30, 1_000), (35, 1_500)]),
@@ -24,6 +24,8 @@ const AT_LEAST: [(Kind, &[(u8, u64)]); Kind::ALL.len()] = [
     (Kind::Reset, &[(0, 30_000), (2, 30_000)]),
     (Kind::IsValid, &[(0, 30_000), (2, 30_000)]),
 ];
+const BOUND_AT_LEAST: [(u8, u64); 8] =
+    [(0, 60_000), (1, 500), (20, 500), (21, 30_000), (22, 15_000), (23, 25_000), (24, 10_000), (25, 500)];
 const STEP_AT_LEAST: [(u8, u64); 10] = [
     (0, 400_000),
     (1, 5_000),
@@ -185,6 +187,19 @@ const LONGEST_RUNS: u64 = 10;
 /// So many bounds at least meet a code that passes the end, as the lowest excluded place.
 const BOUNDS_PAST_END: u64 = 2_500;
 
+/// What a bound tells besides: each comes so often at least.
+const BOUNDS: [&str; 6] = [
+    "has depth 0",
+    "has depth 1",
+    "has depth 2",
+    "has depth 3 or more",
+    "has two different paths",
+    "is short of bytes for the depth's path alone",
+];
+const PATHS_APART: usize = 4;
+const DEEP_SHORT: usize = 5;
+const EACH_BOUND: u64 = 4_000;
+
 /// What a why says, by its case from 1 on, and the last one by its source from IL0 up, with none waiting and with some: each comes so often at least.
 const REASONS: [&str; 5] = ["waits", "has EI clear", "has nothing latched", "has all masked", "has no stack level"];
 const SOURCES: [&str; 6] = ["INT1", "TBI", "TRGB", "TRGA", "", "INT0"];
@@ -202,6 +217,7 @@ pub struct Coverage {
     accepted: [[u64; 2]; SOURCES.len()],
     longest_runs: u64,
     bounds_past_end: u64,
+    bounds: [u64; BOUNDS.len()],
     /// The record after a step that entered sleep or hold, to see whether the next step wakes it.
     just_entered: Vec<u8>,
 }
@@ -218,6 +234,7 @@ impl Coverage {
             accepted: [[0; 2]; SOURCES.len()],
             longest_runs: 0,
             bounds_past_end: 0,
+            bounds: [0; BOUNDS.len()],
             just_entered: Vec::new(),
         }
     }
@@ -230,7 +247,8 @@ impl Coverage {
         if call.kind() == Kind::Why && answer.number == 0 {
             self.count_why(answer.values[0] as usize, answer.values[1] as usize, answer.values[2]);
         }
-        if let Call::Bound { image, p3, .. } = call {
+        if let Call::Bound { image, p3, paths, .. } = call {
+            self.count_bound(image, *p3, paths, answer);
             let excluded = answer.number == numbers::EXCLUDED;
             let lowest = answer.values[0] as usize;
             let past_end = excluded && read(self.device, image, *p3, lowest) == Err(numbers::PAST_END);
@@ -248,6 +266,22 @@ impl Coverage {
             } else if self.device == Device::Em73P982 {
                 self.count_p3(image, &before, answer.number);
             }
+        }
+    }
+
+    fn count_bound(&mut self, image: &[u8], p3: u32, paths: &Paths, answer: &Answer) {
+        let value = answer.values[0] as usize;
+        match answer.number {
+            numbers::NONE => {
+                self.bounds[answer.values[1].min(3) as usize] += 1;
+                let mut buffers = answer.buffer.clone();
+                let (path, deep) = paths.apart(&mut buffers);
+                let until_rti = |path| until_rti(self.device, image, p3, path);
+                self.bounds[PATHS_APART] += (until_rti(path) != until_rti(deep)) as u64;
+            }
+            // N's buffer holds more bytes than are needed, so that the depth's is meant.
+            numbers::PATH_BUFFER => self.bounds[DEEP_SHORT] += (paths.rooms()[0] >= value) as u64,
+            _ => {}
         }
     }
 
@@ -399,6 +433,9 @@ impl Coverage {
         lines.push(format!("a record asked why {}", words.join(", ")));
         lines.push(format!("a run made {MOST_FRAMES} steps {} times", self.longest_runs));
         lines.push(format!("a bound met a code that passes the end {} times", self.bounds_past_end));
+        let words: Vec<String> =
+            BOUNDS.iter().zip(self.bounds).map(|(name, count)| format!("{name} {count}")).collect();
+        lines.push(format!("a bound {}", words.join(", ")));
         lines
     }
 
@@ -470,12 +507,34 @@ impl Coverage {
         if self.longest_runs < LONGEST_RUNS {
             found.push(format!("a run made {MOST_FRAMES} steps only {} times, not {LONGEST_RUNS}", self.longest_runs));
         }
+        found.extend(self.bound_shortfalls());
+        found
+    }
+
+    fn bound_shortfalls(&self) -> Vec<String> {
+        let mut found = Vec::new();
         if self.bounds_past_end < BOUNDS_PAST_END {
             let count = self.bounds_past_end;
             found.push(format!("a bound met a code that passes the end only {count} times, not {BOUNDS_PAST_END}"));
         }
+        for (name, count) in BOUNDS.iter().zip(self.bounds).filter(|(_, count)| *count < EACH_BOUND) {
+            found.push(format!("a bound {name} only {count} times, not {EACH_BOUND}"));
+        }
         found
     }
+}
+
+/// The addresses at the beginning of a buffer, up to that of an RTI: a path has none before its end.
+fn until_rti(device: Device, image: &[u8], p3: u32, buffer: &[u8]) -> Vec<u16> {
+    let mut path = Vec::new();
+    for pair in buffer.chunks_exact(2) {
+        let address = u16::from_le_bytes([pair[0], pair[1]]);
+        path.push(address);
+        if read(device, image, p3, address as usize).is_ok_and(|insn| insn.row == Row::Rti.number()) {
+            break;
+        }
+    }
+    path
 }
 
 /// It wakes, and no enabled pin fell.

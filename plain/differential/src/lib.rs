@@ -7,6 +7,7 @@ pub mod ask_records;
 pub mod ask_steps;
 pub mod ask_whys;
 pub mod asker;
+pub mod calling;
 pub mod calls;
 pub mod cases;
 pub mod chance;

@@ -1,6 +1,6 @@
 //! The plain emulator's answers to the calls.
 
-use crate::calls::{Answer, Call, MOST_VALUES};
+use crate::calls::{Answer, Call, Paths, MOST_VALUES};
 use crate::layout::{machine_of, record_of, RECORD_BYTES};
 use plain::{goes_to, notation, numbers, Bound, Device, Insn, Machine, Options, Row, Why};
 
@@ -26,7 +26,7 @@ pub fn answer(call: &Call) -> Answer {
         Call::Length { image, p3, address, .. } => length(device, image, *p3, *address),
         Call::Row { image, p3, address, .. } => row(device, image, *p3, *address),
         Call::Notation { image, p3, address, text, .. } => in_notation(device, image, *p3, *address, text),
-        Call::Bound { image, p3, address, path, .. } => return bound(device, image, *p3, *address, path),
+        Call::Bound { image, p3, address, paths, .. } => return bound(device, image, *p3, *address, paths),
     };
     answered.unwrap_or_else(refusal)
 }
@@ -157,16 +157,18 @@ fn write(row: u8, a: u16, b: u8) -> Result<Answer, u8> {
     Ok(record_answer(Vec::new(), numbers::NONE, &values))
 }
 
-fn bound(device: Device, image: &[u8], p3: u32, address: u32, path: &[u8]) -> Answer {
-    let mut path = path.to_vec();
-    let found = plain::bound(device, image, p3, address, &mut path);
-    let value = match found {
-        Bound::ImageSize | Bound::P3 | Bound::AddressOver8191 => 0,
-        Bound::Excluded(lowest) | Bound::Repetition(lowest) => lowest as u32,
-        Bound::PathBuffer(bytes) => bytes as u32,
-        Bound::Cycles { most, .. } => most,
+/// The value is N, or what a refusal tells; the depth comes with an N alone.
+fn bound(device: Device, image: &[u8], p3: u32, address: u32, paths: &Paths) -> Answer {
+    let mut buffers = paths.bytes().to_vec();
+    let (path, deep) = paths.apart(&mut buffers);
+    let found = plain::bound(device, image, p3, address, path, deep);
+    let values = match found {
+        Bound::ImageSize | Bound::P3 | Bound::AddressOver8191 | Bound::TooManyCycles => [0, 0],
+        Bound::Recursion(lowest) | Bound::Excluded(lowest) | Bound::Repetition(lowest) => [lowest as u32, 0],
+        Bound::PathBuffer(bytes) => [bytes as u32, 0],
+        Bound::Cycles { most, depth, .. } => [most, depth],
     };
-    record_answer(path, found.number(), &[value])
+    record_answer(buffers, found.number(), &values)
 }
 
 /// The header has operands by their letter: "a is x, k, the address, the bit, r or n; b is y or p".

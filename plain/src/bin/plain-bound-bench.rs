@@ -29,7 +29,7 @@ fn understood(words: &[String]) -> Option<(Vec<u8>, u32, Range<u32>)> {
 }
 
 fn measure(image: &[u8], runs: u32, addresses: Range<u32>) {
-    let mut path = vec![0; MOST_PATH_BYTES];
+    let [mut path, mut deep] = [vec![0; MOST_PATH_BYTES], vec![0; MOST_PATH_BYTES]];
     let mut bounds = 0u32;
     let mut spent = Duration::ZERO;
     let mut slowest = (Duration::ZERO, 0);
@@ -39,7 +39,7 @@ fn measure(image: &[u8], runs: u32, addresses: Range<u32>) {
         let mut fastest = Duration::MAX;
         for _ in 0..runs {
             let start = Instant::now();
-            black_box(bound(Device::Em73862, black_box(image), 0, address, &mut path));
+            black_box(bound(Device::Em73862, black_box(image), 0, address, &mut path, &mut deep));
             let time = start.elapsed();
             bounds += 1;
             spent += time;

@@ -177,12 +177,12 @@ mod linked {
     }
 
     fn bound(what: &str, image: &[u8; IMAGE_SIZE], address: u32, count: usize) {
-        let mut path = vec![0; MOST_PATH_BYTES];
-        let mut plain_path = path.clone();
-        let expected = plain::bound(OPTIONS.device, image, 0, address, &mut plain_path).number();
+        let [mut path, mut deep] = [vec![0; MOST_PATH_BYTES], vec![0; MOST_PATH_BYTES]];
+        let (mut plain_path, mut plain_deep) = (path.clone(), deep.clone());
+        let expected = plain::bound(OPTIONS.device, image, 0, address, &mut plain_path, &mut plain_deep).number();
         let proved = || {
             for _ in 0..count {
-                let mut value = 0;
+                let (mut value, mut depth) = (0, 0);
                 // SAFETY: each pointer is that of a whole slice with its length beside it, or of a number.
                 let number = unsafe {
                     header::em73862_bound(
@@ -191,7 +191,10 @@ mod linked {
                         address,
                         path.as_mut_ptr(),
                         path.len(),
+                        deep.as_mut_ptr(),
+                        deep.len(),
                         &mut value,
+                        &mut depth,
                     )
                 };
                 assert_eq!(number, expected);
@@ -199,7 +202,8 @@ mod linked {
         };
         let plain = || {
             for _ in 0..count {
-                black_box(plain::bound(OPTIONS.device, black_box(image), 0, address, &mut plain_path));
+                let image = black_box(image);
+                black_box(plain::bound(OPTIONS.device, image, 0, address, &mut plain_path, &mut plain_deep));
             }
         };
         compare(what, count, proved, plain);

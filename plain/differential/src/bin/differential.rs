@@ -71,5 +71,6 @@ fn ask_all(asker: &mut Asker, device: Device, seed: u64, factor: u64) -> Result<
     ask_steps::apart(asker, &mut chance, &codes, others)?;
     ask_steps::runs(asker, &mut chance, &codes, others)?;
     ask_whys::whys(asker, &mut chance, &codes, others)?;
-    ask_bounds::bounds(asker, &mut chance, &codes, others)
+    ask_bounds::bounds(asker, &mut chance, &codes, others)?;
+    ask_bounds::calling_bounds(asker, &mut chance, &codes, others as usize)
 }

@@ -3,7 +3,7 @@
 
 use super::record::{fresh_p982, with};
 use super::{answer, refused, Case, ALL_WAKE, NOP, SOUND_OFF};
-use crate::calls::{Answer, Call, Image};
+use crate::calls::{Answer, Call, Image, Paths};
 use plain::numbers::{ADDRESS, EXCLUDED, IMAGE_SIZE, PAST_END, RECORD_RANGE};
 use plain::{Device, Row};
 
@@ -127,7 +127,7 @@ fn with_p3(image: Image, p3: u32, address: u32) -> [Call; 5] {
         Call::Length { device, image: image.clone(), p3, address },
         Call::Row { device, image: image.clone(), p3, address },
         Call::Notation { device, image: image.clone(), p3, address, text: vec![0xAA; 16] },
-        Call::Bound { device, image, p3, address, path: vec![0xAA; 16] },
+        Call::Bound { device, image, p3, address, paths: Paths::new(&[0xAA; 16], &[0xAA; 16]) },
     ]
 }
 
@@ -157,19 +157,21 @@ fn bounds() -> Vec<Case> {
         image: image.clone(),
         p3,
         address,
-        path: vec![0; 4],
+        paths: Paths::new(&[0; 4], &[0; 4]),
     };
+    // Without a branch the two paths are the same.
+    let paths = |path: [u8; 4]| Paths::new(&path, &path).bytes().to_vec();
     let mut cases = vec![
-        case("a bound, P3 0".to_string(), bound(&image, 0, 0x1100), answer(0, &[2], vec![0x00, 0x11, 0, 0])),
-        case("a bound, P3 5".to_string(), bound(&image, 5, 0x1100), answer(0, &[3], vec![0x00, 0x11, 0x01, 0x11])),
-        case("a bound, P3 2".to_string(), bound(&image, 2, 0x1100), answer(EXCLUDED, &[0x1100], vec![0; 4])),
+        case("a bound, P3 0".to_string(), bound(&image, 0, 0x1100), answer(0, &[2], paths([0x00, 0x11, 0, 0]))),
+        case("a bound, P3 5".to_string(), bound(&image, 5, 0x1100), answer(0, &[3], paths([0x00, 0x11, 0x01, 0x11]))),
+        case("a bound, P3 2".to_string(), bound(&image, 2, 0x1100), answer(EXCLUDED, &[0x1100], paths([0; 4]))),
     ];
     for (codes, number, value, path) in
-        [(&WRITE_P3[..], EXCLUDED, 0x100, vec![0; 4]), (&OTHERS[..], 0, 4, vec![0x00, 0x01, 0x02, 0x01])]
+        [(&WRITE_P3[..], EXCLUDED, 0x100, [0; 4]), (&OTHERS[..], 0, 4, [0x00, 0x01, 0x02, 0x01])]
     {
         for code in codes {
             let image = image_with(&[(0x0100, code), (0x0102, &[RTI])]);
-            let expected = answer(number, &[value], path.clone());
+            let expected = answer(number, &[value], paths(path));
             cases.push(case(format!("a bound over {code:02X?}"), bound(&image, 0, 0x100), expected));
         }
     }

@@ -80,7 +80,10 @@ pub mod header {
             address: u32,
             path: *mut u8,
             path_length: usize,
+            deep: *mut u8,
+            deep_length: usize,
             value: *mut u32,
+            depth: *mut u32,
         ) -> u8;
         pub fn em73862_length(
             image: *const u8,
@@ -182,7 +185,10 @@ pub mod header {
             address: u32,
             path: *mut u8,
             path_length: usize,
+            deep: *mut u8,
+            deep_length: usize,
             value: *mut u32,
+            depth: *mut u32,
         ) -> u8;
         pub fn em73p982_length(
             image: *const u8,
@@ -276,7 +282,8 @@ fn ask(call: &Call, buffer: &mut [u8]) -> (u8, [u32; MOST_VALUES]) {
         Call::Run { .. } => ask_run(call, buffer),
         Call::Why { .. } => ask_why(call, buffer),
         Call::Read { .. } | Call::Length { .. } | Call::Row { .. } => ask_row(call),
-        Call::Bound { .. } | Call::Notation { .. } => ask_size(call, buffer),
+        Call::Bound { .. } => ask_bound(call, buffer),
+        Call::Notation { .. } => ask_notation(call, buffer),
         Call::Write { row, a, b } => {
             let [mut written, mut b0, mut b1, mut b2] = [UNSET; 4];
             // SAFETY: each pointer is that of a number of this function.
@@ -420,27 +427,39 @@ fn ask_row(call: &Call) -> (u8, [u32; MOST_VALUES]) {
     }
 }
 
-fn ask_size(call: &Call, buffer: &mut [u8]) -> (u8, [u32; MOST_VALUES]) {
-    let (to, room) = (buffer.as_mut_ptr(), buffer.len());
-    let mut size = UNSET_32;
-    // SAFETY: each pointer is that of a whole slice with its length beside it, or of a number; only `buffer` and the numbers change.
+fn ask_bound(call: &Call, buffer: &mut [u8]) -> (u8, [u32; MOST_VALUES]) {
+    let Call::Bound { device, image, p3, address, paths } = call else {
+        unreachable!("{} is asked elsewhere", call.kind().name())
+    };
+    let (path, deep) = paths.apart(buffer);
+    let (at, n) = (image.as_ptr(), image.len());
+    let (to, room, deep, deep_room) = (path.as_mut_ptr(), path.len(), deep.as_mut_ptr(), deep.len());
+    let (mut value, mut depth) = (UNSET_32, UNSET_32);
+    // SAFETY: each pointer is that of a whole slice with its length beside it, or of a number; only the two buffers and the numbers change.
     let number = unsafe {
-        match call {
-            Call::Bound { device, image, p3, address, .. } => {
-                let (at, n) = (image.as_ptr(), image.len());
-                match device {
-                    Device::Em73862 => header::em73862_bound(at, n, *address, to, room, &mut size),
-                    Device::Em73P982 => header::em73p982_bound(at, n, *p3, *address, to, room, &mut size),
-                }
+        match device {
+            Device::Em73862 => {
+                header::em73862_bound(at, n, *address, to, room, deep, deep_room, &mut value, &mut depth)
             }
-            Call::Notation { device, image, p3, address, .. } => {
-                let (at, n) = (image.as_ptr(), image.len());
-                match device {
-                    Device::Em73862 => header::em73862_notation(at, n, *address, to, room, &mut size),
-                    Device::Em73P982 => header::em73p982_notation(at, n, *p3, *address, to, room, &mut size),
-                }
+            Device::Em73P982 => {
+                header::em73p982_bound(at, n, *p3, *address, to, room, deep, deep_room, &mut value, &mut depth)
             }
-            _ => unreachable!("{} is asked elsewhere", call.kind().name()),
+        }
+    };
+    (number, values_of([value, depth]))
+}
+
+fn ask_notation(call: &Call, buffer: &mut [u8]) -> (u8, [u32; MOST_VALUES]) {
+    let Call::Notation { device, image, p3, address, .. } = call else {
+        unreachable!("{} is asked elsewhere", call.kind().name())
+    };
+    let (at, n, to, room) = (image.as_ptr(), image.len(), buffer.as_mut_ptr(), buffer.len());
+    let mut size = UNSET_32;
+    // SAFETY: each pointer is that of a whole slice with its length beside it, or of a number; only `buffer` and the number change.
+    let number = unsafe {
+        match device {
+            Device::Em73862 => header::em73862_notation(at, n, *address, to, room, &mut size),
+            Device::Em73P982 => header::em73p982_notation(at, n, *p3, *address, to, room, &mut size),
         }
     };
     (number, values_of([size]))

@@ -142,8 +142,8 @@ fn numbers_of(call: &Call) -> [u32; 3] {
         | Call::Act { wake, sound, .. }
         | Call::Run { wake, sound, .. }
         | Call::Why { wake, sound, .. } => [*wake as u32, *sound as u32, 0],
+        Call::Bound { p3, address, paths, .. } => [*address, *p3, paths.rooms()[0] as u32],
         Call::Read { p3, address, .. }
-        | Call::Bound { p3, address, .. }
         | Call::Length { p3, address, .. }
         | Call::Row { p3, address, .. }
         | Call::Notation { p3, address, .. } => [*address, *p3, 0],
