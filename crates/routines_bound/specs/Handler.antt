@@ -43,6 +43,15 @@ pub record HandlerLaid (k nx o en c q : List ℕ) (count s : ℕ) : Type 0 where
   pub region : Region (flowFrom k nx o en s) (OnQ q count)
   pub queue : Queue q count places
 
+-- nothing recurs in it, and losing tells what is known after calls
+pub record CallsJudged (k nx o en c losing : List ℕ) (s : ℕ) : Type 0 where
+  pub flow : FlowLaid k nx o en
+  pub prices : Priced k c
+  pub start : s < places
+  pub widens : Widens (flowFrom k nx o en s)
+  pub marks : length losing ≡ places
+  pub judged : Judged (flowFrom k nx o en s) (knownBy (flowFrom k nx o en s) (marksOf losing))
+
 -- it is judged and sound; marks m and q tell what is reached in its joined graph
 pub record Measures (k nx o en c losing q : List ℕ) (count s : ℕ) : Type 0 where
   pub m : List ℕ

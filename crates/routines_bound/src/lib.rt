@@ -1,21 +1,30 @@
 // The bound of a handler that may call, of its flow in arrays: 24, 21, 22, 25, 23, or N and the depth with a path for each.
+use graph::PLACES;
 use routines_coded::lay_coded;
 use routines_judge::ENTRIES;
+use routines_judge::Judgement;
+use routines_judge::NODES;
+use routines_judge::judge;
+use routines_judge::recursion;
+use routines_marks::mark_losing;
 use routines_paths::write_paths;
 use routines_sweep::sums;
 ghost use mathlib.Core.Path.{_≡_};
 ghost use Prim.Native.Nat.{_/_, _<_};
 ghost use lib.ListN.{length, getD};
-ghost use Rattle.graph.specs.Laid.{mostNodes, graphOf, costOf};
+ghost use Rattle.graph.specs.Laid.{places, mostNodes, graphOf, costOf};
 ghost use Rattle.graph_search.specs.Marks.{Blank, Queue};
-ghost use Rattle.routines.specs.Answer.{FlowAnswer};
+ghost use Rattle.routines.specs.Shape.{Widens};
+ghost use Rattle.routines.specs.Answer.{FlowAnswer, Answer};
 ghost use Rattle.routines_known.specs.Losing.{knownBy};
-ghost use Rattle.routines_judge.specs.Judging.{flowFrom, marksOf};
+ghost use Rattle.routines_marks.specs.Marking.{flowIn, AllLose, IdleOn};
+ghost use Rattle.routines_judge.specs.Judging.{FlowLaid, flowFrom, marksOf};
+ghost use Rattle.routines_judge.specs.Answers.{NothingRecurs, Recursion, Judges};
 ghost use Rattle.routines_route.specs.Arrays.{Nodes};
 ghost use Rattle.routines_route.specs.Way.{Fall};
 ghost use Rattle.routines_sweep.specs.Dist.{Costly, Dist, IdleFrom};
 ghost use Rattle.routines_coded.specs.Nodes.{Sized};
-ghost use Rattle.routines_bound.specs.Handler.{foundOf, Measures, Comes, ToSettle, SettledTo};
+ghost use Rattle.routines_bound.specs.Handler.{foundOf, HandlerLaid, CallsJudged, Measures, Comes, ToSettle, SettledTo};
 
 // The greatest of what is spent, and of the calls that are open at once.
 pub struct Greatest {
@@ -32,6 +41,9 @@ pub enum Found {
     Short(usize),
     Bounds(Greatest),
 }
+
+// A place has at most three edges to others.
+const EDGES: usize = 49152;
 
 // A place is two nodes, one in called routines and one in the outer one.
 const BOTH: usize = 32768;
@@ -247,5 +259,232 @@ fn measured(
         &mut cnext,
         &mut cother,
         &mut ccost,
+    )
+}
+
+// The lowest entry that recurs, or 2,048 or more.
+fn lowest_recursion(kind: &[u8], next: &[u16], other: &[u16], entry: &[u16], s: usize) -> usize
+    requires { ⌜ FlowLaid (now kind) (now next) (now other) (now entry) × (s < places) ⌝ }
+    ensures { λ r. ⌜ Recursion (flowFrom (now (kind .entry)) (now (next .entry)) (now (other .entry)) (now (entry .entry)) s) r ⌝ }
+{
+    let mut losing = [0u8; PLACES];
+    let mut jkind = [0u8; NODES];
+    let mut jnext = [0u16; NODES];
+    let mut jother = [0u16; NODES];
+    let mut marks = [0u8; NODES];
+    let mut queue = [0u16; NODES];
+    let mut rank = [0u16; NODES];
+    let mut number = [0u16; NODES];
+    let mut below = [0u16; NODES];
+    let mut back = [0u16; NODES];
+    let mut stage = [0u8; NODES];
+    recursion(
+        kind,
+        next,
+        other,
+        entry,
+        s,
+        &mut losing,
+        &mut jkind,
+        &mut jnext,
+        &mut jother,
+        &mut marks,
+        &mut queue,
+        &mut rank,
+        &mut number,
+        &mut below,
+        &mut back,
+        &mut stage,
+    )
+}
+
+// Judges a handler in which nothing recurs; marks and queue come to tell the nodes that are reached.
+fn judged(
+    kind: &[u8],
+    next: &[u16],
+    other: &[u16],
+    entry: &[u16],
+    losing: &[u8],
+    s: usize,
+    marks: &mut [u8],
+    queue: &mut [u16],
+) -> Judgement
+    requires { ⌜ FlowLaid (now kind) (now next) (now other) (now entry) × (s < places) × (length (now losing) ≡ places) × (length (now marks) ≡ mostNodes) × (length (now queue) ≡ mostNodes)
+        × Widens (flowFrom (now kind) (now next) (now other) (now entry) s) × NothingRecurs (flowFrom (now kind) (now next) (now other) (now entry) s) ⌝ }
+    ensures { λ r. ⌜ Judges (flowFrom (now (kind .entry)) (now (next .entry)) (now (other .entry)) (now (entry .entry)) s)
+        (knownBy (flowFrom (now (kind .entry)) (now (next .entry)) (now (other .entry)) (now (entry .entry)) s) (marksOf (now (losing .entry)))) (now (marks .exit)) (now (queue .exit)) r ⌝ }
+{
+    let mut jkind = [0u8; NODES];
+    let mut jnext = [0u16; NODES];
+    let mut jother = [0u16; NODES];
+    let mut rank = [0u16; NODES];
+    let mut number = [0u16; NODES];
+    let mut below = [0u16; NODES];
+    let mut back = [0u16; NODES];
+    let mut stage = [0u8; NODES];
+    judge(
+        kind,
+        next,
+        other,
+        entry,
+        losing,
+        s,
+        &mut jkind,
+        &mut jnext,
+        &mut jother,
+        marks,
+        queue,
+        &mut rank,
+        &mut number,
+        &mut below,
+        &mut back,
+        &mut stage,
+    )
+}
+
+// The bound of a handler whose calls are judged: 21, 22, 25, 23, or N and the depth. marks and nodes are to work in.
+fn answer_judged(
+    kind: &[u8],
+    next: &[u16],
+    other: &[u16],
+    entry: &[u16],
+    cost: &[u32],
+    losing: &[u8],
+    s: usize,
+    path: &mut [u8],
+    deep: &mut [u8],
+    marks: &mut [u8],
+    nodes: &mut [u16],
+) -> Found
+    requires { ⌜ CallsJudged (now kind) (now next) (now other) (now entry) (now cost) (now losing) s × (length (now marks) ≡ mostNodes) × (length (now nodes) ≡ mostNodes) ⌝ }
+    ensures { λ r. ⌜ FlowAnswer (flowFrom (now (kind .entry)) (now (next .entry)) (now (other .entry)) (now (entry .entry)) s) (costOf (now (cost .entry))) (λ v. v / 2)
+        (now (path .entry)) (now (path .exit)) (now (deep .entry)) (now (deep .exit))
+        (knownBy (flowFrom (now (kind .entry)) (now (next .entry)) (now (other .entry)) (now (entry .entry)) s) (marksOf (now (losing .entry)))) (foundOf r) ⌝ }
+{
+    match judged(kind, next, other, entry, losing, s, marks, nodes) {
+        Judgement::Excluded(address) => Found::Excluded(address),
+        Judgement::Repeats(address) => Found::Repeats(address),
+        Judgement::Sound(count) => measured(
+            kind,
+            next,
+            other,
+            entry,
+            cost,
+            losing,
+            nodes,
+            count,
+            s,
+            path,
+            deep,
+        ),
+    }
+}
+
+// Marks the places of the queue that lose SF.
+fn find_losing(
+    kind: &[u8],
+    next: &[u16],
+    other: &[u16],
+    entry: &[u16],
+    queue: &[u16],
+    count: usize,
+    losing: &mut [u8],
+)
+    requires { ⌜ FlowLaid (now kind) (now next) (now other) (now entry) × (length (now losing) ≡ places) × Queue (now queue) count places × Blank (now losing) ⌝ }
+    ensures { λ _. ⌜ AllLose (flowIn (now (kind .entry)) (now (next .entry)) (now (other .entry)) (now (entry .entry))) (now (losing .exit))
+        × IdleOn (flowIn (now (kind .entry)) (now (next .entry)) (now (other .entry)) (now (entry .entry))) (now (losing .exit)) (now (queue .entry)) count ⌝ }
+{
+    let mut first = [0u32; PLACES];
+    let mut link = [0u32; EDGES];
+    let mut stack = [0u16; PLACES];
+    mark_losing(
+        kind,
+        next,
+        other,
+        entry,
+        queue,
+        count,
+        &mut first,
+        &mut link,
+        &mut stack,
+        losing,
+    );
+}
+
+// The bound of a handler in which nothing recurs. losing, of zeros, marks and nodes are to work in.
+fn answer_known(
+    kind: &[u8],
+    next: &[u16],
+    other: &[u16],
+    entry: &[u16],
+    cost: &[u32],
+    queue: &[u16],
+    count: usize,
+    s: usize,
+    path: &mut [u8],
+    deep: &mut [u8],
+    losing: &mut [u8],
+    marks: &mut [u8],
+    nodes: &mut [u16],
+) -> Found
+    requires { ⌜ HandlerLaid (now kind) (now next) (now other) (now entry) (now cost) (now queue) count s × NothingRecurs (flowFrom (now kind) (now next) (now other) (now entry) s)
+        × (length (now losing) ≡ places) × Blank (now losing) × (length (now marks) ≡ mostNodes) × (length (now nodes) ≡ mostNodes) ⌝ }
+    ensures { λ r. ⌜ Answer (flowFrom (now (kind .entry)) (now (next .entry)) (now (other .entry)) (now (entry .entry)) s) (costOf (now (cost .entry))) (λ v. v / 2)
+        (now (path .entry)) (now (path .exit)) (now (deep .entry)) (now (deep .exit)) (foundOf r) ⌝ }
+{
+    find_losing(kind, next, other, entry, queue, count, losing);
+    answer_judged(
+        kind,
+        next,
+        other,
+        entry,
+        cost,
+        losing,
+        s,
+        path,
+        deep,
+        marks,
+        nodes,
+    )
+}
+
+// The bound of a handler that starts at place s; queue lists the places that its routines may reach.
+pub fn bound_routines(
+    kind: &[u8],
+    next: &[u16],
+    other: &[u16],
+    entry: &[u16],
+    cost: &[u32],
+    queue: &[u16],
+    count: usize,
+    s: usize,
+    path: &mut [u8],
+    deep: &mut [u8],
+) -> Found
+    requires { ⌜ HandlerLaid (now kind) (now next) (now other) (now entry) (now cost) (now queue) count s ⌝ }
+    ensures { λ r. ⌜ Answer (flowFrom (now (kind .entry)) (now (next .entry)) (now (other .entry)) (now (entry .entry)) s) (costOf (now (cost .entry))) (λ v. v / 2)
+        (now (path .entry)) (now (path .exit)) (now (deep .entry)) (now (deep .exit)) (foundOf r) ⌝ }
+{
+    let lowest = lowest_recursion(kind, next, other, entry, s);
+    if lowest < ENTRIES {
+        return Found::Recursion(lowest);
+    }
+    let mut losing = [0u8; PLACES];
+    let mut marks = [0u8; NODES];
+    let mut nodes = [0u16; NODES];
+    answer_known(
+        kind,
+        next,
+        other,
+        entry,
+        cost,
+        queue,
+        count,
+        s,
+        path,
+        deep,
+        &mut losing,
+        &mut marks,
+        &mut nodes,
     )
 }

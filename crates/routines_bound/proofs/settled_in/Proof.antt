@@ -9,7 +9,7 @@ settle-nodes-requires : tie.Need-settle-nodes-requires
 settle-nodes-requires c κs = search needs
 
 answer-of-requires : tie.Need-answer-of-requires
-answer-of-requires c κs = 
+answer-of-requires c κs =
     let len = c .before .before .before .before .before .before .before .before .settle-nodes .kept .1 .1 .1 .1 .1 .1 .1 .0 ∙ c .before .before .before .before .before .before .before .before .before .before .before .before .before .before .before .before .before .before .before .before .pre .1 in
     (rw len (c .before .before .before .before .before .before .before .before .before .before .before .before .before .before .before .before .before .before .before .before .pre .0 .nodes), c .before .before .before .before .before .before .before .before .before .before .before .before .before .before .before .before .before .before .before .before .pre .0 .has _ _ (c .before .before .before .before .before .before .before .before .settle-nodes .ensures .0) (c .before .before .before .before .before .before .before .before .settle-nodes .ensures .1), omega (arith, len, c .before .before .before .before .before .before .before .before .settle-nodes .kept .1 .1 .1 .1 .1 .1 .1 .1 .0, c .before .before .before .before .before .before .before .before .before .before .before .before .before .before .before .before .before .before .before .before .pre .3), c .before .before .before .before .before .before .before .before .before .before .before .before .before .before .before .before .before .before .before .before .pre .0 .falls _ _ (c .before .before .before .before .before .before .before .before .settle-nodes .ensures .0) (c .before .before .before .before .before .before .before .before .settle-nodes .ensures .1))
 
