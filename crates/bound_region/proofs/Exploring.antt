@@ -70,7 +70,7 @@ laid-node e k nx o en c = record { kind = rw e; next = rw e; other = rw e; entry
 -- each place has its node laid or nothing, and those before the head of the queue have it
 pub record Laying (d : Device) (rom : ℕ → ℕ) (k nx o en c q : List ℕ) (head : ℕ) : Type 0 where
   pub sized : Sized k nx o en c
-  pub each : (v : ℕ) → Holds (callNodeOf d rom v) k nx o en c v ⊎ Holds nothing k nx o en c v
+  pub each : (v : ℕ) → OnQ q head v ⊎ Holds nothing k nx o en c v
   pub done : (i : ℕ) → i < head → Holds (callNodeOf d rom (getD q i 0)) k nx o en c (getD q i 0)
 
 pub laying-none : (d : Device) (rom : ℕ → ℕ) {k nx o en c : List ℕ} (q : List ℕ) → Empty k nx o en c → Laying d rom k nx o en c q 0
@@ -126,20 +126,20 @@ module _ {d : Device} {rom : ℕ → ℕ} {v : ℕ} {k nx o en c k′ nx′ o′
   holds-kept u (yes e) h = rw e holds-here
   holds-kept u (no ne) h = holds-else u ne h
 
-  each-kept : (u : ℕ) → Dec (u ≡ v) → Holds (callNodeOf d rom u) k nx o en c u ⊎ Holds nothing k nx o en c u → Holds (callNodeOf d rom u) k′ nx′ o′ en′ c′ u ⊎ Holds nothing k′ nx′ o′ en′ c′ u
-  each-kept u (yes e) h = inl (rw e holds-here)
-  each-kept u (no ne) h = ⊎-elim (λ a. inl (holds-else u ne a)) (λ a. inr (holds-else u ne a)) h
-
 -- the place at the head is visited
 pub laying-more : {d : Device} {rom : ℕ → ℕ} {k nx o en c k′ nx′ o′ en′ c′ q q′ : List ℕ} {head count : ℕ} → Laying d rom k nx o en c q head → head < count → getD q head 0 < 16384
     → Lays d rom (getD q head 0) k nx o en c k′ nx′ o′ en′ c′ → ((i : ℕ) → i < count → getD q′ i 0 ≡ getD q i 0) → Laying d rom k′ nx′ o′ en′ c′ q′ (head + 1)
 laying-more {d} {rom} {k} {nx} {o} {en} {c} {k′} {nx′} {o′} {en′} {c′} {q} {q′} {head} l in-it lt lays same =
     record {
       sized = sized-more (l .sized) lt lays;
-      each = λ u. each-kept (l .sized) lt lays u (ℕ-discrete u (getD q head 0)) (l .each u);
+      each = λ u. each u (ℕ-discrete u (getD q head 0)) (l .each u);
       done = λ i h. rw (same i (omega (arith, h, in-it))) (before i h (ℕ-discrete i head));
     }
   where
+    each : (u : ℕ) → Dec (u ≡ getD q head 0) → OnQ q head u ⊎ Holds nothing k nx o en c u → OnQ q′ (head + 1) u ⊎ Holds nothing k′ nx′ o′ en′ c′ u
+    each u (yes e) h = inl (head, omega arith, same head in-it ∙ sym e)
+    each u (no ne) h = ⊎-elim (λ a. inl (a .0, omega (arith, a .1), same (a .0) (omega (arith, a .1, in-it)) ∙ a .2)) (λ a. inr (holds-else (l .sized) lt lays u ne a)) h
+
     before : (i : ℕ) → i < head + 1 → Dec (i ≡ head) → Holds (callNodeOf d rom (getD q i 0)) k′ nx′ o′ en′ c′ (getD q i 0)
     before i h (yes e) = rw e (holds-here (l .sized) lt lays)
     before i h (no ne) = holds-kept (l .sized) lt lays (getD q i 0) (ℕ-discrete (getD q i 0) (getD q head 0)) (l .done i (omega arith))
@@ -192,7 +192,7 @@ pub region-laid : {d : Device} {rom : ℕ → ℕ} {s count head : ℕ} {k nx o 
 region-laid {d} {rom} {s} {count} {head} {k} {nx} {o} {en} {c} {m} {q} l end room g =
     record {
       sized = l .sized;
-      each = l .each;
+      each = λ v. ⊎-elim (λ a. inl (subst (λ u. Marked m u) (a .2) (g .inside (a .0) (omega (arith, a .1, g .le)) .1))) inr (l .each v);
       holds = λ v mk. let on = g .onq v mk in subst (λ u. Holds (callNodeOf d rom u) k nx o en c u) (on .2) (l .done (on .0) (omega (arith, on .1, end)));
       started = g .started;
       closed = λ v w mk a. let on = g .onq v mk in g .closed (on .0) w (omega (arith, on .1, end)) (subst (λ u. After (callNodeOf d rom u) w) (sym (on .2)) a);

@@ -64,7 +64,7 @@ nothing = record { kind = 0; next = 0; other = 0; entry = 0; cost = 0 }
 -- m marks places, s among them, with all that may follow them; q lists them; the arrays hold their nodes, and nothing at the others
 pub record RegionLaid (d : Device) (rom : ℕ → ℕ) (s : ℕ) (k nx o en c m q : List ℕ) (count : ℕ) : Type 0 where
   pub sized : Sized k nx o en c
-  pub each : (v : ℕ) → Holds (callNodeOf d rom v) k nx o en c v ⊎ Holds nothing k nx o en c v
+  pub each : (v : ℕ) → Marked m v ⊎ Holds nothing k nx o en c v
   pub holds : (v : ℕ) → Marked m v → Holds (callNodeOf d rom v) k nx o en c v
   pub started : Marked m s
   pub closed : (v w : ℕ) → Marked m v → After (callNodeOf d rom v) w → Marked m w
