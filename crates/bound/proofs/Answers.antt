@@ -1,46 +1,65 @@
--- From what the search of the graph says to what the call answers.
-use mathlib.Core.Path.{_≡_, refl, ap₂}
-use mathlib.Core.List.{List, [], _∷_}
-use Prim.Native.Nat.{ℕ, _/_, _%_}
-use native.Mathlib.Omega.{arith}
+-- From what is found from an address to what the call answers.
+use mathlib.Core.Path.{_≡_, refl}
+use mathlib.Core.List.{List}
+use Prim.Native.Nat.{ℕ, _≤_}
+use lib.ListN.{length}
+use Rattle.numbers.specs.Sizes.{lastAddress}
+use Rattle.device.specs.Device.{imageSize, romOf, Banked}
 use Rattle.device.specs.declared.Device.{Device}
-use Rattle.graph.specs.Graph.{Longest, sum, Sound}
-use Rattle.graph.specs.Laid.{graphOf, costOf}
-use Rattle.graph.proofs.Agree.{Agree}
-use Rattle.graph.proofs.Unique.{least-address, longest-path, longest-most}
-use Rattle.graph_route.specs.Route.{encode}
-use Rattle.graph_longest.specs.Means.{Means}
-use Rattle.graph_longest.specs.declared.Found.{Found}
-use Rattle.bound_flow.specs.Flow.{flowGraph, flowCost, startOf}
-use Rattle.bound_flow.specs.Bound.{HasBound}
-use Rattle.bound_explore.specs.Explored.{Explored}
-use Rattle.bound.specs.Answer.{boundedOf, paperOf, addressBytes, FlowAnswer, gives-21, gives-22, gives-23, gives-N}
+use Rattle.routines.specs.Answer as routines
+use Rattle.routines.specs.Answer.{Kept, Answer}
+use Rattle.routines_bound.specs.Handler.{foundOf}
+use Rattle.routines_bound.specs.declared.Found.{Found}
+use Rattle.bound_flow.specs.Flow.{addressOf}
+use Rattle.bound_calls.specs.CallFlow.{callFlow, callCycles}
+use Rattle.bound_calls.specs.CallAnswer.{paperOfFound, CallAnswer, by-flow}
+use Rattle.bound_plain.specs.PlainAnswer.{PlainAnswer}
+use Rattle.bound_plain.specs.declared.Plain.{Plain}
+use Rattle.bound.specs.Answer.{paperOf, boundedOf}
 
--- what was laid is the flow graph, as far as it is reached
-pub explored-agrees : {d : Device} {rom : ℕ → ℕ} {s count : ℕ} {k nx o c m q : List ℕ} → Explored d rom s k nx o c m q count → Agree (graphOf k nx o) (flowGraph d rom) (costOf c) (flowCost d rom) s
-unfolding flowGraph flowCost graphOf costOf
-explored-agrees x =
-    record {
-      kind = λ v r. x .holds v (x .reached .complete v r) .kind;
-      next = λ v r on. x .holds v (x .reached .complete v r) .next;
-      other = λ v r on. x .holds v (x .reached .complete v r) .other;
-      cost = λ v r in-it. x .holds v (x .reached .complete v r) .cost;
-    }
+-- the buffers are as they were
+pub kept : (path deep : List ℕ) → Kept path path deep deep
+kept path deep = record { first = refl; second = refl }
 
--- the labels of places are their addresses
-encoded : (l : List ℕ) → encode l ≡ addressBytes l
-unfolding encode addressBytes
-encoded [] = refl
-encoded (v ∷ l) =
-    let high : v / 512 % 256 ≡ v / 2 / 256 % 256 = omega arith in
-    ap₂ (λ (h : ℕ) (t : List ℕ). v / 2 % 256 ∷ h ∷ t) high (encoded l)
+same-paper : (x : Found) → paperOf (boundedOf x) ≡ paperOfFound (foundOf x)
+same-paper (Found.Recursion e) = refl
+same-paper (Found.Excluded a) = refl
+same-paper (Found.Repeats a) = refl
+same-paper Found.TooLarge = refl
+same-paper (Found.Short n) = refl
+same-paper (Found.Bounds g) = refl
 
-has-bound : {d : Device} {rom : ℕ → ℕ} {start N : ℕ} {path : List ℕ} → Sound (flowGraph d rom) (startOf start) → Longest (flowGraph d rom) (flowCost d rom) (startOf start) path → N ≡ sum (flowCost d rom) path → HasBound d rom start N path
-has-bound s l e = record { sound = s; is-path = longest-path l; sum = e; largest = λ k p. rw e (longest-most l k p); longest = l }
+pub answers : (d : Device) (image : List ℕ) (p3 start : ℕ) (path path′ deep deep′ : List ℕ) (x : Found)
+    → length image ≡ imageSize d → Banked d p3 → start ≤ lastAddress
+    → Answer (callFlow d (romOf image p3) start) (callCycles d (romOf image p3)) addressOf path path′ deep deep′ (foundOf x)
+    → CallAnswer d image p3 start path path′ deep deep′ (paperOf (boundedOf x))
+answers d image p3 start path path′ deep deep′ x size banked inside a = rw (same-paper x) (by-flow size banked inside a)
 
-pub answers : (d : Device) (rom : ℕ → ℕ) (start : ℕ) (p p′ : List ℕ) (found : Found) → Means (flowGraph d rom) (flowCost d rom) (startOf start) p p′ found → FlowAnswer d rom start p p′ (paperOf (boundedOf found))
-unfolding Means
-answers d rom start p p′ (Found.Excluded v) m = gives-21 (least-address (m .lowest)) (m .kept)
-answers d rom start p p′ (Found.Repeats v) m = gives-22 (m .no-bad) (least-address (m .lowest)) (m .kept)
-answers d rom start p p′ (Found.Short n) m = rw (m .needs) (gives-23 (has-bound (m .sound) (m .longest) refl) (rw (m .needs) at (m .short)) (m .kept))
-answers d rom start p p′ (Found.Longest n) m = gives-N (has-bound (m .sound) (m .longest) (m .total)) (m .room) (rw (encoded (m .path)) at (m .bytes))
+-- what the outer routine alone comes to is the answer, unless a call is reached: then nothing is written yet
+module _ (d : Device) (rom : ℕ → ℕ) (start : ℕ) (p p′ q q′ : List ℕ) (r : Plain) (a : PlainAnswer d rom start p p′ q q′ r) where
+  abbrev Comes : Found → Type 0
+  Comes x = Answer (callFlow d rom start) (callCycles d rom) addressOf p p′ q q′ (foundOf x)
+
+  pub plain-excluded : {at : ℕ} → r ≡ Plain.Excluded at → Comes (Found.Excluded at)
+  unfolding PlainAnswer
+  plain-excluded e = rw e at a
+
+  pub plain-repeats : {at : ℕ} → r ≡ Plain.Repeats at → Comes (Found.Repeats at)
+  unfolding PlainAnswer
+  plain-repeats e = rw e at a
+
+  pub plain-short : {n : ℕ} → r ≡ Plain.Short n → Comes (Found.Short n)
+  unfolding PlainAnswer
+  plain-short e = rw e at a
+
+  pub plain-longest : {n : ℕ} → r ≡ Plain.Longest n → Comes (Found.Bounds (record { cycles = n; depth = 0 }))
+  unfolding PlainAnswer
+  plain-longest e = rw e at a
+
+  pub with-calls : {p″ q″ : List ℕ} {x : routines.Found} → r ≡ Plain.Calls
+      → Answer (callFlow d rom start) (callCycles d rom) addressOf p′ p″ q′ q″ x → Answer (callFlow d rom start) (callCycles d rom) addressOf p p″ q q″ x
+  unfolding PlainAnswer
+  with-calls {p″} {q″} {x} e h = go (rw e at a)
+    where
+      go : PlainAnswer d rom start p p′ q q′ Plain.Calls → Answer (callFlow d rom start) (callCycles d rom) addressOf p p″ q q″ x
+      go c = rw (c .kept .first, c .kept .second) at h

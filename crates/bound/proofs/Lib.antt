@@ -1,3 +1,4 @@
 pub mod Answers
 pub mod Unique
+pub mod Lengths
 pub mod Sizes

@@ -1,77 +1,85 @@
-// The handler bound: the most cycles that any path of the flow rules takes from an address to RTI, and the path.
-use bound_explore::explore;
+// The handler bound: the most cycles that any path of the flow rules takes from an address to RTI, the greatest depth of its calls, and a path for each.
+use bound_plain::Plain;
+use bound_plain::bound_plain;
+use bound_routed::bound_routed;
 use device::Device;
 use device::image_size;
 use device::is_banked;
-use graph::PLACES;
-use graph_longest::Found;
-use graph_longest::longest;
 use numbers::ADDRESS_OVER_8191;
+use numbers::BOUND_OVER_65535;
 use numbers::EXCLUDED_INSTRUCTION_REACHABLE;
 use numbers::IMAGE_OF_ANOTHER_SIZE;
 use numbers::LAST_ADDRESS;
 use numbers::PATH_BUFFER_TOO_SHORT;
 use numbers::RECORD_OUTSIDE_THE_RANGES;
+use numbers::RECURSION_REACHABLE;
 use numbers::REPETITION_REACHABLE;
+use routines_bound::Found;
+use routines_bound::Greatest;
 ghost use mathlib.Core.Path.{_≡_};
 ghost use Prim.Native.Nat.{_+_, _*_, _%_, _<_, _≤_};
 ghost use lib.ListN.{length};
-ghost use Rattle.graph.specs.Laid.{places};
 ghost use Rattle.device.specs.Device.{romOf};
-ghost use Rattle.graph_search.specs.Marks.{Blank};
-ghost use Rattle.bound_flow.specs.Flow.{flowGraph, flowCost};
-ghost use Rattle.bound_explore.specs.Explored.{Empty};
-ghost use Rattle.graph_longest.specs.Means.{Means};
-ghost use Rattle.bound.specs.Answer.{boundedOf, paperOf, BoundAnswer};
-ghost use Rattle.bound.specs.Numbers.{OfBound};
+ghost use Rattle.routines.specs.Answer.{Answer};
+ghost use Rattle.routines_bound.specs.Handler.{foundOf};
+ghost use Rattle.bound_flow.specs.Flow.{addressOf};
+ghost use Rattle.bound_calls.specs.CallFlow.{callFlow, callCycles};
+ghost use Rattle.bound_calls.specs.CallAnswer.{CallAnswer};
+ghost use Rattle.bound.specs.Answer.{boundedOf, paperOf};
+ghost use Rattle.bound.specs.Numbers.{OfBound, refusalOf};
 
-// What the call answers; specs/Answer.antt gives document 01's number and value for each.
+// What the call answers; specs/Answer.antt gives the paper's number and values for each.
 pub enum Bounded {
     ImageSize,
     P3Range,
     AddressRange,
+    Recursion(usize),
     Excluded(usize),
     Repeats(usize),
+    TooLarge,
     Short(usize),
-    Longest(usize),
+    Bounds(Greatest),
 }
 
-// The bound from a place, with empty arrays lent to lay the graph in.
-fn bound_in(
-    d: Device,
-    image: &[u8],
-    p3: u8,
-    s: usize,
-    path: &mut [u8],
-    kind: &mut [u8],
-    next: &mut [u16],
-    other: &mut [u16],
-    cost: &mut [u32],
-    marks: &mut [u8],
-    queue: &mut [u16],
-) -> Found
-    requires { ⌜ (8192 + 4096 * (p3 % 4) ≤ length (now image)) × (s < places) × Empty (now kind) (now next) (now other) (now cost) × Blank (now marks) × (length (now marks) ≡ places) × (length (now queue) ≡ places) ⌝ }
-    ensures { λ r. ⌜ Means (flowGraph d (romOf (now (image .entry)) p3)) (flowCost d (romOf (now (image .entry)) p3)) s (now (path .entry)) (now (path .exit)) r ⌝ }
+// The bound from an address of the image. Most handlers call nothing: they need no marks of routines.
+fn found(d: Device, image: &[u8], p3: u8, address: usize, path: &mut [u8], deep: &mut [u8]) -> Found
+    requires { ⌜ (8192 + 4096 * (p3 % 4) ≤ length (now image)) × (address < 8192) ⌝ }
+    ensures { λ r. ⌜ Answer (callFlow d (romOf (now (image .entry)) p3) address) (callCycles d (romOf (now (image .entry)) p3)) addressOf
+        (now (path .entry)) (now (path .exit)) (now (deep .entry)) (now (deep .exit)) (foundOf r) ⌝ }
 {
-    let count = explore(d, image, p3, s, kind, next, other, cost, marks, queue);
-    longest(kind, next, other, cost, s, marks, queue, count, path)
+    let plain = bound_plain(d, image, p3, address, path, deep);
+    match plain {
+        Plain::Calls => bound_routed(d, image, p3, address, path, deep),
+        Plain::Excluded(at) => Found::Excluded(at),
+        Plain::Repeats(at) => Found::Repeats(at),
+        Plain::Short(bytes) => Found::Short(bytes),
+        Plain::Longest(cycles) => Found::Bounds(Greatest { cycles, depth: 0 }),
+    }
 }
 
-// A place is named by its address.
 fn answer(found: Found) -> Bounded
     ensures { λ r. ⌜ r ≡ boundedOf found ⌝ }
 {
     match found {
-        Found::Excluded(v) => Bounded::Excluded(v / 2),
-        Found::Repeats(v) => Bounded::Repeats(v / 2),
+        Found::Recursion(entry) => Bounded::Recursion(entry),
+        Found::Excluded(at) => Bounded::Excluded(at),
+        Found::Repeats(at) => Bounded::Repeats(at),
+        Found::TooLarge => Bounded::TooLarge,
         Found::Short(bytes) => Bounded::Short(bytes),
-        Found::Longest(cycles) => Bounded::Longest(cycles),
+        Found::Bounds(greatest) => Bounded::Bounds(greatest),
     }
 }
 
-// The public bound.
-pub fn bound(d: Device, image: &[u8], p3: u32, address: u32, path: &mut [u8]) -> Bounded
-    ensures { λ r. ⌜ BoundAnswer d (now (image .entry)) p3 address (now (path .entry)) (now (path .exit)) (paperOf r) ⌝ }
+// The public bound: N's path in the first buffer, depth's in the second.
+pub fn bound(
+    d: Device,
+    image: &[u8],
+    p3: u32,
+    address: u32,
+    path: &mut [u8],
+    deep: &mut [u8],
+) -> Bounded
+    ensures { λ r. ⌜ CallAnswer d (now (image .entry)) p3 address (now (path .entry)) (now (path .exit)) (now (deep .entry)) (now (deep .exit)) (paperOf r) ⌝ }
 {
     if image.len() != image_size(d) {
         return Bounded::ImageSize;
@@ -82,66 +90,43 @@ pub fn bound(d: Device, image: &[u8], p3: u32, address: u32, path: &mut [u8]) ->
     if LAST_ADDRESS < address {
         return Bounded::AddressRange;
     }
-    let start = 2 * address as usize + 1;
-    let mut kind = [0u8; PLACES];
-    let mut next = [0u16; PLACES];
-    let mut other = [0u16; PLACES];
-    let mut cost = [0u32; PLACES];
-    let mut marks = [0u8; PLACES];
-    let mut queue = [0u16; PLACES];
-    let found = bound_in(
-        d,
-        image,
-        p3 as u8,
-        start,
-        path,
-        &mut kind,
-        &mut next,
-        &mut other,
-        &mut cost,
-        &mut marks,
-        &mut queue,
-    );
+    let found = found(d, image, p3 as u8, address as usize, path, deep);
     answer(found)
 }
 
-// Document 01's number of an answer, and the value that comes with it.
+// The paper's number of an answer, and the values that come with it: N and the depth, or what comes with a refusal.
 pub struct BoundNumbers {
     pub number: u8,
     pub value: usize,
+    pub depth: usize,
+}
+
+fn refusal(number: u8, value: usize) -> BoundNumbers
+    ensures { λ r. ⌜ r ≡ refusalOf number value ⌝ }
+{
+    BoundNumbers {
+        number,
+        value,
+        depth: 0,
+    }
 }
 
 pub fn numbers_of(answer: Bounded) -> BoundNumbers
     ensures { λ r. ⌜ OfBound (paperOf answer) r ⌝ }
 {
     match answer {
-        Bounded::ImageSize => BoundNumbers {
-            number: IMAGE_OF_ANOTHER_SIZE,
-            value: 0,
-        },
-        Bounded::P3Range => BoundNumbers {
-            number: RECORD_OUTSIDE_THE_RANGES,
-            value: 0,
-        },
-        Bounded::AddressRange => BoundNumbers {
-            number: ADDRESS_OVER_8191,
-            value: 0,
-        },
-        Bounded::Excluded(address) => BoundNumbers {
-            number: EXCLUDED_INSTRUCTION_REACHABLE,
-            value: address,
-        },
-        Bounded::Repeats(address) => BoundNumbers {
-            number: REPETITION_REACHABLE,
-            value: address,
-        },
-        Bounded::Short(bytes) => BoundNumbers {
-            number: PATH_BUFFER_TOO_SHORT,
-            value: bytes,
-        },
-        Bounded::Longest(cycles) => BoundNumbers {
+        Bounded::ImageSize => refusal(IMAGE_OF_ANOTHER_SIZE, 0),
+        Bounded::P3Range => refusal(RECORD_OUTSIDE_THE_RANGES, 0),
+        Bounded::AddressRange => refusal(ADDRESS_OVER_8191, 0),
+        Bounded::Recursion(entry) => refusal(RECURSION_REACHABLE, entry),
+        Bounded::Excluded(at) => refusal(EXCLUDED_INSTRUCTION_REACHABLE, at),
+        Bounded::Repeats(at) => refusal(REPETITION_REACHABLE, at),
+        Bounded::TooLarge => refusal(BOUND_OVER_65535, 0),
+        Bounded::Short(bytes) => refusal(PATH_BUFFER_TOO_SHORT, bytes),
+        Bounded::Bounds(greatest) => BoundNumbers {
             number: 0,
-            value: cycles,
+            value: greatest.cycles,
+            depth: greatest.depth,
         },
     }
 }

@@ -2,7 +2,7 @@
 use Prim.Native.Nat.{ℕ, _-_}
 use mathlib.Core.List.{List, [], _∷_, _++_}
 use lib.ListN.{length}
-use Rattle.numbers.specs.ComesBack.{image-of-another-size, record-outside-the-ranges, address-over-8191, excluded-instruction-reachable, repetition-reachable, path-buffer-too-short}
+use Rattle.numbers.specs.ComesBack.{image-of-another-size, record-outside-the-ranges, address-over-8191, excluded-instruction-reachable, repetition-reachable, path-buffer-too-short, recursion-reachable, bound-over-65535}
 use Rattle.sheet.specs.Reading.{readAt, cyclesOf}
 use Rattle.sheet.specs.declared.Read.{Read}
 use Rattle.text_digits.specs.Digits.{characters, hex, inBase, decimal, blanks}
@@ -19,22 +19,31 @@ refusedAt n address = refusedText n ++ (characters " " ++ hex 4 address)
 abbrev pub refusedBytes : ℕ → ℕ → List ℕ
 refusedBytes n bytes = refusedText n ++ (characters " " ++ decimal bytes)
 
--- an address in four hexadecimal digits, bytes and cycles in decimal
+-- N, and the greatest depth of calls
+abbrev pub cyclesText : ℕ → List ℕ
+cyclesText cycles = characters "N " ++ decimal cycles
+
+abbrev pub depthText : ℕ → List ℕ
+depthText depth = characters "depth " ++ decimal depth
+
+-- an address in four hexadecimal digits, bytes and cycles in decimal; where there is a bound, its depth stands beside it or on a line of its own
 abbrev pub summaryOf : Bounded → List ℕ
 summaryOf Bounded.ImageSize = refusedText image-of-another-size
 summaryOf Bounded.P3Range = refusedText record-outside-the-ranges
 summaryOf Bounded.AddressRange = refusedText address-over-8191
+summaryOf (Bounded.Recursion entry) = refusedAt recursion-reachable entry
 summaryOf (Bounded.Excluded address) = refusedAt excluded-instruction-reachable address
 summaryOf (Bounded.Repeats address) = refusedAt repetition-reachable address
+summaryOf Bounded.TooLarge = refusedText bound-over-65535
 summaryOf (Bounded.Short bytes) = refusedBytes path-buffer-too-short bytes
-summaryOf (Bounded.Longest cycles) = characters "N " ++ decimal cycles
+summaryOf (Bounded.Bounds g) = cyclesText (g .cycles)
 
--- as the lister's line, then a blank and the total of cycles so far, right-aligned in five characters
+-- as the lister's line, then a blank and what is counted, right-aligned in five characters: along N's path the total of cycles so far, along depth's "the number of calls open after the row"
 abbrev pub rightAligned : ℕ → List ℕ → List ℕ
 rightAligned n text = blanks (n - length text) ++ text
 
 abbrev pub pathLineOf : (ℕ → ℕ) → ℕ → ℕ → List ℕ
-pathLineOf rom at total = columnsOf rom at ++ (characters " " ++ (rightAligned 5 (decimal total) ++ (10 ∷ [])))
+pathLineOf rom at counted = columnsOf rom at ++ (characters " " ++ (rightAligned 5 (decimal counted) ++ (10 ∷ [])))
 
 -- the cycles of the row at an address, 0 where there is none
 abbrev pub cyclesRead : Read → ℕ

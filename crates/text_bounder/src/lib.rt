@@ -12,12 +12,15 @@ use text_lister::line::byte_at;
 use text_lister::line::columns;
 ghost use mathlib.Core.Path.{_≡_};
 ghost use Prim.Native.Nat.{_+_, _*_, _%_, _<_, _≤_};
-ghost use lib.ListN.{length, getD};
+ghost use lib.ListN.{length};
 ghost use Rattle.numbers.specs.Sizes.{addresses};
+ghost use Rattle.numbers.specs.ComesBack.{valueAt};
 ghost use Rattle.device.specs.Device.{romOf};
 ghost use Rattle.laws.specs.Writing.{Wrote};
+ghost use Rattle.routines.specs.Calling as calling;
 ghost use Rattle.bound.specs.Answer.{paperOf};
-ghost use Rattle.text_bounder.specs.Report.{refusedText, refusedAt, refusedBytes, summaryOf, pathLineOf, cyclesAt};
+ghost use Rattle.text_digits.specs.Digits.{decimal as decimalOf};
+ghost use Rattle.text_bounder.specs.Report.{refusedText, refusedAt, refusedBytes, cyclesText, depthText, summaryOf, pathLineOf, cyclesAt};
 
 fn refused(out: &mut [u8], from: usize, n: u32) -> usize
     requires { ⌜ from + 10 ≤ length (now out) ⌝ }
@@ -38,47 +41,77 @@ fn refused_at(out: &mut [u8], from: usize, n: u32, address: u32) -> usize
     number(out, gap, 16, 4, address)
 }
 
+// The bytes of a path, its cycles, or its calls, in decimal.
+fn up_to_six(out: &mut [u8], from: usize, v: u32) -> usize
+    requires { ⌜ (v < 131072) × (from + 6 ≤ length (now out)) ⌝ }
+    ensures { λ r. ⌜ Wrote (now (out .entry)) (now (out .exit)) from r (decimalOf v) ⌝ }
+    ensures { λ r. ⌜ r ≤ from + 6 ⌝ }
+{
+    if v < 100000 {
+        return decimal(out, from, v);
+    }
+    number(out, from, 10, 6, v)
+}
+
 fn refused_bytes(out: &mut [u8], from: usize, n: u32, bytes: u32) -> usize
-    requires { ⌜ (bytes < 65536) × (from + 16 ≤ length (now out)) ⌝ }
+    requires { ⌜ (bytes < 131072) × (from + 17 ≤ length (now out)) ⌝ }
     ensures { λ r. ⌜ Wrote (now (out .entry)) (now (out .exit)) from r (refusedBytes n bytes) ⌝ }
-    ensures { λ r. ⌜ r ≤ from + 16 ⌝ }
+    ensures { λ r. ⌜ r ≤ from + 17 ⌝ }
 {
     let end = refused(out, from, n);
     let gap = put_text(out, end, b" ");
-    decimal(out, gap, bytes)
+    up_to_six(out, gap, bytes)
 }
 
-// The answer on one line, without its end: at most 16 characters.
+fn most_cycles(out: &mut [u8], from: usize, cycles: u32) -> usize
+    requires { ⌜ (cycles < 131072) × (from + 8 ≤ length (now out)) ⌝ }
+    ensures { λ r. ⌜ Wrote (now (out .entry)) (now (out .exit)) from r (cyclesText cycles) ⌝ }
+    ensures { λ r. ⌜ r ≤ from + 8 ⌝ }
+{
+    let end = put_text(out, from, b"N ");
+    up_to_six(out, end, cycles)
+}
+
+// The greatest depth of calls, without the line's end: at most 12 characters.
+pub fn most_depth(out: &mut [u8], from: usize, depth: u32) -> usize
+    requires { ⌜ (depth < 131072) × (from + 12 ≤ length (now out)) ⌝ }
+    ensures { λ r. ⌜ Wrote (now (out .entry)) (now (out .exit)) from r (depthText depth) ⌝ }
+    ensures { λ r. ⌜ r ≤ from + 12 ⌝ }
+{
+    let end = put_text(out, from, b"depth ");
+    up_to_six(out, end, depth)
+}
+
+// The answer but for its depth, on one line without its end: at most 17 characters.
 pub fn summary(out: &mut [u8], from: usize, answer: Bounded) -> usize
-    requires { ⌜ (getD (paperOf answer .values) 0 0 < 65536) × (from + 16 ≤ length (now out)) ⌝ }
+    requires { ⌜ (valueAt (paperOf answer) 0 < 131072) × (from + 17 ≤ length (now out)) ⌝ }
     ensures { λ r. ⌜ Wrote (now (out .entry)) (now (out .exit)) from r (summaryOf answer) ⌝ }
-    ensures { λ r. ⌜ r ≤ from + 16 ⌝ }
+    ensures { λ r. ⌜ r ≤ from + 17 ⌝ }
 {
     match answer {
         Bounded::ImageSize => refused(out, from, 1),
         Bounded::P3Range => refused(out, from, 2),
         Bounded::AddressRange => refused(out, from, 20),
+        Bounded::Recursion(entry) => refused_at(out, from, 24, entry as u32),
         Bounded::Excluded(address) => refused_at(out, from, 21, address as u32),
         Bounded::Repeats(address) => refused_at(out, from, 22, address as u32),
+        Bounded::TooLarge => refused(out, from, 25),
         Bounded::Short(bytes) => refused_bytes(out, from, 23, bytes as u32),
-        Bounded::Longest(cycles) => {
-            let end = put_text(out, from, b"N ");
-            decimal(out, end, cycles as u32)
-        }
+        Bounded::Bounds(greatest) => most_cycles(out, from, greatest.cycles as u32),
     }
 }
 
-// A line of a path, with its end: at most 43 characters.
-pub fn path_line(out: &mut [u8], from: usize, image: &[u8], p3: u8, at: u16, total: u32) -> usize
-    requires { ⌜ (8192 + 4096 * (p3 % 4) ≤ length (now image)) × (at < addresses) × (total < 100000) × (from + 43 ≤ length (now out)) ⌝ }
-    ensures { λ r. ⌜ Wrote (now (out .entry)) (now (out .exit)) from r (pathLineOf (romOf (now (image .entry)) p3) at total) ⌝ }
+// A line of a path, with its end: at most 43 characters. What is counted along N's path is its cycles, along depth's the calls that are open.
+pub fn path_line(out: &mut [u8], from: usize, image: &[u8], p3: u8, at: u16, counted: u32) -> usize
+    requires { ⌜ (8192 + 4096 * (p3 % 4) ≤ length (now image)) × (at < addresses) × (counted < 100000) × (from + 43 ≤ length (now out)) ⌝ }
+    ensures { λ r. ⌜ Wrote (now (out .entry)) (now (out .exit)) from r (pathLineOf (romOf (now (image .entry)) p3) at counted) ⌝ }
     ensures { λ r. ⌜ r ≤ from + 43 ⌝ }
 {
     let end = columns(out, from, image, p3, at);
     let gap = put_text(out, end, b" ");
-    let shift = 5 - places(total) as usize;
+    let shift = 5 - places(counted) as usize;
     let start = blanks(out, gap, shift);
-    let last = decimal(out, start, total);
+    let last = decimal(out, start, counted);
     put(out, last, b'\n')
 }
 
@@ -92,4 +125,21 @@ pub fn cycles_at(image: &[u8], p3: u8, at: u16) -> u32
     };
     let cost = sheet::timing(byte_at(image, p3, at));
     cost.cycles as u32
+}
+
+// The calls that are open after a place of this kind in the flow with calls.
+pub fn opened(kind: u8, before: u32) -> u32
+    requires { ⌜ before < 65536 ⌝ }
+    ensures { λ r. ⌜ (r ≡ calling.opened kind before) × (r ≤ before + 1) ⌝ }
+{
+    if kind == 3 {
+        return before + 1;
+    }
+    if kind != 4 {
+        return before;
+    }
+    if before == 0 {
+        return 0;
+    }
+    before - 1
 }

@@ -1,13 +1,16 @@
--- `bounder::proofs::entry` meets its contract.
+-- `bounder::entry` meets its contract.
 use native.Mathlib.Omega.{arith}
 use Rattle.device.specs.Device.{inImage}
-use Rattle.bound.proofs.Sizes.{answer-small}
+use Rattle.bound.proofs.Sizes.{answer-few}
 use borrow.Author.Needs.{needs}
 use Rattle.bounder.proofs.entry.Statement.{statement}
 use Rattle.bounder.proofs.entry.Tie as tie
 
 slice-aggregate-bound : tie.Need-slice-aggregate-bound
 slice-aggregate-bound c = search needs
+
+slice-aggregate-bound-2 : tie.Need-slice-aggregate-bound-2
+slice-aggregate-bound-2 c = search needs
 
 bound-requires : tie.Need-bound-requires
 bound-requires c κs = search needs
@@ -39,11 +42,11 @@ slice-aggregate-put-2 c = search needs
 put-requires-2 : tie.Need-put-requires-2
 put-requires-2 c κs = search needs
 
-slice-aggregate-show-answer : tie.Need-slice-aggregate-show-answer
-slice-aggregate-show-answer c = search needs
+slice-aggregate-show-entry : tie.Need-slice-aggregate-show-entry
+slice-aggregate-show-entry c = search needs
 
-show-answer-requires : tie.Need-show-answer-requires
-show-answer-requires c κs = (answer-small (λ at. c .before .before .before .before .before .before .before .before .before .before .before .before .before .before .before .before .before .shared-slice-known .given (inImage (c .before .before .before .before .before .before .before .before .before .before .before .before .before .before .before .before .before .before .args .p3) at) .fits) (c .before .before .before .before .before .before .before .before .before .before .before .before .before .before .before .bound .ensures), omega (arith, c .before .before .put2 .ensures .end, c .before .before .put2 .ensures .size, c .before .before .before .before .before .source-name .ensures .1, c .before .before .before .before .before .source-name .ensures .0 .size, c .before .before .before .before .before .before .before .before .put .ensures .end, c .before .before .before .before .before .before .before .before .put .ensures .size, c .before .before .before .before .before .before .before .before .before .before .before .number .ensures .1, c .before .before .before .before .before .before .before .before .before .before .before .number .ensures .0 .size, c .before .before .before .before .before .before .before .before .before .before .before .before .before .buffer .ensures))
+show-entry-requires : tie.Need-show-entry-requires
+show-entry-requires c κs = let h = answer-few (λ at. c .before .before .before .before .before .before .before .before .before .before .before .before .before .before .before .before .before .before .before .shared-slice-known .given (inImage (c .before .before .before .before .before .before .before .before .before .before .before .before .before .before .before .before .before .before .before .before .args .p3) at) .fits) (c .before .before .before .before .before .before .before .before .before .before .before .before .before .before .before .before .bound .ensures) in (h .value, h .depth, omega (arith, c .before .before .put2 .ensures .end, c .before .before .put2 .ensures .size, c .before .before .before .before .before .source-name .ensures .1, c .before .before .before .before .before .source-name .ensures .0 .size, c .before .before .before .before .before .before .before .before .put .ensures .end, c .before .before .before .before .before .before .before .before .put .ensures .size, c .before .before .before .before .before .before .before .before .before .before .before .number .ensures .1, c .before .before .before .before .before .before .before .before .before .before .before .number .ensures .0 .size, c .before .before .before .before .before .before .before .before .before .before .before .before .before .buffer .ensures))
 
 returns : tie.Need-returns
 returns c = search needs
@@ -53,6 +56,7 @@ entry-spec =
     tie.close
     (tie.spec
     slice-aggregate-bound
+    slice-aggregate-bound-2
     bound-requires
     buffer-requires
     slice-aggregate-number
@@ -63,6 +67,6 @@ entry-spec =
     source-name-requires
     slice-aggregate-put-2
     put-requires-2
-    slice-aggregate-show-answer
-    show-answer-requires
+    slice-aggregate-show-entry
+    show-entry-requires
     returns)

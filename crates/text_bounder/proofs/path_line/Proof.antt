@@ -23,22 +23,22 @@ cast-shift : tie.Need-cast-shift
 cast-shift c = search needs
 
 sub-shift : tie.Need-sub-shift
-sub-shift c = omega (arith, c .places .ensures, places-up-to 4 (c .before .before .before .before .before .before .before .before .before .before .before .before .args .total) (c .before .before .before .before .before .before .before .before .before .before .before .before .pre .2))
+sub-shift c = omega (arith, c .places .ensures, places-up-to 4 (c .before .before .before .before .before .before .before .before .before .before .before .before .args .counted) (c .before .before .before .before .before .before .before .before .before .before .before .before .pre .2))
 
 blanks-requires : tie.Need-blanks-requires
 blanks-requires c κs = search needs
 
 decimal-requires : tie.Need-decimal-requires
-decimal-requires c κs = (c .before .before .before .before .before .before .before .before .before .before .before .before .before .before .before .before .before .pre .2, omega (arith, c .before .before .before .blanks .ensures .1, c .before .before .before .blanks .ensures .0 .size, c .before .before .before .before .before .before .before .before .put-text .ensures .end, c .before .before .before .before .before .before .before .before .put-text .ensures .size, c .before .before .before .before .before .before .before .before .before .before .before .before .before .columns .ensures .1, c .before .before .before .before .before .before .before .before .before .before .before .before .before .columns .ensures .0 .size, c .before .before .before .before .before .places .ensures, places-up-to 4 (c .before .before .before .before .before .before .before .before .before .before .before .before .before .before .before .before .before .args .total) (c .before .before .before .before .before .before .before .before .before .before .before .before .before .before .before .before .before .pre .2), c .before .before .before .before .before .before .before .before .before .before .before .before .before .before .before .before .before .pre .3))
+decimal-requires c κs = (c .before .before .before .before .before .before .before .before .before .before .before .before .before .before .before .before .before .pre .2, omega (arith, c .before .before .before .blanks .ensures .1, c .before .before .before .blanks .ensures .0 .size, c .before .before .before .before .before .before .before .before .put-text .ensures .end, c .before .before .before .before .before .before .before .before .put-text .ensures .size, c .before .before .before .before .before .before .before .before .before .before .before .before .before .columns .ensures .1, c .before .before .before .before .before .before .before .before .before .before .before .before .before .columns .ensures .0 .size, c .before .before .before .before .before .places .ensures, places-up-to 4 (c .before .before .before .before .before .before .before .before .before .before .before .before .before .before .before .before .before .args .counted) (c .before .before .before .before .before .before .before .before .before .before .before .before .before .before .before .before .before .pre .2), c .before .before .before .before .before .before .before .before .before .before .before .before .before .before .before .before .before .pre .3))
 
 put-requires : tie.Need-put-requires
-put-requires c κs = omega (arith, c .before .before .before .decimal .ensures .1, c .before .before .before .decimal .ensures .0 .size, c .before .before .before .before .before .before .before .blanks .ensures .1, c .before .before .before .before .before .before .before .blanks .ensures .0 .size, c .before .before .before .before .before .before .before .before .before .before .before .before .put-text .ensures .end, c .before .before .before .before .before .before .before .before .before .before .before .before .put-text .ensures .size, c .before .before .before .before .before .before .before .before .before .before .before .before .before .before .before .before .before .columns .ensures .1, c .before .before .before .before .before .before .before .before .before .before .before .before .before .before .before .before .before .columns .ensures .0 .size, c .before .before .before .before .before .before .before .before .before .places .ensures, places-up-to 4 (c .before .before .before .before .before .before .before .before .before .before .before .before .before .before .before .before .before .before .before .before .before .args .total) (c .before .before .before .before .before .before .before .before .before .before .before .before .before .before .before .before .before .before .before .before .before .pre .2), c .before .before .before .before .before .before .before .before .before .before .before .before .before .before .before .before .before .before .before .before .before .pre .3)
+put-requires c κs = omega (arith, c .before .before .before .decimal .ensures .1, c .before .before .before .decimal .ensures .0 .size, c .before .before .before .before .before .before .before .blanks .ensures .1, c .before .before .before .before .before .before .before .blanks .ensures .0 .size, c .before .before .before .before .before .before .before .before .before .before .before .before .put-text .ensures .end, c .before .before .before .before .before .before .before .before .before .before .before .before .put-text .ensures .size, c .before .before .before .before .before .before .before .before .before .before .before .before .before .before .before .before .before .columns .ensures .1, c .before .before .before .before .before .before .before .before .before .before .before .before .before .before .before .before .before .columns .ensures .0 .size, c .before .before .before .before .before .before .before .before .before .places .ensures, places-up-to 4 (c .before .before .before .before .before .before .before .before .before .before .before .before .before .before .before .before .before .before .before .before .before .args .counted) (c .before .before .before .before .before .before .before .before .before .before .before .before .before .before .before .before .before .before .before .before .before .pre .2), c .before .before .before .before .before .before .before .before .before .before .before .before .before .before .before .before .before .before .before .before .before .pre .3)
 
 same-length : tie.Need-same-length
 same-length c = search needs
 
 returns : tie.Need-returns
-returns c = (wrote-then (c .before .before .before .before .before .before .before .before .before .before .before .before .before .before .before .before .before .before .before .before .columns .ensures .0) (wrote-then (c .before .before .before .before .before .before .before .before .before .before .before .before .before .before .before .put-text .ensures) (wrote-then (wrote-aligned (c .before .before .before .before .before .before .before .before .before .before .before .before .before .before .before .before .before .before .before .before .before .before .before .before .args .total) (rw (c .before .before .before .before .before .before .before .before .before .before .before .before .places .ensures) at (c .before .before .before .before .before .before .before .before .before .before .blanks .ensures .0)) (c .before .before .before .before .before .before .decimal .ensures .0)) (c .before .before .put .ensures))), omega (arith, c .before .before .put .ensures .end, c .before .before .before .before .before .before .decimal .ensures .1, c .before .before .before .before .before .before .before .before .before .before .blanks .ensures .1, c .before .before .before .before .before .before .before .before .before .before .before .before .before .before .before .put-text .ensures .end, c .before .before .before .before .before .before .before .before .before .before .before .before .before .before .before .before .before .before .before .before .columns .ensures .1, c .before .before .before .before .before .before .before .before .before .before .before .before .places .ensures, places-up-to 4 (c .before .before .before .before .before .before .before .before .before .before .before .before .before .before .before .before .before .before .before .before .before .before .before .before .args .total) (c .before .before .before .before .before .before .before .before .before .before .before .before .before .before .before .before .before .before .before .before .before .before .before .before .pre .2)))
+returns c = (wrote-then (c .before .before .before .before .before .before .before .before .before .before .before .before .before .before .before .before .before .before .before .before .columns .ensures .0) (wrote-then (c .before .before .before .before .before .before .before .before .before .before .before .before .before .before .before .put-text .ensures) (wrote-then (wrote-aligned (c .before .before .before .before .before .before .before .before .before .before .before .before .before .before .before .before .before .before .before .before .before .before .before .before .args .counted) (rw (c .before .before .before .before .before .before .before .before .before .before .before .before .places .ensures) at (c .before .before .before .before .before .before .before .before .before .before .blanks .ensures .0)) (c .before .before .before .before .before .before .decimal .ensures .0)) (c .before .before .put .ensures))), omega (arith, c .before .before .put .ensures .end, c .before .before .before .before .before .before .decimal .ensures .1, c .before .before .before .before .before .before .before .before .before .before .blanks .ensures .1, c .before .before .before .before .before .before .before .before .before .before .before .before .before .before .before .put-text .ensures .end, c .before .before .before .before .before .before .before .before .before .before .before .before .before .before .before .before .before .before .before .before .columns .ensures .1, c .before .before .before .before .before .before .before .before .before .before .before .before .places .ensures, places-up-to 4 (c .before .before .before .before .before .before .before .before .before .before .before .before .before .before .before .before .before .before .before .before .before .before .before .before .args .counted) (c .before .before .before .before .before .before .before .before .before .before .before .before .before .before .before .before .before .before .before .before .before .before .before .before .pre .2)))
 
 pub path-line-spec : {M : Type 1} → statement M
 path-line-spec =

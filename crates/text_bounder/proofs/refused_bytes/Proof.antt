@@ -1,7 +1,6 @@
--- `text_bounder::proofs::refused_bytes` meets its contract.
+-- `text_bounder::refused_bytes` meets its contract.
 use native.Mathlib.Omega.{arith}
 use Rattle.laws.proofs.Writing.{wrote-then}
-use Rattle.text_bounder.proofs.Values.{few-places}
 use borrow.Author.Needs.{needs}
 use Rattle.text_bounder.proofs.refused_bytes.Statement.{statement}
 use Rattle.text_bounder.proofs.refused_bytes.Tie as tie
@@ -15,14 +14,14 @@ slice-aggregate-put-text c = search needs
 put-text-requires : tie.Need-put-text-requires
 put-text-requires c κs = search needs
 
-decimal-requires : tie.Need-decimal-requires
-decimal-requires c κs = (omega (arith, c .before .before .before .before .before .before .before .before .before .before .before .pre .0), omega (arith, few-places (c .before .before .before .before .before .before .before .before .before .before .before .args .bytes) (c .before .before .before .before .before .before .before .before .before .before .before .pre .0), c .before .before .before .put-text .ensures .end, c .before .before .before .put-text .ensures .size, c .before .before .before .before .before .before .before .before .refused .ensures .1, c .before .before .before .before .before .before .before .before .refused .ensures .0 .size, c .before .before .before .before .before .before .before .before .before .before .before .pre .1))
+up-to-six-requires : tie.Need-up-to-six-requires
+up-to-six-requires c κs = search needs
 
 same-length : tie.Need-same-length
 same-length c = search needs
 
 returns : tie.Need-returns
-returns c = (wrote-then (c .before .before .before .before .before .before .before .before .before .before .before .refused .ensures .0) (wrote-then (c .before .before .before .before .before .before .put-text .ensures) (c .before .before .decimal .ensures .0)), omega (arith, few-places (c .before .before .before .before .before .before .before .before .before .before .before .before .before .before .args .bytes) (c .before .before .before .before .before .before .before .before .before .before .before .before .before .before .pre .0), c .before .before .decimal .ensures .1, c .before .before .before .before .before .before .put-text .ensures .end, c .before .before .before .before .before .before .before .before .before .before .before .refused .ensures .1))
+returns c = (wrote-then (c .before .before .before .before .before .before .before .before .before .before .before .refused .ensures .0) (wrote-then (c .before .before .before .before .before .before .put-text .ensures) (c .before .before .up-to-six .ensures .0)), omega (arith, c .before .before .up-to-six .ensures .1, c .before .before .before .before .before .before .put-text .ensures .end, c .before .before .before .before .before .before .before .before .before .before .before .refused .ensures .1))
 
 pub refused-bytes-spec : {M : Type 1} → statement M
 refused-bytes-spec =
@@ -31,6 +30,6 @@ refused-bytes-spec =
     refused-requires
     slice-aggregate-put-text
     put-text-requires
-    decimal-requires
+    up-to-six-requires
     same-length
     returns)

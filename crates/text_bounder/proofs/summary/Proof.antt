@@ -1,7 +1,6 @@
--- `text_bounder::proofs::summary` meets its contract.
+-- `text_bounder::summary` meets its contract.
 use native.Mathlib.Omega.{arith}
-use Rattle.laws.proofs.Writing.{wrote-then}
-use Rattle.text_bounder.proofs.Values.{excluded-small, repeats-small, short-small, longest-small, few-places}
+use Rattle.text_bounder.proofs.Values.{small-as}
 use borrow.Author.Needs.{needs}
 use Rattle.text_bounder.proofs.summary.Statement.{statement}
 use Rattle.text_bounder.proofs.summary.Tie as tie
@@ -28,7 +27,7 @@ enum-known-answer : tie.Need-enum-known-answer
 enum-known-answer c = search needs
 
 cast-refused-at : tie.Need-cast-refused-at
-cast-refused-at c = omega (arith, excluded-small (c .before .before .answer .given .1) (c .before .before .before .before .before .pre .0))
+cast-refused-at c = let h = small-as 0 131072 (c .before .before .answer .given .1) (c .before .before .before .before .before .pre .0) in omega (arith, h)
 
 refused-at-requires : tie.Need-refused-at-requires
 refused-at-requires c κs = search needs
@@ -37,7 +36,7 @@ enum-known-answer-2 : tie.Need-enum-known-answer-2
 enum-known-answer-2 c = search needs
 
 cast-refused-at-2 : tie.Need-cast-refused-at-2
-cast-refused-at-2 c = omega (arith, repeats-small (c .before .before .answer2 .given .1) (c .before .before .before .before .before .pre .0))
+cast-refused-at-2 c = let h = small-as 0 131072 (c .before .before .answer2 .given .1) (c .before .before .before .before .before .pre .0) in omega (arith, h)
 
 refused-at-requires-2 : tie.Need-refused-at-requires-2
 refused-at-requires-2 c κs = search needs
@@ -45,26 +44,35 @@ refused-at-requires-2 c κs = search needs
 enum-known-answer-3 : tie.Need-enum-known-answer-3
 enum-known-answer-3 c = search needs
 
-cast-refused-bytes : tie.Need-cast-refused-bytes
-cast-refused-bytes c = omega (arith, short-small (c .before .before .answer3 .given .1) (c .before .before .before .before .before .pre .0))
+cast-refused-at-3 : tie.Need-cast-refused-at-3
+cast-refused-at-3 c = let h = small-as 0 131072 (c .before .before .answer3 .given .1) (c .before .before .before .before .before .pre .0) in omega (arith, h)
 
-refused-bytes-requires : tie.Need-refused-bytes-requires
-refused-bytes-requires c κs = (short-small (c .before .before .answer3 .given .1) (c .before .before .before .before .before .pre .0), c .before .before .before .before .before .pre .1)
+refused-at-requires-3 : tie.Need-refused-at-requires-3
+refused-at-requires-3 c κs = search needs
+
+enum-told-4 : tie.Need-enum-told-4
+enum-told-4 c = search needs
+
+refused-requires-4 : tie.Need-refused-requires-4
+refused-requires-4 c κs = search needs
 
 enum-known-answer-4 : tie.Need-enum-known-answer-4
 enum-known-answer-4 c = search needs
 
-slice-aggregate-put-text : tie.Need-slice-aggregate-put-text
-slice-aggregate-put-text c = search needs
+cast-refused-bytes : tie.Need-cast-refused-bytes
+cast-refused-bytes c = let h = small-as 0 131072 (c .before .before .answer4 .given .1) (c .before .before .before .before .before .pre .0) in omega (arith, h)
 
-put-text-requires : tie.Need-put-text-requires
-put-text-requires c κs = search needs
+refused-bytes-requires : tie.Need-refused-bytes-requires
+refused-bytes-requires c κs = (small-as 0 131072 (c .before .before .answer4 .given .1) (c .before .before .before .before .before .pre .0), c .before .before .before .before .before .pre .1)
 
-cast-decimal : tie.Need-cast-decimal
-cast-decimal c = omega (arith, longest-small (c .before .before .before .before .before .before .before .answer4 .given .1) (c .before .before .before .before .before .before .before .before .before .before .pre .0))
+enum-known-answer-5 : tie.Need-enum-known-answer-5
+enum-known-answer-5 c = search needs
 
-decimal-requires : tie.Need-decimal-requires
-decimal-requires c κs = (omega (arith, longest-small (c .before .before .before .before .before .before .before .answer4 .given .1) (c .before .before .before .before .before .before .before .before .before .before .pre .0)), omega (arith, few-places _ (longest-small (c .before .before .before .before .before .before .before .answer4 .given .1) (c .before .before .before .before .before .before .before .before .before .before .pre .0)), c .before .before .before .put-text .ensures .end, c .before .before .before .put-text .ensures .size, c .before .before .before .before .before .before .before .before .before .before .pre .1))
+cast-most-cycles : tie.Need-cast-most-cycles
+cast-most-cycles c = let h = small-as 0 131072 (c .before .before .before .answer5 .given .1) (c .before .before .before .before .before .before .pre .0) in omega (arith, h)
+
+most-cycles-requires : tie.Need-most-cycles-requires
+most-cycles-requires c κs = (small-as 0 131072 (c .before .before .before .answer5 .given .1) (c .before .before .before .before .before .before .pre .0), omega (arith, c .before .before .before .before .before .before .pre .1))
 
 same-length : tie.Need-same-length
 same-length c = search needs
@@ -100,13 +108,25 @@ same-length-6 : tie.Need-same-length-6
 same-length-6 c = search needs
 
 returns-6 : tie.Need-returns-6
-returns-6 c = rw (c .before .before .before .before .before .answer3 .given .1) (c .before .before .refused-bytes .ensures .0, omega (arith, c .before .before .refused-bytes .ensures .1))
+returns-6 c = rw (c .before .before .before .before .before .answer3 .given .1) (c .before .before .refused-at3 .ensures .0, omega (arith, c .before .before .refused-at3 .ensures .1))
 
 same-length-7 : tie.Need-same-length-7
 same-length-7 c = search needs
 
 returns-7 : tie.Need-returns-7
-returns-7 c = rw (c .before .before .before .before .before .before .before .before .before .before .answer4 .given .1) (wrote-then (c .before .before .before .before .before .before .put-text .ensures) (c .before .before .decimal .ensures .0), omega (arith, few-places _ (longest-small (c .before .before .before .before .before .before .before .before .before .before .answer4 .given .1) (c .before .before .before .before .before .before .before .before .before .before .before .before .before .pre .0)), c .before .before .decimal .ensures .1, c .before .before .before .before .before .before .put-text .ensures .end))
+returns-7 c = rw (c .before .before .before .before .enum-told4 .given .1) (c .before .before .refused4 .ensures .0, omega (arith, c .before .before .refused4 .ensures .1))
+
+same-length-8 : tie.Need-same-length-8
+same-length-8 c = search needs
+
+returns-8 : tie.Need-returns-8
+returns-8 c = rw (c .before .before .before .before .before .answer4 .given .1) (c .before .before .refused-bytes .ensures .0, omega (arith, c .before .before .refused-bytes .ensures .1))
+
+same-length-9 : tie.Need-same-length-9
+same-length-9 c = search needs
+
+returns-9 : tie.Need-returns-9
+returns-9 c = rw (c .before .before .before .before .before .before .answer5 .given .1) (c .before .before .most-cycles .ensures .0, omega (arith, c .before .before .most-cycles .ensures .1))
 
 pub summary-spec : {M : Type 1} → statement M
 summary-spec =
@@ -125,13 +145,16 @@ summary-spec =
     cast-refused-at-2
     refused-at-requires-2
     enum-known-answer-3
+    cast-refused-at-3
+    refused-at-requires-3
+    enum-told-4
+    refused-requires-4
+    enum-known-answer-4
     cast-refused-bytes
     refused-bytes-requires
-    enum-known-answer-4
-    slice-aggregate-put-text
-    put-text-requires
-    cast-decimal
-    decimal-requires
+    enum-known-answer-5
+    cast-most-cycles
+    most-cycles-requires
     same-length
     returns
     same-length-2
@@ -145,4 +168,8 @@ summary-spec =
     same-length-6
     returns-6
     same-length-7
-    returns-7)
+    returns-7
+    same-length-8
+    returns-8
+    same-length-9
+    returns-9)
