@@ -1,5 +1,5 @@
 /* pane IMAGE ADDRESS: ten rows of an image from an address on, as the lister prints them, each branch or call with its target, and then the
- * bound of the handler there with its path, as the bounder prints it. A start for a debugger's pane.
+ * bound of the handler there with its paths, as the bounder prints them. A start for a debugger's pane.
  *
  *   rt staticlib pane
  *   cc -std=c11 -Wall -Wextra -Werror -Iinclude examples/pane.c target/staticlib/libpane.a -o pane
@@ -10,9 +10,12 @@
 
 enum { ROWS = 10 };
 
+/* The rows of the sheet that a path counts calls by. */
+enum { LCALL = 71, SCALL = 72, RET = 73, RTI = 86 };
+
 static uint8_t image[EM73862_IMAGE_BYTES + 1];
 static size_t image_length;
-static uint8_t path[EM73862_LONGEST_PATH_BYTES];
+static uint8_t path[EM73862_LONGEST_PATH_BYTES], deep[EM73862_LONGEST_PATH_BYTES];
 
 /* The columns of the lister without their line's end; what comes back is how many bytes the row has, 1 where there is none. */
 static uint8_t columns(uint32_t address, uint8_t *cycles) {
@@ -49,12 +52,30 @@ static void show_rows(uint32_t address) {
     }
 }
 
-/* N and the path to RTI with its running totals, or why there is none. */
+/* The depth and its path to RTI, each line with the calls that are open after it. */
+static void show_depth(uint32_t depth) {
+    unsigned calls = 0;
+    uint8_t row = 0;
+    printf("depth %u\n", (unsigned)depth);
+    for (const uint8_t *at = deep; row != RTI; at += 2) {
+        uint32_t address = at[0] + 256u * at[1];
+        uint8_t bytes, cycles;
+        uint16_t first, second, goes;
+        em73862_row(image, image_length, address, &row, &first, &second, &goes, &bytes, &cycles);
+        calls += row == LCALL || row == SCALL;
+        calls -= row == RET;
+        columns(address, &cycles);
+        printf(" %5u\n", calls);
+    }
+}
+
+/* N and its path to RTI with the running totals, then the depth, or why there is none. */
 static void show_bound(uint32_t address) {
-    uint32_t value, total = 0;
-    uint8_t number = em73862_bound(image, image_length, address, path, sizeof path, &value);
+    uint32_t value, depth, total = 0;
+    uint8_t number = em73862_bound(image, image_length, address, path, sizeof path, deep, sizeof deep, &value, &depth);
     switch (number) {
     case 0: break;
+    case EM73862_RECURSION_REACHABLE:
     case EM73862_EXCLUDED_REACHABLE:
     case EM73862_REPETITION_REACHABLE: printf("refused %02d %04X\n", number, (unsigned)value); return;
     default: printf("refused %02d\n", number); return;
@@ -66,6 +87,7 @@ static void show_bound(uint32_t address) {
         total += cycles;
         printf(" %5u\n", (unsigned)total);
     }
+    show_depth(depth);
 }
 
 int main(int count, char **words) {

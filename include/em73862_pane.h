@@ -1,7 +1,7 @@
 /* The calls of Bakethrush for a debugger's pane: an image and an address go in, and numbers and byte buffers come back. No call knows a record.
  *
  * Every call answers document 01's number: 0 or a refusal; beside each stand those that it can give, in their order. A refusal changes no buffer, and sets
- * the numbers that come back to 0, but for the value that comes with 21, 22 and 23.
+ * the numbers that come back to 0, but for the value that comes with 21, 22, 23 and 24.
  * A slice is a pointer and a length; a slice of no bytes may have any pointer. No two arguments of a call overlap.
  * crates/pane_device/specs/Pane.antt says what each call answers. They are in libpane.a.
  */
@@ -13,7 +13,7 @@
 #define EM73862_IMAGE_BYTES 8192
 /* A buffer of this length is never too short for a row's notation, nor one of the other for a path. */
 #define EM73862_NOTATION_BYTES 16
-#define EM73862_LONGEST_PATH_BYTES 32768
+#define EM73862_LONGEST_PATH_BYTES 131070
 /* Where a row goes that is neither a branch nor a call. */
 #define EM73862_NOWHERE 8192
 
@@ -23,6 +23,8 @@
 #define EM73862_EXCLUDED_REACHABLE 21
 #define EM73862_REPETITION_REACHABLE 22
 #define EM73862_SHORT_PATH 23
+#define EM73862_RECURSION_REACHABLE 24
+#define EM73862_BOUND_RANGE 25
 #define EM73862_UNASSIGNED 30
 /* The bytes left before the end of the image begin a row and are too few. */
 #define EM73862_PAST_END 35
@@ -45,10 +47,15 @@ uint8_t em73862_notation(const uint8_t *image, size_t image_length, uint32_t add
  * 1, 20, 30 or 35. */
 uint8_t em73862_read(const uint8_t *image, size_t image_length, uint32_t address,
                      uint8_t *row, uint16_t *a, uint8_t *b);
-/* path: the addresses of the longest path, two bytes each, low first; later bytes stay.
- * value: N where the answer is 0; the lowest address for 21 and 22; the bytes needed for 23; else 0. 1, 20, 21, 22, 23. */
+/* The most cycles N from an address to RTI, its calls followed, and the greatest depth of calls.
+ * path: the addresses of N's path, two bytes each, low first, those of a called routine in their turn; deep: those of depth's path. Later bytes stay.
+ * EM73862_LONGEST_PATH_BYTES are always enough for each.
+ * value: N where the answer is 0; the lowest address for 21 and 22; the bytes needed for 23, of path's buffer before deep's; the lowest entry of a routine
+ * that can reach a call of itself for 24; else 0. depth: the depth where the answer is 0, else 0. 1, 20, 24, 21, 22, 25 (N is over 65535), 23.
+ * N holds for runs that start running, with SF set and EI clear, and in which no instruction but a call stores into a stack level from SP at that time
+ * (included) up to the SP at the start (not included). The call itself needs up to 1.4 MB of stack. */
 uint8_t em73862_bound(const uint8_t *image, size_t image_length, uint32_t address,
-                      uint8_t *path, size_t path_length, uint32_t *value);
+                      uint8_t *path, size_t path_length, uint8_t *deep, size_t deep_length, uint32_t *value, uint32_t *depth);
 
 #ifdef __cplusplus
 }

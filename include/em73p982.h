@@ -2,7 +2,7 @@
  * ports and interrupts. em73862_write serves both devices.
  *
  * Every call answers document 01's number: 0, a refusal or a stop; beside each stand those that it can give, in their order. They have the names of em73862.h and
- * em73862_pane.h. A refusal changes no buffer, and sets the numbers that come back to 0, but for the value that comes with 21, 22 and 23.
+ * em73862_pane.h. A refusal changes no buffer, and sets the numbers that come back to 0, but for the value that comes with 21, 22, 23 and 24.
  * A slice is a pointer and a length; a slice of no bytes may have any pointer. No two arguments of a call overlap.
  * The calls on a record are in libcalls_p982.a, but the run, which is in librun_calls_p982.a, and why; those on an image, p3 and an address are in libpane_p982.a.
  *
@@ -82,11 +82,10 @@ uint8_t em73p982_notation(const uint8_t *image, size_t image_length, uint32_t p3
  * 1, 2, 20, 30 or 35. */
 uint8_t em73p982_read(const uint8_t *image, size_t image_length, uint32_t p3, uint32_t address,
                       uint8_t *row, uint16_t *a, uint8_t *b);
-/* For records that start with this p3; a row that writes P3 is excluded.
- * path: the addresses of the longest path, two bytes each, low first; later bytes stay.
- * value: N where the answer is 0; the lowest address for 21 and 22; the bytes needed for 23; else 0. 1, 2, 20, 21, 22, 23. */
+/* As em73862_bound of em73862_pane.h, for records that start with this p3; a row that writes P3 is excluded. 131,070 bytes are always enough for each path.
+ * 1, 2, 20, 24, 21, 22, 25, 23. */
 uint8_t em73p982_bound(const uint8_t *image, size_t image_length, uint32_t p3, uint32_t address,
-                       uint8_t *path, size_t path_length, uint32_t *value);
+                       uint8_t *path, size_t path_length, uint8_t *deep, size_t deep_length, uint32_t *value, uint32_t *depth);
 
 #ifdef __cplusplus
 }

@@ -69,8 +69,15 @@ pub extern "C" fn em73862_notation(
 }
 
 #[no_mangle]
-pub extern "C" fn em73862_bound(image: &[u8], address: u32, path: &mut [u8], value: &mut u32) -> u8
-    ensures { λ r. ⌜ BoundCall Em73862 (now (image .entry)) 0 address (now (path .entry)) r (now (value .exit)) (now (path .exit)) ⌝ }
+pub extern "C" fn em73862_bound(
+    image: &[u8],
+    address: u32,
+    path: &mut [u8],
+    deep: &mut [u8],
+    value: &mut u32,
+    depth: &mut u32,
+) -> u8
+    ensures { λ r. ⌜ BoundCall Em73862 (now (image .entry)) 0 address (now (path .entry)) (now (deep .entry)) r (now (value .exit)) (now (depth .exit)) (now (path .exit)) (now (deep .exit)) ⌝ }
 {
-    bound_call(Device::Em73862, image, 0, address, path, value)
+    bound_call(Device::Em73862, image, 0, address, path, deep, value, depth)
 }

@@ -1,7 +1,8 @@
 -- Each of the five calls has one answer: two answers to the same that conform are equal, numbers and buffers.
-use Prim.Native.Nat.{ℕ}
+use Prim.Native.Nat.{ℕ, _<_}
 use mathlib.Core.List.{List}
 use mathlib.Core.Path.{_≡_, sym, ap, _∙_}
+use Rattle.device.specs.Device.{romOf}
 use Rattle.device.specs.declared.Device.{Device}
 use Rattle.numbers.specs.ComesBack.{Paper, valueAt}
 use Rattle.bound.specs.Answer.{paperOf as boundPaper}
@@ -26,8 +27,10 @@ module _ {d : Device} {image : List ℕ} {p3 address n n′ : ℕ} where
   pub one-notation : {buffer z z′ : List ℕ} {size size′ : ℕ} → NotationCall d image p3 address buffer n size z → NotationCall d image p3 address buffer n′ size′ z′ → (n ≡ n′) × (size ≡ size′) × (z ≡ z′)
   one-notation x y = (agree (x .answer) (y .answer), agree (x .needed) (y .needed), agree (x .left) (y .left))
 
-  pub one-bound : (path : List ℕ) {v v′ : ℕ} {z z′ : List ℕ} → BoundCall d image p3 address path n v z → BoundCall d image p3 address path n′ v′ z′ → (n ≡ n′) × (v ≡ v′) × (z ≡ z′)
-  one-bound path x y =
-      let same = one-bounded path (x .r) (y .r) (x .bounds) (y .bounds) in
+  pub one-bound : ((p3 at : ℕ) → romOf image p3 at < 256) → (path deep : List ℕ) {v v′ k k′ : ℕ} {p p′ q q′ : List ℕ} → BoundCall d image p3 address path deep n v k p q → BoundCall d image p3 address path deep n′ v′ k′ p′ q′
+      → (n ≡ n′) × (v ≡ v′) × (k ≡ k′) × (p ≡ p′) × (q ≡ q′)
+  one-bound bytes path deep x y =
+      let same = one-bounded bytes path deep (x .r) (y .r) (x .bounds) (y .bounds) in
       let e : boundPaper (x .r) ≡ boundPaper (y .r) = ap boundPaper (same .0) in
-      (x .answer ∙ (ap (λ (p : Paper). p .number) e ∙ sym (y .answer)), x .given ∙ (ap (λ (p : Paper). valueAt p 0) e ∙ sym (y .given)), same .1)
+      let at : (i : ℕ) → valueAt (boundPaper (x .r)) i ≡ valueAt (boundPaper (y .r)) i = λ i. ap (λ (p : Paper). valueAt p i) e in
+      (x .answer ∙ (ap (λ (p : Paper). p .number) e ∙ sym (y .answer)), x .given ∙ (at 0 ∙ sym (y .given)), x .deepest ∙ (at 1 ∙ sym (y .deepest)), same .1, same .2)

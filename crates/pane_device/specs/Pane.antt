@@ -9,7 +9,7 @@ use Rattle.numbers.specs.ComesBack.{Paper, valueAt}
 use Rattle.device.specs.declared.Device.{Device}
 use Rattle.reader.specs.Answer.{readPaper}
 use Rattle.text_notation.specs.Notation.{rowText}
-use Rattle.bound.specs.Answer.{BoundAnswer}
+use Rattle.bound_calls.specs.CallAnswer.{CallAnswer}
 use Rattle.bound.specs.Answer.{paperOf as boundPaper}
 use Rattle.bound.specs.declared.Bounded.{Bounded}
 use Rattle.pane_device.specs.Numbers.{insnOf}
@@ -55,9 +55,10 @@ pub record NotationCall (d : Device) (image : List ℕ) (p3 address : ℕ) (buff
   pub needed : size ≡ length (textIn (readPaper d image p3 address) address)
   pub left : buffer′ ≡ textLeft (textIn (readPaper d image p3 address) address) buffer
 
--- _bound
-pub record BoundCall (d : Device) (image : List ℕ) (p3 address : ℕ) (path : List ℕ) (number value : ℕ) (path′ : List ℕ) : Type 0 where
+-- _bound: path is N's buffer, deep the depth's
+pub record BoundCall (d : Device) (image : List ℕ) (p3 address : ℕ) (path deep : List ℕ) (number value depth : ℕ) (path′ deep′ : List ℕ) : Type 0 where
   pub r : Bounded
-  pub bounds : BoundAnswer d image p3 address path path′ (boundPaper r)
+  pub bounds : CallAnswer d image p3 address path path′ deep deep′ (boundPaper r)
   pub answer : number ≡ boundPaper r .number
   pub given : value ≡ valueAt (boundPaper r) 0
+  pub deepest : depth ≡ valueAt (boundPaper r) 1

@@ -231,11 +231,14 @@ pub fn bound_call(
     p3: u32,
     address: u32,
     path: &mut [u8],
+    deep: &mut [u8],
     value: &mut u32,
+    depth: &mut u32,
 ) -> u8
-    ensures { λ r. ⌜ BoundCall d (now (image .entry)) p3 address (now (path .entry)) r (now (value .exit)) (now (path .exit)) ⌝ }
+    ensures { λ r. ⌜ BoundCall d (now (image .entry)) p3 address (now (path .entry)) (now (deep .entry)) r (now (value .exit)) (now (depth .exit)) (now (path .exit)) (now (deep .exit)) ⌝ }
 {
-    let n = bound::numbers_of(bound(d, image, p3, address, path));
+    let n = bound::numbers_of(bound(d, image, p3, address, path, deep));
     *value = n.value as u32;
+    *depth = n.depth as u32;
     n.number
 }

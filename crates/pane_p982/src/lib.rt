@@ -83,9 +83,20 @@ pub extern "C" fn em73p982_bound(
     p3: u32,
     address: u32,
     path: &mut [u8],
+    deep: &mut [u8],
     value: &mut u32,
+    depth: &mut u32,
 ) -> u8
-    ensures { λ r. ⌜ BoundCall Em73P982 (now (image .entry)) p3 address (now (path .entry)) r (now (value .exit)) (now (path .exit)) ⌝ }
+    ensures { λ r. ⌜ BoundCall Em73P982 (now (image .entry)) p3 address (now (path .entry)) (now (deep .entry)) r (now (value .exit)) (now (depth .exit)) (now (path .exit)) (now (deep .exit)) ⌝ }
 {
-    bound_call(Device::Em73P982, image, p3, address, path, value)
+    bound_call(
+        Device::Em73P982,
+        image,
+        p3,
+        address,
+        path,
+        deep,
+        value,
+        depth,
+    )
 }

@@ -1,7 +1,7 @@
 -- `pane_device::bound_call` meets its contract.
 use native.Mathlib.Omega.{arith}
-use Rattle.bound.proofs.Sizes.{answer-small}
 use Rattle.device.specs.Device.{inImage}
+use Rattle.bound.proofs.Sizes.{answer-few}
 use borrow.Author.Needs.{needs}
 use Rattle.pane_device.proofs.bound_call.Statement.{statement}
 use Rattle.pane_device.proofs.bound_call.Tie as tie
@@ -13,14 +13,28 @@ numbers-of-requires : tie.Need-numbers-of-requires
 numbers-of-requires c κs = search needs
 
 cast-value : tie.Need-cast-value
-cast-value c = omega (arith, c .before .numbers-of .ensures .value, answer-small (λ at. c .before .before .before .before .before .before .before .shared-slice-known .given (inImage (c .before .before .before .before .before .before .before .before .args .p3) at) .fits) (c .before .before .before .before .bound .ensures))
+cast-value c = omega (arith, c .before .numbers-of .ensures .value, (answer-few (λ at. c .before .before .before .before .before .before .before .before .before .before .before .shared-slice-known .given (inImage (c .before .before .before .before .before .before .before .before .before .before .before .before .args .p3) at) .fits) (c .before .before .before .before .before .before .bound .ensures)) .value)
+
+cast-depth : tie.Need-cast-depth
+cast-depth c = omega (arith, c .before .before .numbers-of .ensures .depth, (answer-few (λ at. c .before .before .before .before .before .before .before .before .before .before .before .before .shared-slice-known .given (inImage (c .before .before .before .before .before .before .before .before .before .before .before .before .before .args .p3) at) .fits) (c .before .before .before .before .before .before .before .bound .ensures)) .depth)
 
 same-length : tie.Need-same-length
 same-length c = search needs
+
+same-length-2 : tie.Need-same-length-2
+same-length-2 c = search needs
 
 returns : tie.Need-returns
 returns c = search needs
 
 pub bound-call-spec : {M : Type 1} → statement M
 bound-call-spec =
-    tie.close (tie.spec bound-requires numbers-of-requires cast-value same-length returns)
+    tie.close
+    (tie.spec
+    bound-requires
+    numbers-of-requires
+    cast-value
+    cast-depth
+    same-length
+    same-length-2
+    returns)
