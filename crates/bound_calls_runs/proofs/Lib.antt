@@ -3,4 +3,4 @@ pub mod StackPointer
 pub mod CallRows
 pub mod CallSteps
 pub mod CallDemand
-pub mod CallDemandOfCalls
+pub mod DemandOfCalls

@@ -58,8 +58,8 @@ Demand3WithCalls =
     → EndsWithin rom o m frames N
 
 -- the same of the answers: the bound answers N with a depth, and the call run is given a buffer of frames that it does not refuse
-abbrev pub Demand3OfCallsWithCalls : Type 0
-Demand3OfCallsWithCalls =
+abbrev pub Demand3OfCalls : Type 0
+Demand3OfCalls =
     (image : List ℕ) → ((p3 at : ℕ) → romOf image p3 at < 256) → (o : Options) (p3 start N depth : ℕ) (path path′ deep deep′ : List ℕ)
     → CallAnswer (o .device) image p3 start path path′ deep deep′ (answered (N ∷ depth ∷ []))
     → (m : Machine) → Enters (o .device) m p3 start

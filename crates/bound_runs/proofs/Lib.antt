@@ -5,4 +5,4 @@ pub mod Steps
 pub mod Buffers
 pub mod Runs
 pub mod Demand
-pub mod DemandOfCalls
+pub mod EndsByCall

@@ -26,8 +26,6 @@ use Rattle.run.specs.Run.{runOf}
 use Rattle.run.specs.Answers.{RunOf, mostFrames}
 use Rattle.run.specs.declared.Ran.{Ran}
 use Rattle.bound_flow.specs.Bound.{HasBound}
-use Rattle.numbers.specs.ComesBack.{answered}
-use Rattle.bound.specs.Answer.{BoundAnswer}
 
 -- a record at the start of a handler: "running, SF set, EI clear". Q-6: "demand 3 there speaks of runs whose record starts with that P3"
 pub record Enters (d : Device) (m : Machine) (p3 start : ℕ) : Type 0 where
@@ -89,11 +87,3 @@ pub record RunEndsWithin (image : List ℕ) (o : Options) (m : Machine) (frames 
   pub last : Pins
   pub shown : frameAt (o .device) frames (frameSize (o .device) * before) ≡ Seen last
   pub answers : (q r : Ran) → RunOf image o m (take (frameSize (o .device) * before) frames) q → RunOf image o m (take (frameSize (o .device) * suc before) frames) r → RunEnds (romOf image) o last before N q r
-
--- the same demand of the two calls: bound answers N, and run is given a buffer of frames that it does not refuse
-abbrev pub Demand3OfCalls : Type 0
-Demand3OfCalls =
-    (image : List ℕ) → ((p3 at : ℕ) → romOf image p3 at < 256) → (o : Options) (p3 start N : ℕ) (path path′ : List ℕ) → BoundAnswer (o .device) image p3 start path path′ (answered (N ∷ []))
-    → (m : Machine) → Enters (o .device) m p3 start
-    → (frames : List ℕ) → areFrames (o .device) frames ≡ true → length frames ≤ mostFrames * frameSize (o .device) → N ≤ length (framesOf (o .device) frames)
-    → RunEndsWithin image o m frames N

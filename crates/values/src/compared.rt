@@ -202,12 +202,14 @@ pub fn bound(image: &[u8; IMAGE_BYTES], b: Bench, text: &[u8], from: usize) -> B
         return nothing(b);
     }
     let mut path = [UNTOUCHED; 64];
+    let mut deep = [UNTOUCHED; 64];
     let found = bound::numbers_of(bound::bound(
         Device::Em73862,
         image,
         0,
         hexadecimal_at(text, at),
         &mut path,
+        &mut deep,
     ));
     say(b"  is ");
     say_decimal(found.number as u64);
@@ -217,5 +219,6 @@ pub fn bound(image: &[u8; IMAGE_BYTES], b: Bench, text: &[u8], from: usize) -> B
     let same_path = path_is(&path, text, first);
     let same_number = found.number as u32 == decimal_at(text, number_at_word);
     let same_value = found.value == decimal_at(text, value_at_word) as usize;
-    judged(b, both(same_path, both(same_number, same_value)))
+    let same_numbers = both(same_number, both(same_value, found.depth == 0));
+    judged(b, both(same_path, same_numbers))
 }

@@ -9,7 +9,7 @@
 //   cell ADDRESS V        what a nibble of RAM must be
 //   dots ROW DOTS..       the dots of a row that must be on, and no others
 //   ends NUMBER           document 01's number that the last step must have answered
-//   bound ADDRESS NUMBER VALUE PATH..   what the bound from there must answer
+//   bound ADDRESS NUMBER VALUE PATH..   what the bound from there must answer, with depth 0
 // Addresses, bytes and fields are hexadecimal, all else is decimal. Each line is printed, a comparison with what came out.
 mod asked;
 mod bench;

@@ -1,9 +1,10 @@
--- Demand 3 of the answers, for handlers that call.
-use mathlib.Core.Path.{_≡_, refl, ap, subst}
-use mathlib.Core.Bool.{Bool}
+-- Demand 3 of the two calls: where bound answers N, run answers to the frames up to the step that ends the handler within N cycles, with RTI executed or a named stop.
+use mathlib.Core.Path.{_≡_, refl, sym, ap, subst, _∙_}
+use mathlib.Core.Bool.{Bool, false}
 use mathlib.Core.List.{List, [], _∷_}
 use Prim.Native.Nat.{ℕ, _<_}
 use native.Mathlib.Omega.{arith}
+use lib.Dec.{T, eqb}
 use lib.ListN.{length, getD}
 use Rattle.numbers.specs.ComesBack.{Paper, answered}
 use Rattle.device.specs.Device.{imageSize, romOf}
@@ -12,11 +13,15 @@ use Rattle.frame.specs.Frame.{framesOf}
 use Rattle.routines.specs.Answer.{Found, Judged, HasBound, PathAnswer, FlowAnswer, Answer}
 use Rattle.bound_flow.specs.Flow.{addressOf}
 use Rattle.bound_runs.proofs.Buffers.{all-in-range}
-use Rattle.bound_runs.proofs.DemandOfCalls.{ends-by-call, not-0}
+use Rattle.bound_runs.proofs.EndsByCall.{ends-by-call}
 use Rattle.bound_calls.specs.CallFlow.{callFlow, callCycles}
 use Rattle.bound_calls.specs.CallAnswer.{paperOfFound, CallAnswer, gives-1, gives-2, gives-20, by-flow}
-use Rattle.bound_calls_runs.specs.CallHandler.{Demand3OfCallsWithCalls}
+use Rattle.bound_calls_runs.specs.CallHandler.{Demand3OfCalls}
 use Rattle.bound_calls_runs.proofs.CallDemand.{demand-3-with-calls}
+
+-- a refusal's number is not 0
+not-0 : {p q : Paper} → p ≡ q → T (eqb (q .number) 0) → eqb (p .number) 0 ≡ false → ⊥
+not-0 {p} {q} same t f = subst T (sym (ap (λ (r : Paper). eqb (r .number) 0) same) ∙ f) t
 
 -- where the answer is N, the image and the start are good and N bounds the handler
 record Bounds (d : Device) (image : List ℕ) (p3 start N : ℕ) : Type 0 where
@@ -49,8 +54,8 @@ module _ (d : Device) (image : List ℕ) (p3 start N depth : ℕ) (path path′ 
   bounds-by (gives-20 len b over k) same = absurd (not-0 same tt refl)
   bounds-by (by-flow len b le a) same = by-answer len (omega arith) a same
 
-pub demand-3-of-calls-with-calls : Demand3OfCallsWithCalls
-demand-3-of-calls-with-calls image bytes o p3 start N depth path path′ deep deep′ answer m enters frames good few enough spared =
+pub demand-3-of-calls : Demand3OfCalls
+demand-3-of-calls image bytes o p3 start N depth path path′ deep deep′ answer m enters frames good few enough spared =
     let b = bounds-by (o .device) image p3 start N depth path path′ deep deep′ answer refl in
     ends-by-call image o m frames (b .size) (enters .valid) good few N enough
     (demand-3-with-calls (romOf image) bytes o p3 start (b .inside) (b .K) N (b .depth) (b .path) (b .deep) (b .judged) (b .bound) m enters (framesOf (o .device) frames) (all-in-range (o .device) frames good) enough spared)
