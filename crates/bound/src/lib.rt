@@ -41,7 +41,7 @@ pub enum Bounded {
     Bounds(Greatest),
 }
 
-// The bound from an address of the image. Most handlers call nothing: they need no marks of routines.
+// The bound from an address of the image. Where the outer routine reaches no call it is the whole handler.
 fn found(d: Device, image: &[u8], p3: u8, address: usize, path: &mut [u8], deep: &mut [u8]) -> Found
     requires { ⌜ (8192 + 4096 * (p3 % 4) ≤ length (now image)) × (address < 8192) ⌝ }
     ensures { λ r. ⌜ Answer (callFlow d (romOf (now (image .entry)) p3) address) (callCycles d (romOf (now (image .entry)) p3)) addressOf
