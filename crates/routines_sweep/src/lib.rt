@@ -1,4 +1,5 @@
 // Request Q-9: the greatest sum of cycles from each node to the end of its routine, calls included, up to a cap of 65,536; and the greatest depth of calls.
+use graph_search::successor;
 ghost use mathlib.Core.Path.{_≡_};
 ghost use mathlib.Core.Logic.{_⊎_};
 ghost use Prim.Native.Nat.{_+_, _<_, _≤_, max, min};
@@ -172,17 +173,6 @@ fn leave(
         return d.len();
     }
     back[v] as usize
-}
-
-// The node that follows v and is to be tried after so many: next, then other.
-fn successor(next: &[u16], other: &[u16], tried: u8, v: usize) -> usize
-    requires { ⌜ (v < length (now next)) × (v < length (now other)) × (v < 32768) ⌝ }
-    ensures { λ r. ⌜ (r ≡ getD (now (next .entry)) v 0) ⊎ (r ≡ getD (now (other .entry)) v 0) ⌝ }
-{
-    if tried == 0 {
-        return next[v] as usize;
-    }
-    other[v] as usize
 }
 
 // One move of the walk from s, at v: to a successor that is not begun, or back once both were tried. stage counts those that were tried.

@@ -21,7 +21,6 @@ use Rattle.routines_route.specs.Way.{Falls, Fall, Written}
 use Rattle.routines_sweep.specs.Dist.{Value, ends, forks, calls, Dist}
 use Rattle.routines_whole.specs.Coded.{Shaped, Coded, innOf, outOf}
 use Rattle.routines_whole.specs.Paths.{PathOf}
-use Rattle.routines_whole.proofs.Written.{written-path}
 use Rattle.routines_whole.proofs.Lower.{lower}
 use Rattle.routines_whole.proofs.Bytes.{sum-is, is-on, is-call, is-end, exact-is-path}
 
@@ -99,10 +98,6 @@ module _ (f : Flow) (K : ℕ → Bool) (g : Graph) (c cycles : ℕ → ℕ) (d d
   -- N below the cap: it is the sum at the start, and the way by the sums is its path
   pub route-is-path : outOf d (f .start) < 65536 → {route : List ℕ} → way.Route g d [] (code 0 outer (f .start)) route → PathOf f K (sum cycles) (outOf d (f .start)) route
   route-is-path low is = exact-is-path f K g d (innOf d) (outOf d) coded no-bad (exact f K cycles 65536 (innOf d) (outOf d) capped low) is
-
-  pub n-and-path : outOf d (f .start) < 65536 → {p p′ : List ℕ} → Written g d (code 0 outer (f .start)) p p′
-      → (path : List ℕ) × FirstOf f (HandlerPath f K) (sum cycles) path × (sum cycles path ≡ outOf d (f .start)) × (p′ ≡ bytesOf (λ v. v / 2) path ++ drop (2 * length path) p)
-  n-and-path low {p} w = written-path p (route-is-path low (w .is)) (w .bytes)
 
   -- at the cap: a path costs that much, so N is over 65,535
   pub n-over : Done f K outer (f .start) → 65536 ≤ outOf d (f .start) → (l : List ℕ) × HandlerPath f K l × (65535 < sum cycles l)

@@ -21,7 +21,6 @@ use Rattle.routines_deep.specs.Deep as arrays
 use Rattle.routines_deep.specs.Deep.{later, to-next, to-other, into, back, Written}
 use Rattle.routines_whole.specs.Coded.{Shaped, Coded, innOf, outOf}
 use Rattle.routines_whole.specs.Paths.{PathOf}
-use Rattle.routines_whole.proofs.Written.{written-path}
 use Rattle.routines_whole.proofs.Bytes.{codes, sum-is, label, is-on, is-call, is-end}
 
 record Places (f : Flow) (K : ℕ → Bool) (dep : List ℕ) (goal reached : ℕ) (ks : List ℕ) (v : ℕ) (l : List ℕ) : Type 0 where
@@ -116,9 +115,3 @@ route-is-deepest f K g dep shape no-bad depths {route} is =
     let x = way-of f K g dep (outOf dep (f .start)) shape no-bad none 0 (f .start) handler here (code 0 outer (f .start)) [] route refl refl is in
     let y = way-is-deepest f K (innOf dep) (outOf dep) depths (x .way) in
     record { path = x .places; first = y .0; value = y .1; long = sym (x .long); bytes = x .bytes }
-
--- and where it was written, the bytes are that path's
-pub written-is-deepest : (f : Flow) (K : ℕ → Bool) (g : Graph) (dep : List ℕ) → Shaped f K g → ((v : ℕ) → IsBad f K v → ⊥) → Depths f K (innOf dep) (outOf dep) → {p p′ : List ℕ}
-    → Written g dep (outOf dep (f .start)) (code 0 outer (f .start)) p p′
-    → (deep : List ℕ) × FirstOf f (HandlerPath f K) (depth f) deep × (depth f deep ≡ outOf dep (f .start)) × (p′ ≡ bytesOf (λ v. v / 2) deep ++ drop (2 * length deep) p)
-written-is-deepest f K g dep shape no-bad depths {p} w = written-path p (route-is-deepest f K g dep shape no-bad depths (w .is)) (w .bytes)
