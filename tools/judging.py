@@ -1,5 +1,5 @@
-"""What the test scripts have in common: running a program of target/bin or of examples/, comparing what it writes, and counting."""
-import os, platform, shutil, subprocess, sys
+"""What the test scripts have in common: running a program of target/bin or in C, what a page shows of it, comparing what it writes, and counting."""
+import os, platform, re, shutil, subprocess, sys
 here = os.path.dirname(os.path.abspath(__file__))
 root = os.path.join(here, '..')
 passed = failed = 0
@@ -27,25 +27,26 @@ def run(words):
     ran = subprocess.run(words, cwd=root, stdin=subprocess.DEVNULL, capture_output=True, text=True, timeout=600)
     return ran.returncode, ran.stdout, ran.stderr
 
-def example(folder, name, archives):
-    """The words that run examples/NAME.c linked with the archives, or nothing where it cannot be linked.
+def c_programs(folder, name, source, archives):
+    """The words that run a program in C linked with the archives: as the kit's tools make it, on every processor, and as cc does where it makes x86-64 code.
 
-    Where cc cannot link x86-64 code it compiles the program with warnings as errors, and tools/build-server links what is run."""
-    for archive in archives:
-        compare('tools/archive ' + archive, 0, run(['tools/archive', archive])[0])
+    Elsewhere cc, where there is one, only compiles it, with warnings as errors as everywhere."""
     made = os.path.join(folder, name)
-    native = platform.machine() == 'x86_64'
+    compare('tools/link-program ' + name, (0, '', ''), run(['tools/link-program', made, source] + archives))
+    programs = [[os.path.join(here, 'on-host'), made]]
     if shutil.which('cc'):
-        words = ['cc', '-std=c11', '-Wall', '-Wextra', '-Werror', '-Iinclude', 'examples/%s.c' % name, '-o', made]
-        status, _, said = run(words + (['target/staticlib/lib%s.a' % archive for archive in archives] if native else ['-c']))
-        compare('cc', (0, ''), (status, said))
-    if not native:
-        status, _, said = run(['tools/build-server', name])
-        compare('tools/build-server ' + name, (0, ''), (status, said))
-        made = os.path.join(root, 'plain/target/server/em73862-' + name)
-    elif not os.path.exists(made):
-        return None
-    return [os.path.join(here, 'on-host'), made]
+        native = platform.machine() == 'x86_64'
+        words = ['cc', '-std=c11', '-Wall', '-Wextra', '-Werror', '-Iinclude', '-x', 'c', source, '-o', made + '-by-cc', '-x', 'none']
+        compare('cc ' + name, (0, '', ''), run(words + (['target/staticlib/lib%s.a' % archive for archive in archives] if native else ['-c'])))
+        programs += [[made + '-by-cc']] if native else []
+    return programs
+
+def shown(page, command):
+    """What a page shows of the command on the indented line that ends so: the indented lines after the blank one behind it."""
+    text = open(os.path.join(root, page)).read()
+    found = re.findall(r'^    [^\n]*%s\n\n((?:    [^\n]*\n)+)' % re.escape(command), text, re.M)
+    assert len(found) == 1, '%s shows %s %d times' % (page, command, len(found))
+    return re.sub('^    ', '', found[0], flags=re.M)
 
 def write_image(folder, name, size=8192, **codes):
     """An image of zeros but for some codes, each at the address that its name has after an underline."""
