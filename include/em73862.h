@@ -42,7 +42,7 @@
 #define EM73862_ABSENT_RAM 31
 #define EM73862_STACK_LEVEL 32
 #define EM73862_ABSENT_PORT 33
-#define EM73862_RESERVED_10XX 34
+#define EM73862_RESERVED_10XX 34 /* 10xx in P25 or P27; on the EM73P982 also a P3 whose bits 1..0 are 3 */
 
 /* What em73862_why answers: sleeping or holding, EI clear, nothing latched, latched but all masked, due but the stack level refuses it, accepted. */
 #define EM73862_WAITING 1
