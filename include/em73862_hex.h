@@ -1,6 +1,7 @@
 /* Images of the EM73862 as Intel HEX, on numbers and byte buffers.
  *
- * Every call answers 0 or a refusal's number. A refusal changes no buffer.
+ * Every call answers 0, a refusal's number, or 255 while nothing is told yet. 1, 2, 46 and 47 change no buffer. 40 to 45 leave the image; of a text in chunks
+ * they write the state and may write the work buffer.
  * A slice is a pointer and a length; a slice of no bytes may have any pointer. No two arguments of a call overlap.
  * crates/hex_calls/specs/Calls.antt and Chunks.antt say what each call answers.
  */
@@ -19,7 +20,7 @@
 enum em73862_hex_number {
     EM73862_HEX_DONE = 0,
     EM73862_HEX_IMAGE_SIZE = 1,      /* image is not 8,192 bytes */
-    EM73862_HEX_STATE_SIZE = 2,      /* state is not 550 bytes */
+    EM73862_HEX_STATE = 2,           /* state is not 550 bytes, or outside its ranges */
     EM73862_HEX_MALFORMED_LINE = 40, /* or an end record with bytes */
     EM73862_HEX_RECORD_SUM = 41,
     EM73862_HEX_RECORD_TYPE = 42,
@@ -48,7 +49,8 @@ uint8_t em73862_hex_write(const uint8_t *image, size_t image_length, uint8_t *te
  * calls repeat the answer and change nothing. Refusals 47, 1 and 2, in this order, change nothing and are not repeated.
  * The state is the line that is begun (522 bytes), how many characters it has and its number (8 bytes each, low first), the stage (0
  * before the end record, 1 after it, 2 told), the refusal, its line (8 bytes), whether the work buffer is in use, whether the text was
- * good; only the calls read it. */
+ * good; only the calls read it. Its ranges: at most 522 characters, 523 standing for a longer line; lines from 1; a stage of 0, 1 or 2, and of 2 a refusal of 40
+ * to 45; the last two 0 or 1. Bytes outside them are refused with 2. */
 
 /* Answers 0, 2. */
 uint8_t em73862_hex_start(uint8_t *state, size_t state_length);

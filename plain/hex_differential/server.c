@@ -23,7 +23,7 @@ struct answer {
     size_t line;
 };
 
-enum { READ = 1, WRITE = 2, CHUNKS = 3, MOST_BYTES = 1 << 21, MOST_CHUNKS = 1 << 16 };
+enum { READ = 1, WRITE = 2, CHUNKS = 3, STATE = 4, MOST_BYTES = 1 << 21, MOST_CHUNKS = 1 << 16 };
 
 static uint8_t steady[MOST_BYTES], changing[MOST_BYTES], before[MOST_BYTES];
 static uint32_t chunk_lengths[MOST_CHUNKS];
@@ -78,6 +78,23 @@ static void feed(const struct request *r, struct answer *answer) {
         answer->number = em73862_hex_end(state, sizeof state, work, sizeof work, changing, r->changing_length, &answer->line);
 }
 
+/* The steady bytes as a state, with an empty chunk: whether they are refused, and that the refusal changes nothing. */
+static void judge(const struct request *r, struct answer *answer) {
+    size_t line = 0xAAAAAAAA, end_line = 0xAAAAAAAA;
+    uint8_t *bytes = steady + r->steady_length; /* a copy that the calls may change */
+    memcpy(bytes, steady, r->steady_length);
+    memcpy(work_then, work, sizeof work);
+    answer->line = 0;
+    answer->repeated = 1;
+    uint8_t number = em73862_hex_feed(bytes, r->steady_length, steady, 0, work, sizeof work, changing, r->changing_length, &line);
+    if (number != EM73862_HEX_STATE)
+        return;
+    uint8_t end_number = em73862_hex_end(bytes, r->steady_length, work, sizeof work, changing, r->changing_length, &end_line);
+    answer->number = number;
+    answer->repeated = end_number == number && line == 0 && end_line == 0 && !memcmp(bytes, steady, r->steady_length)
+                       && !memcmp(work, work_then, sizeof work);
+}
+
 int main(void) {
     struct request r;
     while (take(&r, sizeof r)) {
@@ -96,6 +113,11 @@ int main(void) {
         case READ: answer.number = em73862_hex_read(steady, r.steady_length, changing, r.changing_length, &answer.line); break;
         case WRITE: answer.number = em73862_hex_write(steady, r.steady_length, changing, r.changing_length); break;
         case CHUNKS: feed(&r, &answer); break;
+        case STATE:
+            if (r.steady_length > MOST_BYTES / 2)
+                return 1;
+            judge(&r, &answer);
+            break;
         default: return 1;
         }
         answer.changed = memcmp(before, changing, r.changing_length) != 0;

@@ -118,6 +118,16 @@ fn take(cells: &mut [Option<u8>], address: usize, bytes: &[u8]) -> Result<(), u8
     Ok(())
 }
 
+/// Whether bytes are a state of a text in chunks, within the ranges that include/em73862_hex.h says.
+pub fn is_hex_state(bytes: &[u8]) -> bool {
+    if bytes.len() != 550 {
+        return false;
+    }
+    let number = |at: usize| bytes[at..at + 8].iter().rev().fold(0u64, |sum, &byte| sum << 8 | u64::from(byte));
+    let told = bytes[538] != 2 || (MALFORMED_LINE..=END_MISSING_OR_TEXT_AFTER).contains(&bytes[539]);
+    number(522) <= 523 && number(530) >= 1 && bytes[538] <= 2 && told && bytes[548] <= 1 && bytes[549] <= 1
+}
+
 /// "512 records of sixteen bytes in address order and the end record, upper case, LF"; later bytes stay.
 pub fn write_hex(image: &[u8], text: &mut [u8]) -> Result<(), u8> {
     if image.len() != IMAGE_SIZE {

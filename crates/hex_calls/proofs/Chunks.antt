@@ -1,21 +1,36 @@
 -- What the calls on a state in bytes answer, by the way that led there.
-use mathlib.Core.Path.{_≡_, refl}
+use mathlib.Core.Bool.{Bool, true, false, not}
+use mathlib.Core.Path.{_≡_, refl, sym}
 use mathlib.Core.List.{List, []}
 use Prim.Native.Nat.{ℕ}
 use native.Mathlib.Decide.{ℕ-discrete}
+use native.Mathlib.Omega.{arith}
 use lib.ListN.{length}
 use Rattle.hex_chunks.specs.Cut.{fed}
 use Rattle.hex_chunks.specs.Carries.{Carries, Sized, FeedCall, EndCall}
 use Rattle.hex_chunks.specs.declared.HexChunks.{HexChunks}
 use Rattle.hex_chunks.specs.declared.Fed.{Fed}
-use Rattle.hex_state.specs.Layout.{packed, stateOf}
+use Rattle.hex_chunks.proofs.Sessions.{in-ranges}
+use Rattle.hex_state.specs.Layout.{packed, stateOf, isState}
+use Rattle.hex_state.proofs.Ranges.{is-state}
 use Rattle.hex_calls.specs.Chunks.{numberOf, lineOf, StartCall, Unchanged, FeedBytes, EndBytes}
 
 pub start-2 : (before : List ℕ) → (length before ≡ 550 → ⊥) → StartCall before before 2
 start-2 before n = record { no-state = λ _. (refl, refl); new = λ e. absurd (n e) }
 
-pub start-new : (before after : List ℕ) (s : HexChunks) → length before ≡ 550 → stateOf after ≡ s → ((work : List ℕ) → Carries s work (fed [])) → StartCall before after 0
-start-new before after s e b c = record { no-state = λ n. absurd (n e); new = λ _. (refl, λ work. rw b (c work)) }
+pub start-new : (before after : List ℕ) (s : HexChunks) → length before ≡ 550 → (after ≡ packed s) × (stateOf after ≡ s) × (length after ≡ 550) → ((work : List ℕ) → Carries s work (fed [])) → StartCall before after 0
+start-new before after s e p c =
+    let ranges = in-ranges s [] (fed []) (c []) in
+    record { no-state = λ n. absurd (n e); new = λ _. (refl, is-state after s (p .2) (p .0) (p .1) ranges, λ work. rw (p .1) (c work)) }
+
+-- of a test that the code asks the other way round
+pub is-not : (a : Bool) {b : Bool} → a ≡ b → not a ≡ true → b ≡ true → ⊥
+is-not true e n t = let z : _≡_ {A = ℕ} 0 1 = cc in omega arith
+is-not false e n t = let z : _≡_ {A = ℕ} 0 1 = cc in omega arith
+
+pub is-so : (a : Bool) {b : Bool} → a ≡ b → not a ≡ false → b ≡ true
+is-so true e n = sym e
+is-so false e n = absurd (let z : _≡_ {A = ℕ} 0 1 = cc in omega arith)
 
 unchanged : (refusal : ℕ) (state work image : List ℕ) → Unchanged refusal refusal 0 state state work work image image
 unchanged refusal state work image = record { answer = refl; no-line = refl; state-kept = refl; work-kept = refl; image-kept = refl }
@@ -47,7 +62,7 @@ module _ (state work image : List ℕ) where
   pub feed-refused : (chunk : List ℕ) (r : ℕ) → Sized work image r → (r ≡ 0 → ⊥) → FeedBytes state state chunk work work image r 0
   feed-refused chunk r z n = feed-by chunk r z n (ℕ-discrete (length work) 9216) (ℕ-discrete (length image) 8192)
 
-  pub feed-2 : (chunk : List ℕ) → length work ≡ 9216 → length image ≡ 8192 → (length state ≡ 550 → ⊥) → FeedBytes state state chunk work work image 2 0
+  pub feed-2 : (chunk : List ℕ) → length work ≡ 9216 → length image ≡ 8192 → (isState state ≡ true → ⊥) → FeedBytes state state chunk work work image 2 0
   feed-2 chunk w i n =
       record {
         short-work = λ m. absurd (m w);
@@ -56,13 +71,13 @@ module _ (state work image : List ℕ) where
         feeds = λ _ _ s. absurd (n s);
       }
 
-  pub feed-so : (chunk stateAfter workAfter : List ℕ) (r : Fed) (number line : ℕ) → length work ≡ 9216 → length image ≡ 8192 → length state ≡ 550 → FeedCall (stateOf state) chunk work workAfter image r → (stateAfter ≡ packed (r .state)) × (stateOf stateAfter ≡ r .state) → number ≡ numberOf (r .told) → line ≡ lineOf (r .told) → FeedBytes state stateAfter chunk work workAfter image number line
+  pub feed-so : (chunk stateAfter workAfter : List ℕ) (r : Fed) (number line : ℕ) → length work ≡ 9216 → length image ≡ 8192 → isState state ≡ true → FeedCall (stateOf state) chunk work workAfter image r → (stateAfter ≡ packed (r .state)) × (stateOf stateAfter ≡ r .state) × (length stateAfter ≡ 550) → number ≡ numberOf (r .told) → line ≡ lineOf (r .told) → FeedBytes state stateAfter chunk work workAfter image number line
   feed-so chunk stateAfter workAfter r number line w i s c p n l =
       record {
         short-work = λ m. absurd (m w);
         short-image = λ _ m. absurd (m i);
         no-state = λ _ _ m. absurd (m s);
-        feeds = λ _ _ _. record { answer = r; call = c; given = record { number-of = n; line-of = l; bytes = p .0; state = p .1 } };
+        feeds = λ _ _ _. record { answer = r; call = c; given = record { number-of = n; line-of = l; size = p .2; bytes = p .0; state = p .1 } };
       }
 
   end-47 : (length work ≡ 9216 → ⊥) → EndBytes state state work work image image 47 0
@@ -91,7 +106,7 @@ module _ (state work image : List ℕ) where
   pub end-refused : (r : ℕ) → Sized work image r → (r ≡ 0 → ⊥) → EndBytes state state work work image image r 0
   end-refused r z n = end-by r z n (ℕ-discrete (length work) 9216) (ℕ-discrete (length image) 8192)
 
-  pub end-2 : length work ≡ 9216 → length image ≡ 8192 → (length state ≡ 550 → ⊥) → EndBytes state state work work image image 2 0
+  pub end-2 : length work ≡ 9216 → length image ≡ 8192 → (isState state ≡ true → ⊥) → EndBytes state state work work image image 2 0
   end-2 w i n =
       record {
         short-work = λ m. absurd (m w);
@@ -100,11 +115,11 @@ module _ (state work image : List ℕ) where
         ends = λ _ _ s. absurd (n s);
       }
 
-  pub end-so : (stateAfter workAfter imageAfter : List ℕ) (r : Fed) (number line : ℕ) → length work ≡ 9216 → length image ≡ 8192 → length state ≡ 550 → EndCall (stateOf state) work workAfter image imageAfter r → (stateAfter ≡ packed (r .state)) × (stateOf stateAfter ≡ r .state) → number ≡ numberOf (r .told) → line ≡ lineOf (r .told) → EndBytes state stateAfter work workAfter image imageAfter number line
+  pub end-so : (stateAfter workAfter imageAfter : List ℕ) (r : Fed) (number line : ℕ) → length work ≡ 9216 → length image ≡ 8192 → isState state ≡ true → EndCall (stateOf state) work workAfter image imageAfter r → (stateAfter ≡ packed (r .state)) × (stateOf stateAfter ≡ r .state) × (length stateAfter ≡ 550) → number ≡ numberOf (r .told) → line ≡ lineOf (r .told) → EndBytes state stateAfter work workAfter image imageAfter number line
   end-so stateAfter workAfter imageAfter r number line w i s c p n l =
       record {
         short-work = λ m. absurd (m w);
         short-image = λ _ m. absurd (m i);
         no-state = λ _ _ m. absurd (m s);
-        ends = λ _ _ _. record { answer = r; call = c; given = record { number-of = n; line-of = l; bytes = p .0; state = p .1 } };
+        ends = λ _ _ _. record { answer = r; call = c; given = record { number-of = n; line-of = l; size = p .2; bytes = p .0; state = p .1 } };
       }

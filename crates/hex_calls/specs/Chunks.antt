@@ -1,18 +1,20 @@
 -- Document 02, Q-10, on numbers and byte buffers: the calls of a reader that is fed chunks, on a state in bytes.
-use Prim.Native.Nat.{ℕ}
+use Prim.Native.Nat.{ℕ, _^_, _<_}
 use mathlib.Core.Path.{_≡_}
-use mathlib.Core.List.{List, []}
+use mathlib.Core.Bool.{true}
+use mathlib.Core.List.{List, [], _∷_}
 use lib.ListN.{length}
 use Rattle.numbers.specs.ComesBack.{image-of-another-size, record-outside-the-ranges}
 use Rattle.hex_line.specs.Refusals.{work-buffer-is-not-9216-bytes}
 use Rattle.hex_work.specs.Given.{imageSize}
 use Rattle.hex_work.specs.Work.{workSize}
-use Rattle.hex_chunks.specs.Cut.{fed}
+use Rattle.hex_chunks.specs.Cut.{fed, joined}
 use Rattle.hex_chunks.specs.Carries.{Carries, FeedCall, EndCall}
 use Rattle.hex_chunks.specs.declared.Told.{Told}
 use Rattle.hex_chunks.specs.declared.Told.the-variants.{More, Good, Refused}
 use Rattle.hex_chunks.specs.declared.Fed.{Fed}
-use Rattle.hex_state.specs.Layout.{packed, stateOf, stateSize}
+use Rattle.hex_calls.specs.Calls.{ReadCall}
+use Rattle.hex_state.specs.Layout.{packed, stateOf, stateSize, isState}
 
 -- the number of an answer: nothing is told yet, the whole text is good, or the refusal
 abbrev pub numberOf : Told → ℕ
@@ -28,7 +30,7 @@ lineOf (Refused number line) = line
 -- a new state, or a buffer that is no state
 pub record StartCall (before after : List ℕ) (r : ℕ) : Type 0 where
   pub no-state : (length before ≡ stateSize → ⊥) → (r ≡ record-outside-the-ranges) × (after ≡ before)
-  pub new : length before ≡ stateSize → (r ≡ 0) × ((work : List ℕ) → Carries (stateOf after) work (fed []))
+  pub new : length before ≡ stateSize → (r ≡ 0) × (isState after ≡ true) × ((work : List ℕ) → Carries (stateOf after) work (fed []))
 
 -- a refusal of a buffer: its number, no line, and everything as it was
 pub record Unchanged (refusal : ℕ) (number line : ℕ) (state stateAfter work workAfter image imageAfter : List ℕ) : Type 0 where
@@ -42,6 +44,7 @@ pub record Unchanged (refusal : ℕ) (number line : ℕ) (state stateAfter work 
 pub record Given (r : Fed) (number line : ℕ) (stateAfter : List ℕ) : Type 0 where
   pub number-of : number ≡ numberOf (r .told)
   pub line-of : line ≡ lineOf (r .told)
+  pub size : length stateAfter ≡ stateSize
   pub bytes : stateAfter ≡ packed (r .state)
   pub state : stateOf stateAfter ≡ r .state
 
@@ -55,15 +58,26 @@ pub record EndedAs (state stateAfter work workAfter image imageAfter : List ℕ)
   pub call : EndCall (stateOf state) work workAfter image imageAfter answer
   pub given : Given answer number line stateAfter
 
--- "47 work buffer not 9,216 bytes, tested first, then 1 for the image buffer", then 2 for a state of another size
+-- "47 work buffer not 9,216 bytes, tested first, then 1 for the image buffer", then 2 for bytes that are no state's
 pub record FeedBytes (state stateAfter chunk work workAfter image : List ℕ) (number line : ℕ) : Type 0 where
   pub short-work : (length work ≡ workSize → ⊥) → Unchanged work-buffer-is-not-9216-bytes number line state stateAfter work workAfter image image
   pub short-image : length work ≡ workSize → (length image ≡ imageSize → ⊥) → Unchanged image-of-another-size number line state stateAfter work workAfter image image
-  pub no-state : length work ≡ workSize → length image ≡ imageSize → (length state ≡ stateSize → ⊥) → Unchanged record-outside-the-ranges number line state stateAfter work workAfter image image
-  pub feeds : length work ≡ workSize → length image ≡ imageSize → length state ≡ stateSize → FedAs state stateAfter chunk work workAfter image number line
+  pub no-state : length work ≡ workSize → length image ≡ imageSize → (isState state ≡ true → ⊥) → Unchanged record-outside-the-ranges number line state stateAfter work workAfter image image
+  pub feeds : length work ≡ workSize → length image ≡ imageSize → isState state ≡ true → FedAs state stateAfter chunk work workAfter image number line
 
 pub record EndBytes (state stateAfter work workAfter image imageAfter : List ℕ) (number line : ℕ) : Type 0 where
   pub short-work : (length work ≡ workSize → ⊥) → Unchanged work-buffer-is-not-9216-bytes number line state stateAfter work workAfter image imageAfter
   pub short-image : length work ≡ workSize → (length image ≡ imageSize → ⊥) → Unchanged image-of-another-size number line state stateAfter work workAfter image imageAfter
-  pub no-state : length work ≡ workSize → length image ≡ imageSize → (length state ≡ stateSize → ⊥) → Unchanged record-outside-the-ranges number line state stateAfter work workAfter image imageAfter
-  pub ends : length work ≡ workSize → length image ≡ imageSize → length state ≡ stateSize → EndedAs state stateAfter work workAfter image imageAfter number line
+  pub no-state : length work ≡ workSize → length image ≡ imageSize → (isState state ≡ true → ⊥) → Unchanged record-outside-the-ranges number line state stateAfter work workAfter image imageAfter
+  pub ends : length work ≡ workSize → length image ≡ imageSize → isState state ≡ true → EndedAs state stateAfter work workAfter image imageAfter number line
+
+-- chunks are fed one after the other, each with the bytes that the call before left, and then the end is declared. Of the calls nothing is known but that each keeps its promise
+pub data BytesRun : List ℕ → List ℕ → List ℕ → List (List ℕ) → ℕ → ℕ → List ℕ → Type 0 where
+  ends : {state stateAfter work workAfter image imageAfter : List ℕ} {number line : ℕ} → EndBytes state stateAfter work workAfter image imageAfter number line → BytesRun state work image [] number line imageAfter
+  feeds : {state stateAfter chunk work workAfter image imageAfter : List ℕ} {chunks : List (List ℕ)} {n l number line : ℕ} → FeedBytes state stateAfter chunk work workAfter image n l → BytesRun stateAfter workAfter image chunks number line imageAfter → BytesRun state work image (chunk ∷ chunks) number line imageAfter
+
+-- "must end with the image, refusal and line number of Q-3's reader on the whole text, for every cutting", of the calls that a client links: from a new state the last number, its line and the image buffer are those of em73862_hex_read on the whole text
+abbrev pub BytesRunAsWhole : Type 0
+BytesRunAsWhole =
+    (before state work image imageAfter : List ℕ) (chunks : List (List ℕ)) (r number line : ℕ) → StartCall before state r → length before ≡ stateSize → length work ≡ workSize → length image ≡ imageSize
+    → length (joined chunks) < 2 ^ 64 → BytesRun state work image chunks number line imageAfter → ReadCall (joined chunks) image number line imageAfter

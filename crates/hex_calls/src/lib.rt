@@ -7,6 +7,7 @@ use hex_chunks::refusal_of;
 use hex_chunks::start;
 use hex_reader::read_hex;
 use hex_state::STATE_SIZE;
+use hex_state::is_state;
 use hex_state::pack;
 use hex_state::unpack;
 use hex_writer::write_hex;
@@ -14,7 +15,7 @@ ghost use mathlib.Core.Path.{_≡_};
 ghost use Rattle.hex_calls.specs.Chunks.{numberOf, lineOf, StartCall, FeedBytes, EndBytes};
 ghost use Rattle.hex_calls.specs.Calls.{ReadCall, WriteCall};
 
-// A buffer that is no state: document 01's refusal of a record.
+// A buffer that is no state, by its size or by its ranges: document 01's refusal of a record.
 const NO_STATE: u8 = 2;
 
 // Nothing is told yet.
@@ -82,7 +83,7 @@ pub extern "C" fn em73862_hex_feed(
     if refusal != 0 {
         return refusal;
     }
-    if state.len() != STATE_SIZE {
+    if !is_state(state) {
         return NO_STATE;
     }
     let fed = feed(unpack(state), chunk, work, image);
@@ -106,7 +107,7 @@ pub extern "C" fn em73862_hex_end(
     if refusal != 0 {
         return refusal;
     }
-    if state.len() != STATE_SIZE {
+    if !is_state(state) {
         return NO_STATE;
     }
     let last = finish(unpack(state), work, image);

@@ -21,7 +21,7 @@ use Rattle.hex_chunks.specs.Carries.{Along, Chunked}
 use Rattle.hex_chunks.proofs.Cuts.{completed-then, begun-then, completed-none, begun-more}
 
 pub kept-none : (held : List ℕ) → Kept held 0 []
-kept-none held = record { short = λ h. (refl, refl); long = λ h. absurd (let z : ⊥ = omega arith in z) }
+kept-none held = record { short = λ h. (refl, refl); long = λ h. absurd (let z : ⊥ = omega arith in z); most = omega arith }
 
 pick-up-to : (t : Bool) (c : ℕ) → length (pick t [] (c ∷ [])) ≤ 1
 pick-up-to true c = omega arith
@@ -135,9 +135,10 @@ module _ (text chunk : List ℕ) (at lf : ℕ) (e : lf ≡ at + upTo (drop at ch
 pub chunk-over : (text chunk : List ℕ) {held work : List ℕ} {count n lf : ℕ} {stage : Stage} → Along (text ++ take lf chunk) held count n stage work → lf ≡ length chunk → Chunked (text ++ chunk) (record { held = held; count = count; line = n; stage = stage; begun = true; over = false }) work
 chunk-over text chunk {held} {work} {count} {n} {lf} {stage} a e =
     let b : Along (text ++ chunk) held count n stage work = rw (take-all lf chunk (omega arith)) at a in
-    record { reached = b .reached; along = λ h. b; begun = refl; over = refl }
+    let k = b .number in
+    record { reached = b .reached; along = λ h. b; begun = refl; over = refl; held = b .kept .most; lines = omega arith }
 
 -- a fault stopped it
-pub chunk-stopped : (text : List ℕ) {held work : List ℕ} {count n : ℕ} (stage : Stage) → isStopped stage ≡ true → Reached stage work (afterLines (going []) 1 (completed [] text)) → Chunked text (record { held = held; count = count; line = n; stage = stage; begun = true; over = false }) work
-chunk-stopped text stage s h =
-    record { reached = h; along = λ e. absurd (let z : _≡_ {A = ℕ} 0 1 = cc in omega arith); begun = refl; over = refl }
+pub chunk-stopped : (text : List ℕ) {held work : List ℕ} {count n : ℕ} (stage : Stage) → isStopped stage ≡ true → Reached stage work (afterLines (going []) 1 (completed [] text)) → count ≤ 523 → 1 ≤ n → Chunked text (record { held = held; count = count; line = n; stage = stage; begun = true; over = false }) work
+chunk-stopped text stage s h most first =
+    record { reached = h; along = λ e. absurd (let z : _≡_ {A = ℕ} 0 1 = cc in omega arith); begun = refl; over = refl; held = most; lines = first }

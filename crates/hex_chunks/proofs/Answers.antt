@@ -9,14 +9,15 @@ use lib.ListN.{length, take, length-append}
 use Rattle.laws.specs.Choice.{either}
 use Rattle.hex_work.proofs.Fills.{held-image}
 use Rattle.hex_progress.specs.Progress.{Reading, good, refused, readOf}
-use Rattle.hex_progress.specs.Reached.{Held, isStopped}
+use Rattle.hex_progress.specs.Reached.{Held, IsFault, isStopped}
 use Rattle.hex_progress.specs.declared.Stage.the-variants.{Ended, Stopped}
 use Rattle.hex_chunks.specs.Cut.{Session, fed, told, afterChunk, afterEnd, imageAtEnd}
-use Rattle.hex_chunks.specs.Carries.{Along, Chunked, Readied, Carries, Fits, Sized, Stays, TakesTo, Repeats, FeedCall, EndCall, toldOf}
+use Rattle.hex_progress.proofs.Numbers.{read-in}
+use Rattle.hex_chunks.specs.Carries.{InRanges, Along, Chunked, Readied, Carries, Fits, Sized, Stays, TakesTo, Repeats, FeedCall, EndCall, toldOf}
 use Rattle.hex_chunks.specs.declared.HexChunks.{HexChunks}
 use Rattle.hex_chunks.specs.declared.Told.the-variants.{Good, Refused}
 use Rattle.hex_chunks.specs.declared.Fed.{Fed}
-use Rattle.hex_chunks.proofs.Sessions.{ready, chunked, not-final, final-tells, is-final}
+use Rattle.hex_chunks.proofs.Sessions.{ready, chunked, counts, not-final, final-tells, is-final}
 
 -- the answer about a buffer that is refused, and one that is told again
 abbrev refusal : HexChunks → ℕ → Fed
@@ -150,12 +151,15 @@ module _ (s : HexChunks) (work : List ℕ) where
 
     module _ (f : either (s .over) (isStopped (s .stage)) ≡ false) (ready-work after : List ℕ) (d : Readied (s .begun) work ready-work) where
       -- a good text
-      module _ (t : (text : List ℕ) → Along text (s .held) (s .count) (s .line) (s .stage) ready-work → length text < 2 ^ 64 → Held good after (readOf text)) (r : Fed) (over : r .state .over ≡ true) (stage : r .state .stage ≡ Ended) (says : r .told ≡ Good) where
+      module _ (t : (text : List ℕ) → Along text (s .held) (s .count) (s .line) (s .stage) ready-work → length text < 2 ^ 64 → Held good after (readOf text)) (r : Fed) (over : r .state .over ≡ true) (stage : r .state .stage ≡ Ended) (says : r .told ≡ Good) (count : r .state .count ≡ s .count) (lines : r .state .line ≡ s .line) where
         good-held : (text : List ℕ) → Carries s work (fed text) → Held good after (readOf text)
         good-held text c = t text (ready s work ready-work text d (c .2)) (c .0)
 
         good-ends : (session : Session) → Carries s work session → TakesTo (afterEnd session) after r
-        good-ends (fed text) c = rw (good-held text c .is) (record { carries = (over, rw stage refl); tells = says })
+        good-ends (fed text) c =
+            let k = counts s work text c in
+            let ranges : InRanges (r .state) = record { held = rw count (k .0); lines = rw lines (k .1); fault = rw stage tt } in
+            rw (good-held text c .is) (record { carries = (over, rw stage refl, ranges); tells = says })
         good-ends (told x) c = absurd (told-last x c f)
 
         good-image : (session : Session) → Carries s work session → take 8192 after ≡ imageAtEnd session image
@@ -174,12 +178,16 @@ module _ (s : HexChunks) (work : List ℕ) where
             }
 
       -- a text that is refused
-      module _ (number line : ℕ) (t : (text : List ℕ) → Along text (s .held) (s .count) (s .line) (s .stage) ready-work → length text < 2 ^ 64 → readOf text ≡ refused number line) (r : Fed) (stage : r .state .stage ≡ Stopped number line) (says : r .told ≡ Refused number line) where
+      module _ (number line : ℕ) (t : (text : List ℕ) → Along text (s .held) (s .count) (s .line) (s .stage) ready-work → length text < 2 ^ 64 → readOf text ≡ refused number line) (r : Fed) (stage : r .state .stage ≡ Stopped number line) (says : r .told ≡ Refused number line) (count : r .state .count ≡ s .count) (lines : r .state .line ≡ s .line) where
         refused-text : (text : List ℕ) → Carries s work (fed text) → readOf text ≡ refused number line
         refused-text text c = t text (ready s work ready-work text d (c .2)) (c .0)
 
         refused-ends : (session : Session) → Carries s work session → TakesTo (afterEnd session) after r
-        refused-ends (fed text) c = rw (refused-text text c) (record { carries = stage; tells = says })
+        refused-ends (fed text) c =
+            let k = counts s work text c in
+            let f : IsFault number = rw (refused-text text c) at (read-in text) in
+            let ranges : InRanges (r .state) = record { held = rw count (k .0); lines = rw lines (k .1); fault = rw stage f } in
+            rw (refused-text text c) (record { carries = (stage, ranges); tells = says })
         refused-ends (told x) c = absurd (told-last x c f)
 
         refused-image : (session : Session) → Carries s work session → image ≡ imageAtEnd session image

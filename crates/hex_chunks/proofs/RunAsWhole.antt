@@ -33,7 +33,7 @@ open-chunks session [] o = o
 open-chunks session (c ∷ cs) o = open-chunks (afterChunk session c) cs (open-chunk session c o)
 
 -- the chunks that are left fit
-abbrev FitsAll : Session → List (List ℕ) → Type 0
+abbrev pub FitsAll : Session → List (List ℕ) → Type 0
 FitsAll (fed text) chunks = length text + length (joined chunks) < 2 ^ 64
 FitsAll (told r) chunks = Unit
 
@@ -42,7 +42,7 @@ fits-by text (going ds) chunks h = h
 fits-by text (ended ds) chunks h = h
 fits-by text (stopped number line) chunks h = tt
 
-fits-one : (session : Session) (c : List ℕ) (cs : List (List ℕ)) → FitsAll session (c ∷ cs) → Fits session c × FitsAll (afterChunk session c) cs
+pub fits-one : (session : Session) (c : List ℕ) (cs : List (List ℕ)) → FitsAll session (c ∷ cs) → Fits session c × FitsAll (afterChunk session c) cs
 unfolding fedTo
 fits-one (fed text) c cs h = (
   omega (arith, length-append c (joined cs)),

@@ -1,5 +1,5 @@
 -- What the calls promise: the state and the work buffer carry the session, and the answer is the session's.
-use Prim.Native.Nat.{ℕ, _+_, _*_, _^_, _<_, _≤_}
+use Prim.Native.Nat.{ℕ, suc, _+_, _*_, _^_, _<_, _≤_}
 use mathlib.Core.Path.{_≡_}
 use mathlib.Core.Bool.{Bool, true, false}
 use mathlib.Core.List.{List, []}
@@ -9,8 +9,8 @@ use Rattle.hex_line.specs.Refusals.{work-buffer-is-not-9216-bytes}
 use Rattle.hex_work.specs.Given.{imageSize}
 use Rattle.hex_work.specs.Work.{workSize, Holds}
 use Rattle.hex_progress.specs.Progress.{going, Reading, good, refused, afterLines}
-use Rattle.hex_held.specs.Kept.{Kept}
-use Rattle.hex_progress.specs.Reached.{Reached, isStopped}
+use Rattle.hex_held.specs.Kept.{heldSize, Kept}
+use Rattle.hex_progress.specs.Reached.{Reached, IsFault, isStopped}
 use Rattle.hex_progress.specs.declared.Stage.{Stage}
 use Rattle.hex_progress.specs.declared.Stage.the-variants.{Going, Ended, Stopped}
 use Rattle.hex_chunks.specs.Cut.{Session, fed, told, completed, begunAfter, afterChunk, afterEnd, imageAtEnd}
@@ -18,6 +18,18 @@ use Rattle.hex_chunks.specs.declared.HexChunks.{HexChunks}
 use Rattle.hex_chunks.specs.declared.Told.{Told}
 use Rattle.hex_chunks.specs.declared.Told.the-variants.{More, Good, Refused}
 use Rattle.hex_chunks.specs.declared.Fed.{Fed}
+
+-- what was told for good is one of the faults
+abbrev pub TellsFault : Stage → Type 0
+TellsFault Going = Unit
+TellsFault Ended = Unit
+TellsFault (Stopped number line) = IsFault number
+
+-- the ranges of a state: the characters held of a line, one more than the longest standing for a longer one; lines counted from 1; the fault's number
+pub record InRanges (s : HexChunks) : Type 0 where
+  pub held : s .count ≤ suc heldSize
+  pub lines : 1 ≤ s .line
+  pub fault : TellsFault (s .stage)
 
 -- the lines so far and the one that is begun; each line before it has eleven characters at least
 pub record Along (text held : List ℕ) (count n : ℕ) (stage : Stage) (work : List ℕ) : Type 0 where
@@ -38,6 +50,8 @@ pub record Chunked (text : List ℕ) (r : HexChunks) (work : List ℕ) : Type 0 
   pub along : isStopped (r .stage) ≡ false → Along text (r .held) (r .count) (r .line) (r .stage) work
   pub begun : r .begun ≡ true
   pub over : r .over ≡ false
+  pub held : r .count ≤ suc heldSize
+  pub lines : 1 ≤ r .line
 
 -- before the first call the work buffer may have any contents
 abbrev pub CarriesText : HexChunks → List ℕ → List ℕ → Bool → Type 0
@@ -47,8 +61,8 @@ CarriesText s work text false = (text ≡ []) × (s .count ≡ 0) × (s .line �
 -- a session of a text that fits, as each text of Q-3's reader does, is carried; or what was told for good
 abbrev pub Carries : HexChunks → List ℕ → Session → Type 0
 Carries s work (fed text) = (length text < 2 ^ 64) × (s .over ≡ false) × CarriesText s work text (s .begun)
-Carries s work (told (good ds)) = (s .over ≡ true) × (isStopped (s .stage) ≡ false)
-Carries s work (told (refused number line)) = s .stage ≡ Stopped number line
+Carries s work (told (good ds)) = (s .over ≡ true) × (isStopped (s .stage) ≡ false) × InRanges s
+Carries s work (told (refused number line)) = (s .stage ≡ Stopped number line) × InRanges s
 
 -- what a state tells
 abbrev pub moreOrGood : Bool → Told

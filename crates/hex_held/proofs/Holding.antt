@@ -14,6 +14,7 @@ kept-one held line count c h s k =
     record {
       short = λ l. (rw (add-one count, take-suc-set held count c h) (ap (λ (l : List ℕ). l ++ (c ∷ [])) (e .0)), omega (arith, e .1, length-append line (c ∷ [])));
       long = λ l. absurd (let z : ⊥ = omega arith in z);
+      most = omega arith;
     }
 
 pub kept-long : (held line : List ℕ) (count c : ℕ) → 522 ≤ count → Kept held count line → Dec (522 < count) → Kept held 523 (line ++ (c ∷ []))
@@ -21,12 +22,14 @@ kept-long held line count c h k (yes l) =
     record {
       short = λ m. absurd (let z : ⊥ = omega arith in z);
       long = λ m. omega (arith, k .long l, length-append line (c ∷ []));
+      most = omega arith;
     }
 kept-long held line count c h k (no l) =
     let e = k .short (omega arith) in
     record {
       short = λ m. absurd (let z : ⊥ = omega arith in z);
       long = λ m. omega (arith, e .1, length-append line (c ∷ []));
+      most = omega arith;
     }
 
 -- one more of a part is held

@@ -1,5 +1,5 @@
 -- How far a text was read, as the code has it: a stage, and the data records in the work buffer.
-use Prim.Native.Nat.{ℕ}
+use Prim.Native.Nat.{ℕ, _≤_}
 use mathlib.Core.Path.{_≡_}
 use mathlib.Core.Bool.{Bool, true, false}
 use mathlib.Core.List.{List}
@@ -29,6 +29,10 @@ Reached (Stopped number line) work p = p ≡ stopped number line
 abbrev pub Concluded : Outcome → List ℕ → Reading → Type 0
 Concluded Good work r = Held good work r
 Concluded (Refused number line) work r = r ≡ refused number line
+
+-- "40 malformed line" to "45 end record missing": the number of a fault
+abbrev pub IsFault : ℕ → Type 0
+IsFault number = (40 ≤ number) × (number ≤ 45)
 
 abbrev pub isStopped : Stage → Bool
 isStopped Going = false

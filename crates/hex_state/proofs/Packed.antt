@@ -5,7 +5,7 @@ use mathlib.Core.List.{List, _∷_, _++_, append-nil}
 use Prim.Native.Nat.{ℕ, _+_, _-_, _^_, _<_}
 use native.Mathlib.Omega.{arith}
 use lib.Dec.{eqb}
-use lib.ListN.{length, take, drop, length-drop, drop-of-length-le}
+use lib.ListN.{length, take, drop, length-append, length-drop, drop-of-length-le}
 use lib.Seq.{take-all, take-length, take-at, drop-at, sets-eq}
 use Rattle.laws.specs.Writing.{Wrote}
 use Rattle.laws.proofs.Writing.{wrote-then}
@@ -13,7 +13,7 @@ use Rattle.bits.specs.Bits.{bitOf}
 use Rattle.hex_progress.specs.declared.Stage.{Stage}
 use Rattle.hex_progress.specs.declared.Stage.the-variants.{Going, Ended, Stopped}
 use Rattle.hex_chunks.specs.declared.HexChunks.{HexChunks}
-use Rattle.hex_state.specs.Layout.{StageFits, numbersOf, packed, stateFrom, stateOf}
+use Rattle.hex_state.specs.Layout.{StageFits, numbersIn, numbersOf, packed, stateFrom, stateOf}
 use Rattle.hex_state.proofs.Words.{word-back}
 
 bit-back : (b : Bool) → not (eqb (bitOf b) 0) ≡ b
@@ -33,6 +33,15 @@ pub state-back : (s : HexChunks) → length (s .held) ≡ 522 → s .count < 2 ^
 unfolding stateOf packed make
 state-back s e p q r =
     rw (take-at (s .held) (numbersOf s) 522 e, drop-at (s .held) (numbersOf s) 522 e) (numbers-by (s .held) (s .count) (s .line) (s .stage) (s .begun) (s .over) p q r)
+
+pub size-by : (c l : ℕ) (g : Stage) (b o : Bool) → length (numbersIn c l g b o) ≡ 28
+size-by c l Going b o = refl
+size-by c l Ended b o = refl
+size-by c l (Stopped number line) b o = refl
+
+pub packed-size : (s : HexChunks) → length (s .held) ≡ 522 → length (packed s) ≡ 550
+unfolding packed
+packed-size s e = omega (arith, length-append (s .held) (numbersOf s), size-by (s .count) (s .line) (s .stage) (s .begun) (s .over))
 
 -- a line's characters copied
 pub copied-whole : (b d : List ℕ) → length b ≡ 522 → length d ≡ 522 → take (length b) b ++ drop (length b) d ≡ b

@@ -1,10 +1,10 @@
 -- The state of a reader of chunks as 550 bytes, for C: how they are made of a state, and what state they are.
 use Prim.Native.Nat.{ℕ, zero, suc, _+_, _*_, _/_, _%_, _^_, _<_}
-use mathlib.Core.Bool.{Bool, not}
+use mathlib.Core.Bool.{Bool, true, not}
 use mathlib.Core.List.{List, [], _∷_, _++_}
-use lib.Dec.{eqb}
-use lib.ListN.{getD, take, drop}
-use Rattle.laws.specs.Choice.{pick}
+use lib.Dec.{eqb, leb}
+use lib.ListN.{length, getD, take, drop}
+use Rattle.laws.specs.Choice.{pick, both}
 use Rattle.bits.specs.Bits.{bitOf}
 use Rattle.hex_held.specs.Kept.{heldSize}
 use Rattle.hex_progress.specs.declared.Stage.{Stage}
@@ -66,3 +66,17 @@ stateOf bytes = stateFrom (take heldSize bytes) (drop heldSize bytes)
 
 abbrev pub stateSize : ℕ
 stateSize = 550
+
+-- "one of 40 to 45 given": of a stage that stopped
+abbrev pub faultInRange : ℕ → ℕ → Bool
+faultInRange stage number = pick (eqb stage 2) (both (leb 40 number) (leb number 45)) true
+
+-- the ranges of the bytes behind the line: the stage and the two marks; the characters that are held, one more than the longest standing for a longer line; lines counted from 1; the fault
+unfoldable pub numbersInRange : List ℕ → Bool
+numbersInRange numbers =
+    both (both (leb (getD numbers 16 0) 2) (both (leb (getD numbers 26 0) 1) (leb (getD numbers 27 0) 1)))
+    (both (both (leb (wordAt numbers 0 8) (suc heldSize)) (leb 1 (wordAt numbers 8 8))) (faultInRange (getD numbers 16 0) (getD numbers 17 0)))
+
+-- the bytes are a state's: as many, and within their ranges
+unfoldable pub isState : List ℕ → Bool
+isState bytes = both (eqb (length bytes) stateSize) (numbersInRange (drop heldSize bytes))

@@ -2,6 +2,7 @@
 use bits::bit_of;
 use hex_chunks::HexChunks;
 use hex_progress::Stage;
+use laws::both;
 use text_digits::put;
 use text_digits::put_text;
 ghost use mathlib.Core.Path.{_≡_};
@@ -9,11 +10,14 @@ ghost use mathlib.Core.List.{_∷_};
 ghost use Prim.Native.Nat.{_+_, _*_, _^_, _<_, _≤_};
 ghost use lib.ListN.{length};
 ghost use Rattle.laws.specs.Writing.{Wrote};
-ghost use Rattle.hex_state.specs.Layout.{wordBytes, wordAt, stageBytes, stageAt, StageFits, numbersIn, packed, stateOf};
+ghost use Rattle.hex_state.specs.Layout.{wordBytes, wordAt, stageBytes, stageAt, StageFits, numbersIn, packed, stateOf, faultInRange, numbersInRange, isState};
 
 pub const STATE_SIZE: usize = 550;
 
 const HELD_SIZE: usize = 522;
+
+// The characters of a line that is too long.
+const MOST_HELD: usize = 523;
 
 // Where the numbers stand behind the line.
 const COUNT: usize = 0;
@@ -21,6 +25,8 @@ const COUNT: usize = 0;
 const LINE: usize = 8;
 
 const STAGE: usize = 16;
+
+const NUMBER: usize = 17;
 
 const BEGUN: usize = 26;
 
@@ -83,7 +89,7 @@ fn put_numbers(
 
 pub fn pack(s: HexChunks, out: &mut [u8])
     requires { ⌜ length (now out) ≡ 550 ⌝ }
-    ensures { λ _. ⌜ (now (out .exit) ≡ packed s) × (stateOf (now (out .exit)) ≡ s) ⌝ }
+    ensures { λ _. ⌜ (now (out .exit) ≡ packed s) × (stateOf (now (out .exit)) ≡ s) × (length (now (out .exit)) ≡ 550) ⌝ }
 {
     let held = s.held;
     let stage = s.stage;
@@ -150,4 +156,31 @@ pub fn unpack(b: &[u8]) -> HexChunks
         begun: numbers[BEGUN] != 0,
         over: numbers[OVER] != 0,
     }
+}
+
+fn fault_in_range(stage: u8, number: u8) -> bool
+    ensures { λ r. ⌜ r ≡ faultInRange stage number ⌝ }
+{
+    if stage == 2 {
+        return both(40 <= number, number <= 45);
+    }
+    true
+}
+
+fn numbers_in_range(n: &[u8]) -> bool
+    requires { ⌜ length (now n) ≡ 28 ⌝ }
+    ensures { λ r. ⌜ r ≡ numbersInRange (now (n .entry)) ⌝ }
+{
+    let marks = both(n[STAGE] <= 2, both(n[BEGUN] <= 1, n[OVER] <= 1));
+    let counts = both(word_at(n, COUNT) <= MOST_HELD, 1 <= word_at(n, LINE));
+    both(marks, both(counts, fault_in_range(n[STAGE], n[NUMBER])))
+}
+
+pub fn is_state(b: &[u8]) -> bool
+    ensures { λ r. ⌜ r ≡ isState (now (b .entry)) ⌝ }
+{
+    if b.len() != STATE_SIZE {
+        return false;
+    }
+    numbers_in_range(&b[HELD_SIZE..])
 }

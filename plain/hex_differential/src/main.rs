@@ -9,13 +9,14 @@ mod proved;
 mod texts;
 
 use chance::Chance;
-use plain::{read_hex, write_hex, IMAGE_SIZE, TEXT_SIZE};
+use plain::{is_hex_state, read_hex, write_hex, IMAGE_SIZE, TEXT_SIZE};
 use proved::{Answer, Call, Proved};
 use std::process::exit;
 
 const SEED: u64 = 73862;
 const READS: u64 = 100_000;
 const WRITES: u64 = 1_000;
+const STATES: u64 = 20_000;
 const BATCH: u64 = 500;
 
 /// Each answer of a read, and how often it comes at least (with the factor 1).
@@ -57,6 +58,18 @@ fn main() {
             compare(seed, call, answer);
         }
     }
+    let mut refused = 0;
+    for _ in 0..STATES * factor / BATCH {
+        let calls: Vec<Call> = (0..BATCH).map(|_| state_call(&mut chance)).collect();
+        for (call, answer) in calls.iter().zip(proved.answers(&calls)) {
+            refused += u64::from(answer.number == 2);
+            compare(seed, call, answer);
+        }
+    }
+    if refused * 4 < STATES * factor || refused * 4 > 3 * STATES * factor {
+        println!("hex_differential: seed {seed}: {refused} states refused: too many or too few to say much");
+        exit(2);
+    }
     let seldom: Vec<u8> = AT_LEAST.iter().filter(|(n, least)| seen[*n as usize] < *least).map(|(n, _)| *n).collect();
     let counts: Vec<String> = AT_LEAST.iter().map(|(n, _)| format!("{n}: {}", seen[*n as usize])).collect();
     println!("hex_differential: answers of reads {}", counts.join(", "));
@@ -64,7 +77,8 @@ fn main() {
         println!("hex_differential: seed {seed}: too seldom: {seldom:?}");
         exit(2);
     }
-    println!("hex_differential: {} reads, {cut} in chunks, {} writes, 0 differ", READS * factor, WRITES * factor);
+    let (reads, writes, states) = (READS * factor, WRITES * factor, STATES * factor);
+    println!("hex_differential: {reads} reads, {cut} in chunks, {writes} writes, {states} states ({refused} refused), 0 differ");
 }
 
 /// A third of the texts is good; the others are damaged in one place or two.
@@ -99,10 +113,36 @@ fn write_call(chance: &mut Chance) -> Call {
     Call::Write { image: chance.bytes(size), text: vec![chance.byte(); room] }
 }
 
+/// A state as a call could leave it, and in half of them one number at the edge of its range or past it.
+fn state_call(chance: &mut Chance) -> Call {
+    let mut state = chance.bytes(550);
+    state[522..].fill(0);
+    let mut put = |at: usize, number: usize| state[at..at + 8].copy_from_slice(&(number as u64).to_le_bytes());
+    put(522, chance.below(524));
+    put(530, 1 + chance.below(1000));
+    state[538] = chance.below(3) as u8;
+    state[539] = if state[538] == 2 { 40 + chance.below(6) as u8 } else { 0 };
+    state[548] = chance.below(2) as u8;
+    state[549] = chance.below(2) as u8;
+    if chance.one_in(2) {
+        match chance.below(7) {
+            0 => state[522..530].copy_from_slice(&chance.pick(&[522u64, 523, 524, 1 << 32, u64::MAX]).to_le_bytes()),
+            1 => state[530..538].copy_from_slice(&chance.pick(&[0u64, 1, u64::MAX]).to_le_bytes()),
+            2 => state[538] = chance.pick(&[2, 3, 255]),
+            3 => state[539] = chance.pick(&[0, 39, 46, 255]),
+            4 => state[548] = chance.pick(&[2, 255]),
+            5 => state[549] = chance.pick(&[2, 255]),
+            _ => state.resize(chance.pick(&[0, 549, 551]), 0),
+        }
+    }
+    Call::State { state, image: vec![chance.byte(); IMAGE_SIZE] }
+}
+
 fn plainly(call: &Call) -> Answer {
     let mut buffer = call.changing().to_vec();
     let (number, line) = match call {
         Call::Write { image, .. } => (write_hex(image, &mut buffer).err().unwrap_or(0), 0),
+        Call::State { state, .. } => (if is_hex_state(state) { 0 } else { 2 }, 0),
         Call::Read { text, .. } | Call::Chunks { text, .. } => match read_hex(text, &mut buffer) {
             Ok(()) => (0, 0),
             Err(refusal) => (refusal.number, refusal.line),
@@ -110,9 +150,9 @@ fn plainly(call: &Call) -> Answer {
     };
     let told = match call {
         Call::Chunks { text, lengths, .. } => told_by(text, lengths, number, line),
-        Call::Read { .. } | Call::Write { .. } => 0,
+        Call::Read { .. } | Call::Write { .. } | Call::State { .. } => 0,
     };
-    Answer { number, line, told, repeated: matches!(call, Call::Chunks { .. }), buffer }
+    Answer { number, line, told, repeated: matches!(call, Call::Chunks { .. } | Call::State { .. }), buffer }
 }
 
 /// "A fault is answered by the call that completes its line", 1 by the first call; 0 where that is the end's.

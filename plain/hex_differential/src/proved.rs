@@ -16,6 +16,11 @@ pub enum Call {
         image: Vec<u8>,
         lengths: Vec<u32>,
     },
+    /// An empty chunk with these bytes as the state: only whether they are refused is asked, and that a refusal changes nothing.
+    State {
+        state: Vec<u8>,
+        image: Vec<u8>,
+    },
 }
 
 #[derive(Debug, PartialEq, Eq)]
@@ -25,7 +30,7 @@ pub struct Answer {
     pub line: usize,
     /// The chunk, from 1, after which the answer was told; 0 at the end, and of the other calls.
     pub told: usize,
-    /// Of chunks, that one more chunk and one more end gave the same answer and changed nothing.
+    /// Of chunks, that one more chunk and one more end gave the same answer and changed nothing; of a state, that a refusal changed nothing.
     pub repeated: bool,
     pub buffer: Vec<u8>,
 }
@@ -35,12 +40,13 @@ impl Call {
         match self {
             Call::Read { text, .. } | Call::Chunks { text, .. } => text,
             Call::Write { image, .. } => image,
+            Call::State { state, .. } => state,
         }
     }
 
     pub fn changing(&self) -> &[u8] {
         match self {
-            Call::Read { image, .. } | Call::Chunks { image, .. } => image,
+            Call::Read { image, .. } | Call::Chunks { image, .. } | Call::State { image, .. } => image,
             Call::Write { text, .. } => text,
         }
     }
@@ -48,7 +54,7 @@ impl Call {
     pub fn lengths(&self) -> &[u32] {
         match self {
             Call::Chunks { lengths, .. } => lengths,
-            Call::Read { .. } | Call::Write { .. } => &[],
+            Call::Read { .. } | Call::Write { .. } | Call::State { .. } => &[],
         }
     }
 }

@@ -1,6 +1,7 @@
 -- `hex_calls::em73862_hex_feed` meets its contract.
 use denote.Ref.{now}
-use Rattle.hex_calls.proofs.Chunks.{feed-refused, feed-2, feed-so}
+use Rattle.hex_state.proofs.Ranges.{state-length}
+use Rattle.hex_calls.proofs.Chunks.{feed-refused, feed-2, feed-so, is-not, is-so}
 use borrow.Author.Needs.{needs}
 use Rattle.hex_calls.proofs.em73862_hex_feed.Statement.{statement}
 use Rattle.hex_calls.proofs.em73862_hex_feed.Tie as tie
@@ -14,20 +15,28 @@ same-length c = search needs
 returns : tie.Need-returns
 returns c = feed-refused _ _ _ _ _ (c .before .refusal-of .ensures) (c .if1 .taken)
 
+is-state-requires : tie.Need-is-state-requires
+is-state-requires c κs = search needs
+
 same-length-2 : tie.Need-same-length-2
 same-length-2 c = search needs
 
+same-length-3 : tie.Need-same-length-3
+same-length-3 c = search needs
+
 returns-2 : tie.Need-returns-2
-returns-2 c = let z = c .before .before .refusal-of .ensures .right (c .before .if1 .left) in feed-2 _ _ _ _ (z .0) (z .1) (c .if2 .taken)
+returns-2 c =
+    let right = c .before .before .before .before .refusal-of .ensures .right (c .before .before .before .if1 .left) in
+    feed-2 _ _ _ _ (right .0) (right .1) (is-not (c .before .is-state .result) (c .before .is-state .ensures) (c .if2 .taken))
 
 unpack-requires : tie.Need-unpack-requires
-unpack-requires c κs = search needs
+unpack-requires c κs = state-length (now (c .before .before .before .before .before .before .before .before .before .before .before .args .state)) (is-so (c .before .before .is-state .result) (c .before .before .is-state .ensures) (c .before .if2 .left))
 
 feed-requires : tie.Need-feed-requires
 feed-requires c κs = search needs
 
 pack-requires : tie.Need-pack-requires
-pack-requires c κs = search needs
+pack-requires c κs = state-length (now (c .before .before .before .before .before .before .before .before .before .before .before .before .before .before .before .before .before .args .state)) (is-so (c .before .before .before .before .before .before .before .before .is-state .result) (c .before .before .before .before .before .before .before .before .is-state .ensures) (c .before .before .before .before .before .before .before .if2 .left))
 
 line-of-requires : tie.Need-line-of-requires
 line-of-requires c κs = search needs
@@ -35,14 +44,17 @@ line-of-requires c κs = search needs
 number-of-requires : tie.Need-number-of-requires
 number-of-requires c κs = search needs
 
-same-length-3 : tie.Need-same-length-3
-same-length-3 c = search needs
-
 same-length-4 : tie.Need-same-length-4
 same-length-4 c = search needs
 
+same-length-5 : tie.Need-same-length-5
+same-length-5 c = search needs
+
 returns-3 : tie.Need-returns-3
-returns-3 c = let z = c .before .before .before .before .before .before .before .before .before .before .before .before .before .before .refusal-of .ensures .right (c .before .before .before .before .before .before .before .before .before .before .before .before .before .if1 .left) in feed-so (now (c .before .before .before .before .before .before .before .before .before .before .before .before .before .before .before .before .before .before .before .before .args .state)) (now (c .before .before .before .before .before .before .before .before .before .before .before .before .before .before .before .before .before .before .before .before .args .work)) (now (c .before .before .before .before .before .before .before .before .before .before .before .before .before .before .before .before .before .before .before .before .args .image)) (now (c .before .before .before .before .before .before .before .before .before .before .before .before .before .before .before .before .before .before .before .before .args .chunk)) _ _ (c .before .before .before .before .before .before .before .before .feed .result) _ _ (z .0) (z .1) (c .before .before .before .before .before .before .before .before .before .before .before .before .if2 .left) (rw (c .before .before .before .before .before .before .before .before .before .before .unpack .ensures) at (c .before .before .before .before .before .before .before .before .feed .ensures)) (c .before .before .before .before .pack .ensures) (c .number-of .ensures) (c .before .line-of .ensures)
+returns-3 c =
+    let right = c .before .before .before .before .before .before .before .before .before .before .before .before .before .before .before .before .refusal-of .ensures .right (c .before .before .before .before .before .before .before .before .before .before .before .before .before .before .before .if1 .left) in
+    let call = rw (c .before .before .before .before .before .before .before .before .before .before .unpack .ensures) at (c .before .before .before .before .before .before .before .before .feed .ensures) in
+    feed-so (now (c .before .before .before .before .before .before .before .before .before .before .before .before .before .before .before .before .before .before .before .before .before .before .args .state)) (now (c .before .before .before .before .before .before .before .before .before .before .before .before .before .before .before .before .before .before .before .before .before .before .args .work)) (now (c .before .before .before .before .before .before .before .before .before .before .before .before .before .before .before .before .before .before .before .before .before .before .args .image)) (now (c .before .before .before .before .before .before .before .before .before .before .before .before .before .before .before .before .before .before .before .before .before .before .args .chunk)) _ _ (c .before .before .before .before .before .before .before .before .feed .result) _ _ (right .0) (right .1) (is-so (c .before .before .before .before .before .before .before .before .before .before .before .before .before .is-state .result) (c .before .before .before .before .before .before .before .before .before .before .before .before .before .is-state .ensures) (c .before .before .before .before .before .before .before .before .before .before .before .before .if2 .left)) call (c .before .before .before .before .pack .ensures) (c .number-of .ensures) (c .before .line-of .ensures)
 
 pub em73862-hex-feed-spec : {M : Type 1} → statement M
 em73862-hex-feed-spec =
@@ -51,13 +63,15 @@ em73862-hex-feed-spec =
     refusal-of-requires
     same-length
     returns
+    is-state-requires
     same-length-2
+    same-length-3
     returns-2
     unpack-requires
     feed-requires
     pack-requires
     line-of-requires
     number-of-requires
-    same-length-3
     same-length-4
+    same-length-5
     returns-3)

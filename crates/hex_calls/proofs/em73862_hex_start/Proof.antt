@@ -17,7 +17,7 @@ same-length : tie.Need-same-length
 same-length c = search needs
 
 returns-2 : tie.Need-returns-2
-returns-2 c = start-new _ _ _ (c .before .before .before .before .before .if1 .left) (c .before .before .pack .ensures .1) (c .before .before .before .before .start .ensures)
+returns-2 c = start-new _ _ _ (c .before .before .before .before .before .if1 .left) (c .before .before .pack .ensures) (c .before .before .before .before .start .ensures)
 
 pub em73862-hex-start-spec : {M : Type 1} → statement M
 em73862-hex-start-spec =

@@ -71,7 +71,7 @@ same-length-6 : tie.Need-same-length-6
 same-length-6 c = search needs
 
 returns-3 : tie.Need-returns-3
-returns-3 c = let z = c .before .before .before .before .before .before .before .before .before .before .before .before .before .before .before .before .before .before .before .before .before .refusal-of .ensures .right (c .before .before .before .before .before .before .before .before .before .before .before .before .before .before .before .before .before .before .before .before .if1 .left) in end-good (c .before .before .before .before .before .before .before .before .before .before .before .before .before .before .before .before .before .before .before .before .before .before .before .before .before .before .args .s) (now (c .before .before .before .before .before .before .before .before .before .before .before .before .before .before .before .before .before .before .before .before .before .before .before .before .before .before .args .work)) (now (c .before .before .before .before .before .before .before .before .before .before .before .before .before .before .before .before .before .before .before .before .before .before .before .before .before .before .args .image)) (sym (c .before .before .before .before .before .before .before .before .before .before .before .before .before .before .before .before .before .before .before .is-final .ensures) ∙ c .before .before .before .before .before .before .before .before .before .before .before .before .before .before .before .before .before .before .if2 .left) _ _ (c .before .before .before .before .before .before .before .before .before .before .before .before .before .before .before .before .make-ready .ensures .1) (rw (c .before .before .before .before .before .before .enum-told .given .1) at (c .before .before .before .before .before .before .before .before .before .before .conclude-text .ensures .1)) (c .good-end .result) (ap (λ (f : Fed). f .state .over) (c .good-end .ensures)) (ap (λ (f : Fed). f .state .stage) (c .good-end .ensures)) (ap (λ (f : Fed). f .told) (c .good-end .ensures)) _ (z .0) (z .1) (c .before .before .before .copy-image .ensures)
+returns-3 c = let z = c .before .before .before .before .before .before .before .before .before .before .before .before .before .before .before .before .before .before .before .before .before .refusal-of .ensures .right (c .before .before .before .before .before .before .before .before .before .before .before .before .before .before .before .before .before .before .before .before .if1 .left) in end-good (c .before .before .before .before .before .before .before .before .before .before .before .before .before .before .before .before .before .before .before .before .before .before .before .before .before .before .args .s) (now (c .before .before .before .before .before .before .before .before .before .before .before .before .before .before .before .before .before .before .before .before .before .before .before .before .before .before .args .work)) (now (c .before .before .before .before .before .before .before .before .before .before .before .before .before .before .before .before .before .before .before .before .before .before .before .before .before .before .args .image)) (sym (c .before .before .before .before .before .before .before .before .before .before .before .before .before .before .before .before .before .before .before .is-final .ensures) ∙ c .before .before .before .before .before .before .before .before .before .before .before .before .before .before .before .before .before .before .if2 .left) _ _ (c .before .before .before .before .before .before .before .before .before .before .before .before .before .before .before .before .make-ready .ensures .1) (rw (c .before .before .before .before .before .before .enum-told .given .1) at (c .before .before .before .before .before .before .before .before .before .before .conclude-text .ensures .1)) (c .good-end .result) (ap (λ (f : Fed). f .state .over) (c .good-end .ensures)) (ap (λ (f : Fed). f .state .stage) (c .good-end .ensures)) (ap (λ (f : Fed). f .told) (c .good-end .ensures)) (ap (λ (f : Fed). f .state .count) (c .good-end .ensures)) (ap (λ (f : Fed). f .state .line) (c .good-end .ensures)) _ (z .0) (z .1) (c .before .before .before .copy-image .ensures)
 
 same-length-7 : tie.Need-same-length-7
 same-length-7 c = search needs
@@ -80,7 +80,7 @@ same-length-8 : tie.Need-same-length-8
 same-length-8 c = search needs
 
 returns-4 : tie.Need-returns-4
-returns-4 c = let z = c .before .before .before .before .before .before .before .before .before .before .before .before .before .before .before .before .before .refusal-of .ensures .right (c .before .before .before .before .before .before .before .before .before .before .before .before .before .before .before .before .if1 .left) in end-refused (c .before .before .before .before .before .before .before .before .before .before .before .before .before .before .before .before .before .before .before .before .before .before .args .s) (now (c .before .before .before .before .before .before .before .before .before .before .before .before .before .before .before .before .before .before .before .before .before .before .args .work)) (now (c .before .before .before .before .before .before .before .before .before .before .before .before .before .before .before .before .before .before .before .before .before .before .args .image)) (sym (c .before .before .before .before .before .before .before .before .before .before .before .before .before .before .before .is-final .ensures) ∙ c .before .before .before .before .before .before .before .before .before .before .before .before .before .before .if2 .left) _ _ (c .before .before .before .before .before .before .before .before .before .before .before .before .make-ready .ensures .1) _ _ (rw (c .before .before .number .given .1) at (c .before .before .before .before .before .before .conclude-text .ensures .1)) (c .refused-end .result) (ap (λ (f : Fed). f .state .stage) (c .refused-end .ensures)) (ap (λ (f : Fed). f .told) (c .refused-end .ensures)) (z .0) (z .1)
+returns-4 c = let z = c .before .before .before .before .before .before .before .before .before .before .before .before .before .before .before .before .before .refusal-of .ensures .right (c .before .before .before .before .before .before .before .before .before .before .before .before .before .before .before .before .if1 .left) in end-refused (c .before .before .before .before .before .before .before .before .before .before .before .before .before .before .before .before .before .before .before .before .before .before .args .s) (now (c .before .before .before .before .before .before .before .before .before .before .before .before .before .before .before .before .before .before .before .before .before .before .args .work)) (now (c .before .before .before .before .before .before .before .before .before .before .before .before .before .before .before .before .before .before .before .before .before .before .args .image)) (sym (c .before .before .before .before .before .before .before .before .before .before .before .before .before .before .before .is-final .ensures) ∙ c .before .before .before .before .before .before .before .before .before .before .before .before .before .before .if2 .left) _ _ (c .before .before .before .before .before .before .before .before .before .before .before .before .make-ready .ensures .1) _ _ (rw (c .before .before .number .given .1) at (c .before .before .before .before .before .before .conclude-text .ensures .1)) (c .refused-end .result) (ap (λ (f : Fed). f .state .stage) (c .refused-end .ensures)) (ap (λ (f : Fed). f .told) (c .refused-end .ensures)) (ap (λ (f : Fed). f .state .count) (c .refused-end .ensures)) (ap (λ (f : Fed). f .state .line) (c .refused-end .ensures)) (z .0) (z .1)
 
 pub finish-spec : {M : Type 1} → statement M
 finish-spec =

@@ -64,7 +64,7 @@ same-length-2 : tie.Need-same-length-2 Inv-loop μ-loop
 same-length-2 c = c .before .before .before .before .before .complete-line .ensures .0 ∙ sym (c .before .before .before .before .before .before .before .before .before .before .before .before .before .before .before .before .before .before .pre)
 
 returns-2 : tie.Need-returns-2 Inv-loop μ-loop
-returns-2 c = (c .before .before .before .before .before .complete-line .ensures .0, λ text a h. let b = chunk-part text (now (c .before .before .before .before .before .before .before .before .before .before .before .before .before .before .before .before .before .before .args .chunk)) (c .before .before .before .before .before .before .before .before .before .before .before .before .before .before .loop .at) (c .before .before .before .before .before .before .before .before .before .before .before .before .before .line-end .result) (c .before .before .before .before .before .before .before .before .before .before .before .before .before .line-end .ensures .0) (c .before .before .before .before .before .before .before .before .before .before .before .before .before .before .loop .inv .3 text a h) (c .before .before .before .before .before .before .before .before .before .before .hold .ensures .1) in rw (c .reading2 .ensures) (chunk-stopped (text ++ now (c .before .before .before .before .before .before .before .before .before .before .before .before .before .before .before .before .before .before .args .chunk)) (c .before .before .before .before .before .complete-line .result) (sym (c .before .before .is-stopped .ensures) ∙ c .before .if2 .taken) (chunk-stops text (now (c .before .before .before .before .before .before .before .before .before .before .before .before .before .before .before .before .before .before .args .chunk)) (c .before .before .before .before .before .before .before .before .before .before .before .before .before .before .loop .at) (c .before .before .before .before .before .before .before .before .before .before .before .before .before .line-end .result) (c .before .before .before .before .before .before .before .before .before .before .before .before .before .line-end .ensures .0) (omega arith) b (c .before .before .before .before .before .complete-line .ensures .1 (begunAfter [] (text ++ take (c .before .before .before .before .before .before .before .before .before .before .before .before .before .line-end .result) (now (c .before .before .before .before .before .before .before .before .before .before .before .before .before .before .before .before .before .before .args .chunk)))) (b .kept)) (sym (c .before .before .is-stopped .ensures) ∙ c .before .if2 .taken))))
+returns-2 c = (c .before .before .before .before .before .complete-line .ensures .0, λ text a h. let b = chunk-part text (now (c .before .before .before .before .before .before .before .before .before .before .before .before .before .before .before .before .before .before .args .chunk)) (c .before .before .before .before .before .before .before .before .before .before .before .before .before .before .loop .at) (c .before .before .before .before .before .before .before .before .before .before .before .before .before .line-end .result) (c .before .before .before .before .before .before .before .before .before .before .before .before .before .line-end .ensures .0) (c .before .before .before .before .before .before .before .before .before .before .before .before .before .before .loop .inv .3 text a h) (c .before .before .before .before .before .before .before .before .before .before .hold .ensures .1) in rw (c .reading2 .ensures) (chunk-stopped (text ++ now (c .before .before .before .before .before .before .before .before .before .before .before .before .before .before .before .before .before .before .args .chunk)) (c .before .before .before .before .before .complete-line .result) (sym (c .before .before .is-stopped .ensures) ∙ c .before .if2 .taken) (chunk-stops text (now (c .before .before .before .before .before .before .before .before .before .before .before .before .before .before .before .before .before .before .args .chunk)) (c .before .before .before .before .before .before .before .before .before .before .before .before .before .before .loop .at) (c .before .before .before .before .before .before .before .before .before .before .before .before .before .line-end .result) (c .before .before .before .before .before .before .before .before .before .before .before .before .before .line-end .ensures .0) (omega arith) b (c .before .before .before .before .before .complete-line .ensures .1 (begunAfter [] (text ++ take (c .before .before .before .before .before .before .before .before .before .before .before .before .before .line-end .result) (now (c .before .before .before .before .before .before .before .before .before .before .before .before .before .before .before .before .before .before .args .chunk)))) (b .kept)) (sym (c .before .before .is-stopped .ensures) ∙ c .before .if2 .taken)) (b .kept .most) (let k = b .number in omega arith)))
 
 following-requires : tie.Need-following-requires Inv-loop μ-loop
 following-requires c κs = search needs

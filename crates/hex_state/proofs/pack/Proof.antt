@@ -1,7 +1,7 @@
 -- `hex_state::pack` meets its contract.
 use mathlib.Core.Path.{_≡_}
 use lib.ListN.{length}
-use Rattle.hex_state.proofs.Packed.{state-back, packed-written}
+use Rattle.hex_state.proofs.Packed.{state-back, packed-size, packed-written}
 use borrow.Author.Needs.{needs}
 use native.Mathlib.Omega.{arith}
 use Rattle.hex_state.proofs.pack.Statement.{statement}
@@ -20,7 +20,7 @@ same-length : tie.Need-same-length
 same-length c = search needs
 
 returns : tie.Need-returns
-returns c = let e : length (c .before .before .before .before .before .before .before .before .before .before .before .args .s .held) ≡ 522 = search needs in let w = packed-written (c .before .before .before .before .before .before .before .before .before .before .before .args .s) (c .before .before .before .before .before .before .before .before .before .before .before .pre) (omega (arith, c .before .before .before .before .before .before .put-text .ensures .end, c .before .before .put-numbers .ensures .0 .1)) (c .before .before .before .before .before .before .put-text .ensures) (c .before .before .put-numbers .ensures .0 .0) in (w, rw w (state-back (c .before .before .before .before .before .before .before .before .before .before .before .args .s) e (c .before .before .put-numbers .ensures .1 .0) (c .before .before .put-numbers .ensures .1 .1) (c .before .before .put-numbers .ensures .1 .2)))
+returns c = let e : length (c .before .before .before .before .before .before .before .before .before .before .before .args .s .held) ≡ 522 = search needs in let w = packed-written (c .before .before .before .before .before .before .before .before .before .before .before .args .s) (c .before .before .before .before .before .before .before .before .before .before .before .pre) (omega (arith, c .before .before .before .before .before .before .put-text .ensures .end, c .before .before .put-numbers .ensures .0 .1)) (c .before .before .before .before .before .before .put-text .ensures) (c .before .before .put-numbers .ensures .0 .0) in (w, rw w (state-back (c .before .before .before .before .before .before .before .before .before .before .before .args .s) e (c .before .before .put-numbers .ensures .1 .0) (c .before .before .put-numbers .ensures .1 .1) (c .before .before .put-numbers .ensures .1 .2)), rw w (packed-size (c .before .before .before .before .before .before .before .before .before .before .before .args .s) e))
 
 pub pack-spec : {M : Type 1} → statement M
 pack-spec =

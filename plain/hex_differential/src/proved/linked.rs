@@ -63,6 +63,7 @@ fn answer(call: &Call) -> Answer {
             Answer { number, line, told: 0, repeated: false, buffer }
         }
         Call::Chunks { text, .. } => in_chunks(text, call.lengths(), buffer),
+        Call::State { state, .. } => judged(state, buffer),
         Call::Write { .. } => {
             let number =
                 unsafe { header::em73862_hex_write(steady.as_ptr(), steady.len(), buffer.as_mut_ptr(), buffer.len()) };
@@ -71,7 +72,8 @@ fn answer(call: &Call) -> Answer {
     }
 }
 
-/// em73862_hex.h: the number while nothing is told, and the sizes.
+/// em73862_hex.h: the number of a buffer that is no state, the one while nothing is told, and the sizes.
+const NO_STATE: u8 = 2;
 const MORE: u8 = 255;
 const STATE_BYTES: usize = 550;
 const WORK_BYTES: usize = 9216;
@@ -144,4 +146,16 @@ fn in_chunks(text: &[u8], lengths: &[u32], mut buffer: Vec<u8>) -> Answer {
     let again = [reader.feed(text, &buffer), reader.end(&mut buffer)];
     let repeated = buffer.len() != 8192 || (again == [answer; 2] && reader == then && buffer == image_then);
     Answer { number: answer.0, line: answer.1, told, repeated, buffer: image_then }
+}
+
+fn judged(state: &[u8], mut buffer: Vec<u8>) -> Answer {
+    let mut reader = Reader { state: state.to_vec(), work: vec![0x5A; WORK_BYTES] };
+    let (then, image_then) = (reader.clone(), buffer.clone());
+    let fed = reader.feed(&[], &buffer);
+    if fed.0 != NO_STATE {
+        return Answer { number: 0, line: 0, told: 0, repeated: true, buffer };
+    }
+    let ended = reader.end(&mut buffer);
+    let stays = fed == (NO_STATE, 0) && ended == fed && reader == then && buffer == image_then;
+    Answer { number: NO_STATE, line: 0, told: 0, repeated: stays, buffer }
 }

@@ -63,6 +63,7 @@ fn send(requests: &mut impl Write, calls: &[Call]) -> io::Result<()> {
             Call::Read { .. } => 1,
             Call::Write { .. } => 2,
             Call::Chunks { .. } => 3,
+            Call::State { .. } => 4,
         };
         let lengths = call.lengths();
         for word in [code, call.steady().len() as u32, call.changing().len() as u32, lengths.len() as u32] {
@@ -91,7 +92,7 @@ fn receive(answers: &mut impl Read, call: &Call) -> io::Result<Answer> {
         number: word(0) as u8,
         line: if matches!(call, Call::Write { .. }) { 0 } else { line as usize },
         told: word(8) as usize,
-        repeated: matches!(call, Call::Chunks { .. }) && word(12) == 1,
+        repeated: matches!(call, Call::Chunks { .. } | Call::State { .. }) && word(12) == 1,
         buffer,
     })
 }
