@@ -2,6 +2,7 @@
 use mathlib.Core.Path.{_≡_, refl, sym, subst, ap, _∙_}
 use mathlib.Core.Bool.{Bool, true, false}
 use Prim.Native.Nat.{ℕ, zero, suc, _+_, _*_, _/_, _%_, _^_, _<_}
+use native.Mathlib.Decide.{ℕ-discrete}
 use native.Mathlib.Omega.{arith}
 use lib.Dec.{T, eqb, ltb}
 use borrow.Author.Tests.{eqb-true, eqb-false}
@@ -25,6 +26,7 @@ use Rattle.step_look.specs.Look.{timeOf, isRunning, edgesTimed, edgesCounted, r
 use Rattle.step_look.specs.declared.Looked.{Looked}
 use Rattle.step_look.proofs.LookValid.{running-is}
 use Rattle.step_act.specs.Act.{sourceOf, acceptOrRun, ratesOf, timed, coreIn, coreAfter, afterTime, actOf}
+use Rattle.step.proofs.StepValid.{stop-leaves}
 use Rattle.step.proofs.Stepping.{sighted, look-runs, step-runs, step-waits}
 use Rattle.account.specs.Sequence.{StepInput, stepBy, KeepsMode}
 use Rattle.account.specs.Account.{Timer, countOf, settingOf, multiplesMet, periodOf, CountsOn}
@@ -180,17 +182,29 @@ module _ (m : Machine) (g : StepInput) where
         ∙ passed-base (turned .cycles) (ratesOf (turned .machine .core)) (timeOf (turned .machine .core)) (omega (arith, turned-base))
         ∙ rw (n, turned-base)
 
-    runs-count : (t : Timer) (s : ℕ) → s / 4 ≡ 2 → CountsOn t s m g → countOf t (m .core .timers) < 4096
+    runs-count : (t : Timer) (s : ℕ) → s / 4 ≡ 2 → CountsOn t s m g → stepBy m g .stop ≡ 0 → countOf t (m .core .timers) < 4096
         → countOf t (stepBy m g .machine .core .timers) ≡ (countOf t (m .core .timers) + multiplesMet (periodOf s) (m .core .timers .base) (stepBy m g .cycles)) % 4096
-    runs-count t s two on h =
+    runs-count t s two on z h =
         let n : stepBy m g .cycles ≡ turned .cycles = ap (λ (x : Done). x .cycles) as-turned in
         let set : settingIn t (ratesOf (turned .machine .core)) ≡ s = in-rates t (turned .machine .core) ∙ sym (ap (settingOf t) (ap (λ (c : Core). c .ports) as-timed)) ∙ on .after in
-        let none = turn-count t (g .rom) (g .options) saw (λ accepts i read. on .writes-none i (record { running = running-is (m .core .mode) runs; accepts-nothing = ap (λ (x : Done). sourceOf (x .machine .core)) (look-runs (g .rom) (g .options) m (g .pins) runs) ∙ source-none saw accepts; read = read })) in
+        let none = turn-count t (g .rom) (g .options) saw (λ accepts i read. on .writes-none i (record { running = running-is (m .core .mode) runs; accepts-nothing = ap (λ (x : Done). sourceOf (x .machine .core)) (look-runs (g .rom) (g .options) m (g .pins) runs) ∙ source-none saw accepts; read = read; completes = z })) in
         let seen : countOf t (turned .machine .core .timers) ≡ countOf t (m .core .timers) = none ∙ saw-count t s two (on .before) in
         ap (λ (c : Core). countOf t (c .timers)) as-timed
         ∙ in-timed t (turned .cycles) (turned .machine .core)
         ∙ passed-count t s two (turned .cycles) (ratesOf (turned .machine .core)) (timeOf (turned .machine .core)) set (rw (in-time t (turned .machine .core), seen) h)
         ∙ rw (in-time t (turned .machine .core), seen, n, turned-base)
+
+    -- a stop leaves what the look left, which counts no edge, and spends nothing
+    stopped-count : (t : Timer) (s : ℕ) → s / 4 ≡ 2 → settingOf t (m .core .ports) ≡ s → (stepBy m g .stop ≡ 0 → ⊥) → countOf t (m .core .timers) < 4096
+        → countOf t (stepBy m g .machine .core .timers) ≡ (countOf t (m .core .timers) + multiplesMet (periodOf s) (m .core .timers .base) (stepBy m g .cycles)) % 4096
+    stopped-count t s two e z h =
+        let left = stop-leaves (g .rom) (g .options) m (g .pins) z in
+        let n : stepBy m g .cycles ≡ 0 = ap (λ (x : Done). x .cycles) left in
+        let seen : countOf t (stepBy m g .machine .core .timers) ≡ countOf t (m .core .timers) =
+        ap (λ (x : Done). countOf t (x .machine .core .timers)) left
+        ∙ ap (λ (x : Done). countOf t (x .machine .core .timers)) (look-runs (g .rom) (g .options) m (g .pins) runs)
+        ∙ saw-count t s two e in
+        rw (n, seen) (omega arith)
 
 -- asleep or holding, and not awake again: nothing passes
 abbrev Idle : Core → Looked → Type 0
@@ -218,8 +232,12 @@ module _ (m : Machine) (g : StepInput) (keeps : KeepsMode m g) where
   step-base h = base-by (isRunning (m .core .mode)) refl h
 
 module _ (t : Timer) (s : ℕ) (two : s / 4 ≡ 2) (m : Machine) (g : StepInput) (on : CountsOn t s m g) where
+  running-count : isRunning (m .core .mode) ≡ true → Dec (stepBy m g .stop ≡ 0) → countOf t (m .core .timers) < 4096 → countOf t (stepBy m g .machine .core .timers) ≡ (countOf t (m .core .timers) + multiplesMet (periodOf s) (m .core .timers .base) (stepBy m g .cycles)) % 4096
+  running-count e (yes z) h = runs-count m g (on .keeps-mode) e t s two on z h
+  running-count e (no z) h = stopped-count m g (on .keeps-mode) e t s two (on .before) z h
+
   count-by : (r : Bool) → isRunning (m .core .mode) ≡ r → countOf t (m .core .timers) < 4096 → countOf t (stepBy m g .machine .core .timers) ≡ (countOf t (m .core .timers) + multiplesMet (periodOf s) (m .core .timers .base) (stepBy m g .cycles)) % 4096
-  count-by true e h = runs-count m g (on .keeps-mode) e t s two on h
+  count-by true e h = running-count e (ℕ-discrete (stepBy m g .stop) 0) h
   count-by false e h = rw (idle m g (on .keeps-mode) e .0, idle m g (on .keeps-mode) e .1) (omega arith)
 
   -- and leaves the timer counting

@@ -70,11 +70,12 @@ writesTimer t Operation.return-FLAG = false
 writesTimer t (Operation.IL⟵IL-and-r e) = false
 writesTimer t Operation.no-operation = false
 
--- the step executes an instruction: it runs, and accepts no interrupt once it has seen the frame
+-- the step executes an instruction: it runs, accepts no interrupt once it has seen the frame, and does not stop. A step that stops writes nothing, a store to the timer with P9.3 set among them (31)
 pub record Executes (m : Machine) (g : StepInput) (i : Insn) : Type 0 where
   pub running : m .core .mode ≡ Running
   pub accepts-nothing : sourceOf (lookStep (g .options) m (g .pins) .machine .core) ≡ 6
   pub read : readAt (shown (g .rom) m) (m .core .pc) ≡ Read.Row i
+  pub completes : stepBy m g .stop ≡ 0
 
 -- "a timer stays in mode 2 at one rate": its port has this setting before the step and after it. "no instruction writes it"
 pub record CountsOn (t : Timer) (setting : ℕ) (m : Machine) (g : StepInput) : Type 0 where

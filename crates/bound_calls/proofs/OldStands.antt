@@ -1,11 +1,13 @@
--- Where neither a call nor a row storing to SP is reachable, the outer routine is document 01's graph.
+-- Where neither a call nor a row storing to SP is reachable, the outer routine is document 01's graph, and what is answered is document 01's answer, joined by depth 0.
 use mathlib.Core.Path.{_≡_, refl, sym, ap, subst, _∙_}
 use mathlib.Core.Logic.{_⊎_, inl, inr, ⊎-elim}
 use mathlib.Core.Bool.{Bool, true, false, not}
-use Prim.Native.Nat.{ℕ, _<_, _≤_}
+use mathlib.Core.List.{List, _++_}
+use Prim.Native.Nat.{ℕ, _*_, _<_, _≤_}
 use native.Mathlib.Decide.{ℕ-discrete}
 use native.Mathlib.Omega.{arith}
 use lib.Dec.{T, eqb}
+use lib.ListN.{length, drop}
 use borrow.Author.Tests.{eq-eqb, ne-eqb}
 use Rattle.laws.specs.Choice.{pick, either}
 use Rattle.device.specs.declared.Device.{Device}
@@ -15,18 +17,24 @@ use Rattle.sheet.specs.Reading.{readAt}
 use Rattle.sheet.specs.declared.Insn.{Insn}
 use Rattle.sheet.specs.declared.Read.{Read}
 use Rattle.row.specs.Columns.{workPuts}
-use Rattle.graph.specs.Graph.{Graph, Reach, here, sum}
-use Rattle.graph.proofs.Agree.{Agree, agree-sym, reach-to, bad-to, loops-to, longest-to, sound-to, sum-same}
-use Rattle.graph.proofs.Unique.{longest-path}
-use Rattle.routines.specs.Calling.{Flow, outer, within}
+use Rattle.graph.specs.Graph.{Graph, Edge, Reach, here, step, nextOnly, sum, Bad, Loops, Sound}
+use Rattle.graph.specs.Laid.{Inside}
+use Rattle.graph.proofs.Agree.{Agree, agree-sym, reach-to, bad-to, loops-to, longest-to, next-to, sound-to, sum-same}
+use Rattle.graph.proofs.HasPath.{has-path}
+use Rattle.graph.proofs.Length.{path-length, sum-at-most}
+use Rattle.graph.proofs.Unique.{longest-path, longest-most}
+use Rattle.routines.specs.Calling.{Flow, outer, unknown, within, IsBad, IsLoop, HandlerPath, depth, FirstOf}
 use Rattle.routines.specs.Answer as routines
-use Rattle.routines.specs.Answer.{LowestAddress}
-use Rattle.routines.proofs.Base.{NoCalls, bad-base, loop-base, base-bad, base-loop, judged-any, new-answer}
+use Rattle.routines.specs.Answer.{LowestAddress, bytesOf, Found, short, bounds, Kept, PathAnswer, FlowAnswer, Answer}
+use Rattle.routines.proofs.First.{first-unique}
+use Rattle.routines.proofs.Base.{NoCalls, bad-base, loop-base, base-bad, base-loop, judged-any, old-answer, new-answer, next-deepest, depth-zero}
 use Rattle.bound_flow.specs.Flow.{place, addressOf, isKnown, Way, wayBy, nodeBy, nodeRead, nodeOf, flowGraph, flowCost, startOf}
 use Rattle.bound_flow.specs.Flow.{Node}
+use Rattle.bound_flow.specs.Bound.{HasBound}
+use Rattle.bound_flow.proofs.Inside.{node-good, flow-inside}
 use Rattle.bound_calls.specs.declared.CallNode.{CallNode}
 use Rattle.bound_calls.specs.CallFlow.{isSp, CallWay, callWayBy, callNodeBy, callNodeRead, callNodeOf, callFlow, callCycles}
-use Rattle.bound_calls.specs.OldAnswer.{isPlain, Plain, Stands, OldAnswerStands}
+use Rattle.bound_calls.specs.OldAnswer.{isPlain, Plain, OldFound, old-21, old-22, old-23, old-N, OldAnswer, DepthPath, Joined, same-21, same-22, same-23, depth-23, same-N, Stands, OldAnswerStands}
 use Rattle.bound_calls.proofs.Shape.{few-kinds, flow-small, flow-widens}
 
 -- a place's kind in the outer routine
@@ -78,6 +86,26 @@ node-alike : (d : Device) (rom : ℕ → ℕ) (v : ℕ) → ((i : Insn) → read
 unfolding nodeOf callNodeOf
 node-alike d rom v plain = read-alike d rom (addressOf v) (isKnown v) (readAt rom (addressOf v)) refl plain
 
+-- what goes by next alone goes
+module _ (g : Graph) where
+  next-edge : (v w : ℕ) → Edge (nextOnly g) v w → Edge g v w
+  unfolding nextOnly
+  next-edge v w e = (e .0, ⊎-elim inl inl (e .1))
+
+  next-reach : {u v : ℕ} → Reach (nextOnly g) u v → Reach g u v
+  next-reach here = here
+  next-reach (step {u} {v} e r) = step (next-edge u v e) (next-reach r)
+
+  sound-next : (s : ℕ) → Sound g s → Sound (nextOnly g) s
+  unfolding nextOnly
+  sound-next s so = record {
+    no-bad = λ v x. so .no-bad v (next-reach (x .0), record { not-on = x .1 .not-on; not-end = x .1 .not-end });
+    no-loop = λ v x. so .no-loop v (next-reach (x .0), (x .1 .0, next-edge v (x .1 .0) (x .1 .1), next-reach (x .1 .2)));
+  }
+
+  inside-next : (n : ℕ) → Inside g n → Inside (nextOnly g) n
+  inside-next n inside = record { edge = λ v w l e. inside .edge v w l (next-edge v w e) }
+
 module _ (d : Device) (rom : ℕ → ℕ) (start : ℕ) (K : ℕ → Bool) (plain : Plain d rom start) where
   abbrev old : Graph
   old = flowGraph d rom
@@ -115,19 +143,102 @@ module _ (d : Device) (rom : ℕ → ℕ) (start : ℕ) (K : ℕ → Bool) (plai
       record { holds = (l .holds .0, to (l .holds .0) (l .holds .1), l .holds .2); least = λ b q. l .least b (q .0, back (q .0) (q .1), q .2) }
 
   module _ (bytes : (at : ℕ) → rom at < 256) (start-lt : start < 8192) where
-    stands : Stands d rom start K
+    start-in : startOf start < 16384
+    start-in = omega arith
+
+    cost-few : (v : ℕ) → v < 16384 → flowCost d rom v ≤ 3
+    unfolding flowCost
+    cost-few v h = node-good d rom bytes v h .le
+
+    -- "25 N over 65,535" is never given: at most 16,384 places, of at most 3 cycles each
+    few : {N : ℕ} {path : List ℕ} → HasBound d rom start N path → N ≤ 65535
+    few b =
+        let inside = flow-inside d rom bytes in
+        omega (arith, b .sum, path-length inside start-in (b .sound) (b .is-path), sum-at-most (flowCost d rom) 3 inside cost-few start-in (b .is-path))
+
+    -- document 01's bound, and the depth is 0
+    old-bound : {N dep : ℕ} {path deep : List ℕ} → routines.HasBound flow (callCycles d rom) K N dep path deep → HasBound d rom start N path × (dep ≡ 0)
     unfolding callFlow
-    stands =
-        record {
-          judged = judged-any flow K no-calls;
-          excluded = lowest-to (λ v b. base-bad flow K no-calls v (bad-to same b)) (λ v b. bad-to (agree-sym same) (bad-base flow K no-calls v b));
-          repeats = lowest-to (λ v b. base-loop flow K no-calls v (loops-to same b)) (λ v b. loops-to (agree-sym same) (loop-base flow K no-calls v b));
-          bound = λ N path b.
-              let longest = longest-to same here (b .longest) in
-              let a = new-answer flow K no-calls (flow-small d rom bytes start start-lt) (flow-widens d rom start) (sound-to same (b .sound)) longest in
-              let e : N ≡ sum (callCycles d rom) path = b .sum ∙ sum-same same here (longest-path (b .longest)) in
-              (a .0, rw e (a .1));
-        }
+    old-bound {N} {path = path} b =
+        let a = old-answer flow K no-calls b in
+        let longest = longest-to (agree-sym same) here (a .1) in
+        let e : N ≡ sum (flowCost d rom) path = a .2 ∙ sym (sum-same same here (longest-path longest)) in
+        (record { sound = sound-to (agree-sym same) (a .0); is-path = longest-path longest; sum = e; largest = rw e (longest-most longest); longest = longest }, a .3)
+
+    some-deep : {N : ℕ} {path : List ℕ} → HasBound d rom start N path → (deep : List ℕ) × DepthPath d rom start deep
+    some-deep b = has-path (inside-next old 16384 (flow-inside d rom bytes)) start-in (sound-next old (startOf start) (b .sound)) (startOf start) here
+
+    -- depth's path is the first of the deepest
+    deep-first : {deep : List ℕ} → DepthPath d rom start deep → FirstOf flow (HandlerPath flow K) (depth flow) deep
+    unfolding callFlow
+    deep-first p = next-deepest flow K no-calls (next-to same p)
+
+    deep-only : {N dep : ℕ} {path deep : List ℕ} → routines.HasBound flow (callCycles d rom) K N dep path deep → DepthPath d rom start deep
+    deep-only b = let s = some-deep (old-bound b .0) in rw (first-unique (b .deepest) (deep-first (s .1))) (s .1)
+
+    new-bound : {N : ℕ} {path deep : List ℕ} → HasBound d rom start N path → DepthPath d rom start deep → routines.HasBound flow (callCycles d rom) K N 0 path deep
+    unfolding callFlow
+    new-bound {N} {path} b p =
+        let longest = longest-to same here (b .longest) in
+        let a = new-answer flow K no-calls (flow-small d rom bytes start start-lt) (flow-widens d rom start) (sound-to same (b .sound)) longest .1 in
+        let e : N ≡ sum (callCycles d rom) path = b .sum ∙ sum-same same here (longest-path (b .longest)) in
+        let f = deep-first p in
+        record { no-bad = a .no-bad; no-loop = a .no-loop; longest = a .longest; sum = e; deepest = f; depth = sym (depth-zero flow K no-calls (f .in-it)) }
+
+    bad-is : (v : ℕ) → IsBad flow K v → Bad old (startOf start) v
+    unfolding callFlow
+    bad-is v b = bad-to (agree-sym same) (bad-base flow K no-calls v b)
+
+    is-bad : (v : ℕ) → Bad old (startOf start) v → IsBad flow K v
+    unfolding callFlow
+    is-bad v b = base-bad flow K no-calls v (bad-to same b)
+
+    loop-is : (v : ℕ) → IsLoop flow K v → Loops old (startOf start) v
+    unfolding callFlow
+    loop-is v b = loops-to (agree-sym same) (loop-base flow K no-calls v b)
+
+    is-loop : (v : ℕ) → Loops old (startOf start) v → IsLoop flow K v
+    unfolding callFlow
+    is-loop v b = base-loop flow K no-calls v (loops-to same b)
+
+    module _ (p p′ q q′ : List ℕ) where
+      by-path : {N dep : ℕ} {path deep : List ℕ} {x : Found} → routines.HasBound flow (callCycles d rom) K N dep path deep → PathAnswer addressOf p p′ q q′ N dep path deep x → Joined d rom start p p′ q q′ x
+      by-path b (PathAnswer.gives-25 over k) = absurd (omega (arith, over, few (old-bound b .0)))
+      by-path b (PathAnswer.gives-23 le s k) = same-23 (OldAnswer.gives-23 (old-bound b .0) s (k .first)) (k .second)
+      by-path b (PathAnswer.gives-23-depth le r s k) = depth-23 (OldAnswer.gives-N (old-bound b .0) r refl) (deep-only b) s k
+      by-path b (PathAnswer.gives-N le r s x y) = rw (old-bound b .1) (same-N (OldAnswer.gives-N (old-bound b .0) r x) (deep-only b) s y)
+
+      by-flow : {x : Found} → FlowAnswer flow (callCycles d rom) addressOf p p′ q q′ K x → Joined d rom start p p′ q q′ x
+      by-flow (FlowAnswer.gives-21 {a = a} l k) = same-21 (OldAnswer.gives-21 (lowest-to bad-is is-bad a l) (k .first)) (k .second)
+      by-flow (FlowAnswer.gives-22 {a = a} n l k) = same-22 (OldAnswer.gives-22 (λ v b. n v (is-bad v b)) (lowest-to loop-is is-loop a l) (k .first)) (k .second)
+      by-flow (FlowAnswer.bounded b x) = by-path b x
+
+      abbrev Answers : Found → Type 0
+      Answers x = FlowAnswer flow (callCycles d rom) addressOf p p′ q q′ K x
+
+      answers-23 : {n : ℕ} → OldAnswer d rom start p p′ (old-23 n) → q′ ≡ q → Answers (short n)
+      answers-23 (OldAnswer.gives-23 b s k) e = FlowAnswer.bounded (new-bound b (some-deep b .1)) (PathAnswer.gives-23 (few b) s (record { first = k; second = e }))
+
+      answers-depth : {N : ℕ} {written deep : List ℕ} → OldAnswer d rom start p written (old-N N) → DepthPath d rom start deep → length q < 2 * length deep → Kept p p′ q q′ → Answers (short (2 * length deep))
+      answers-depth (OldAnswer.gives-N b r w) n s k = FlowAnswer.bounded (new-bound b n) (PathAnswer.gives-23-depth (few b) r s k)
+
+      answers-N : {N : ℕ} {deep : List ℕ} → OldAnswer d rom start p p′ (old-N N) → DepthPath d rom start deep → 2 * length deep ≤ length q → q′ ≡ bytesOf addressOf deep ++ drop (2 * length deep) q → Answers (bounds N 0)
+      answers-N (OldAnswer.gives-N b r w) n s y = FlowAnswer.bounded (new-bound b n) (PathAnswer.gives-N (few b) r s w y)
+
+      answers : {x : Found} → Joined d rom start p p′ q q′ x → Answers x
+      answers (same-21 {a = a} (OldAnswer.gives-21 l k) e) = FlowAnswer.gives-21 (lowest-to is-bad bad-is a l) (record { first = k; second = e })
+      answers (same-22 {a = a} (OldAnswer.gives-22 n l k) e) = FlowAnswer.gives-22 (λ v b. n v (bad-is v b)) (lowest-to is-loop loop-is a l) (record { first = k; second = e })
+      answers (same-23 o e) = answers-23 o e
+      answers (depth-23 o n s k) = answers-depth o n s k
+      answers (same-N o n s y) = answers-N o n s y
+
+module _ (d : Device) (rom : ℕ → ℕ) (start : ℕ) (bytes : (at : ℕ) → rom at < 256) (start-lt : start < 8192) (plain : Plain d rom start) (p p′ q q′ : List ℕ) where
+  only-if : {x : Found} → Answer (callFlow d rom start) (callCycles d rom) addressOf p p′ q q′ x → Joined d rom start p p′ q q′ x
+  only-if (Answer.gives-24 l k) = absurd (judged-any (callFlow d rom start) unknown (no-calls d rom start unknown plain) .no-recursion _ (l .holds))
+  only-if (Answer.judged {K = K} j a) = by-flow d rom start K plain bytes start-lt p p′ q q′ a
+
+  if-so : {x : Found} → Joined d rom start p p′ q q′ x → Answer (callFlow d rom start) (callCycles d rom) addressOf p p′ q q′ x
+  if-so x = Answer.judged (judged-any (callFlow d rom start) unknown (no-calls d rom start unknown plain)) (answers d rom start unknown plain bytes start-lt p p′ q q′ x)
 
 pub old-answer-stands : OldAnswerStands
-old-answer-stands d rom start bytes start-lt plain K = stands d rom start K plain bytes start-lt
+old-answer-stands d rom start bytes start-lt plain p p′ q q′ x = record { only-if = only-if d rom start bytes start-lt plain p p′ q q′; if-so = if-so d rom start bytes start-lt plain p p′ q q′ }

@@ -47,6 +47,7 @@ emulated rom o = record {
   step = λ m x. stepOf rom o m (x .pins) .machine;
   spends = λ m x. stepOf rom o m (x .pins) .cycles;
   Ends = λ m x. Ends rom o m (x .pins);
+  Returns = λ m x. Returns rom o m (x .pins);
   Completes = λ m x. stepOf rom o m (x .pins) .stop ≡ 0;
   Calls = λ m x. ExecutesCall rom o m (x .pins);
   sp = λ m. m .core .ptrs .sp;
@@ -123,9 +124,9 @@ module _ (rom : ℕ → ℕ → ℕ) (bytes : (p3 at : ℕ) → rom p3 at < 256)
     unfolding callFlow
     lifted (stops h) =
         let none : after .cycles ≡ 0 = ap (λ (d : Done). d .cycles) (stop-leaves rom o m (x .pins) (λ z. omega (arith, h, stopped, z))) in
-        Follows.ends (Ends.stops (rw stopped (h .0)) (rw stopped (h .1))) (omega (arith, none))
+        Follows.ends (Ends.stops (rw stopped (h .0)) (rw stopped (h .1))) rti-kind (omega (arith, none))
     lifted (ends k e z c) =
-        Follows.ends (Ends.returns (record { running = at .stands .running; accepts-nothing = at .stands .ei; insn = i; read = rw (at .stands .bank) read; is-rti = e; completes = stopped ∙ z })) (omega (arith, spends c))
+        Follows.ends (Ends.returns (record { running = at .stands .running; accepts-nothing = at .stands .ei; insn = i; read = rw (at .stands .bank) read; is-rti = e; completes = stopped ∙ z })) rti-kind (omega (arith, spends c))
     lifted (goes-on w k e z c s sp) =
         let n = kind-is k in
         Follows.goes {w = w} n (rw (node-is i read) e) (not-ended (λ q. omega (arith, n, q)) (stopped ∙ z), stopped ∙ z) (λ r. omega (arith, n, call-kind r)) (spends c) (stands-then s) (sp-then ∙ sp)

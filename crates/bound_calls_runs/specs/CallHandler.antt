@@ -3,10 +3,11 @@ use mathlib.Core.Path.{_≡_}
 use mathlib.Core.Bool.{Bool, true, false}
 use mathlib.Core.List.{List, [], _∷_}
 use Prim.Native.Nat.{ℕ, _+_, _*_, _≤_, _<_}
-use lib.ListN.{length, getD}
+use lib.ListN.{length, take, getD}
 use Rattle.numbers.specs.Sizes.{addresses}
 use Rattle.numbers.specs.ComesBack.{answered}
 use Rattle.device.specs.Device.{frameSize, romOf}
+use Rattle.device.specs.declared.Device.{Device}
 use Rattle.device.specs.declared.Options.{Options}
 use Rattle.sheet.specs.Operation.{Entry, Operation}
 use Rattle.sheet.specs.Table.{lineAt}
@@ -20,11 +21,13 @@ use Rattle.machine.specs.Stack.{level}
 use Rattle.machine.specs.declared.Machine.{Machine}
 use Rattle.step_act.specs.Act.{shown}
 use Rattle.step.specs.Step.{stepOf}
-use Rattle.run.specs.Answers.{mostFrames}
+use Rattle.run.specs.Run.{runOf}
+use Rattle.run.specs.Answers.{RunOf, mostFrames}
+use Rattle.run.specs.declared.Ran.{Ran}
 use Rattle.routines.specs.Answer.{Judged, HasBound}
 use Rattle.bound_calls.specs.CallFlow.{callFlow, callCycles}
 use Rattle.bound_calls.specs.CallAnswer.{CallAnswer}
-use Rattle.bound_runs.specs.Handler.{Enters, Ends, EndsWithin, AllInRange, RunEndsWithin}
+use Rattle.bound_runs.specs.Handler.{Enters, Returns, Ends, EndsWithin, AllInRange, RunEndsWithin}
 
 -- the step executes a call: it runs, accepts nothing since EI is clear, and does not stop
 pub record ExecutesCall (rom : ℕ → ℕ → ℕ) (o : Options) (m : Machine) (pins : Pins) : Type 0 where
@@ -47,6 +50,11 @@ SparesStack rom o start m (pins ∷ others) =
     (Ends rom o m pins → ⊥)
     → ((ExecutesCall rom o m pins → ⊥) → LevelsKept start m (stepOf rom o m pins .machine)) × SparesStack rom o start (stepOf rom o m pins .machine) others
 
+-- the run ends so, and "the return" is the handler's own: where RTI is executed, SP is what it was at the start
+pub record ReturnsWithin (rom : ℕ → ℕ → ℕ) (o : Options) (m : Machine) (frames : List Pins) (N : ℕ) : Type 0 where
+  pub ends : EndsWithin rom o m frames N
+  pub own : Returns rom o (runOf rom o m (ends .before) .machine) (ends .last) → runOf rom o m (ends .before) .machine .core .ptrs .sp ≡ m .core .ptrs .sp
+
 -- "Every emulated run from there (running, SF set, EI clear, frames enough) reaches the return or a named stop having spent at most N, for any pins."
 abbrev pub Demand3WithCalls : Type 0
 Demand3WithCalls =
@@ -55,14 +63,43 @@ Demand3WithCalls =
     → HasBound (callFlow (o .device) (rom p3) start) (callCycles (o .device) (rom p3)) K N depth path deep
     → (m : Machine) → Enters (o .device) m p3 start
     → (frames : List Pins) → AllInRange (o .device) frames → N ≤ length frames → SparesStack rom o (m .core .ptrs .sp) m frames
-    → EndsWithin rom o m frames N
+    → ReturnsWithin rom o m frames N
 
--- the same of the answers: the bound answers N with a depth, and the call run is given a buffer of frames that it does not refuse
+-- where the depth is 0 no call is open, and nothing is asked of the stack: document 01's demand 3, of every run
+abbrev pub Demand3AtDepth0 : Type 0
+Demand3AtDepth0 =
+    (rom : ℕ → ℕ → ℕ) → ((p3 at : ℕ) → rom p3 at < 256) → (o : Options) (p3 start : ℕ) → start < addresses
+    → (K : ℕ → Bool) (N : ℕ) (path deep : List ℕ) → Judged (callFlow (o .device) (rom p3) start) K
+    → HasBound (callFlow (o .device) (rom p3) start) (callCycles (o .device) (rom p3)) K N 0 path deep
+    → (m : Machine) → Enters (o .device) m p3 start
+    → (frames : List Pins) → AllInRange (o .device) frames → N ≤ length frames
+    → ReturnsWithin rom o m frames N
+
+-- a buffer of frames that the call run does not refuse, and "frames enough": N or more
+pub record Enough (d : Device) (frames : List ℕ) (N : ℕ) : Type 0 where
+  pub good : areFrames d frames ≡ true
+  pub few : length frames ≤ mostFrames * frameSize d
+  pub many : N ≤ length (framesOf d frames)
+
+-- any answers of the call run that conform end so, and where RTI is executed SP is what it was at the start
+pub record RunReturnsWithin (image : List ℕ) (o : Options) (m : Machine) (frames : List ℕ) (N : ℕ) : Type 0 where
+  pub ends : RunEndsWithin image o m frames N
+  pub own : (q : Ran) → RunOf image o m (take (frameSize (o .device) * ends .before) frames) q → Returns (romOf image) o (q .machine) (ends .last) → q .machine .core .ptrs .sp ≡ m .core .ptrs .sp
+
+-- the same of the answers: the bound answers N with a depth, and the call run is given such a buffer
 abbrev pub Demand3OfCalls : Type 0
 Demand3OfCalls =
     (image : List ℕ) → ((p3 at : ℕ) → romOf image p3 at < 256) → (o : Options) (p3 start N depth : ℕ) (path path′ deep deep′ : List ℕ)
     → CallAnswer (o .device) image p3 start path path′ deep deep′ (answered (N ∷ depth ∷ []))
     → (m : Machine) → Enters (o .device) m p3 start
-    → (frames : List ℕ) → areFrames (o .device) frames ≡ true → length frames ≤ mostFrames * frameSize (o .device) → N ≤ length (framesOf (o .device) frames)
-    → SparesStack (romOf image) o (m .core .ptrs .sp) m (framesOf (o .device) frames)
-    → RunEndsWithin image o m frames N
+    → (frames : List ℕ) → Enough (o .device) frames N → SparesStack (romOf image) o (m .core .ptrs .sp) m (framesOf (o .device) frames)
+    → RunReturnsWithin image o m frames N
+
+-- and where it answers N with depth 0, of every run
+abbrev pub Demand3OfAnswersAtDepth0 : Type 0
+Demand3OfAnswersAtDepth0 =
+    (image : List ℕ) → ((p3 at : ℕ) → romOf image p3 at < 256) → (o : Options) (p3 start N : ℕ) (path path′ deep deep′ : List ℕ)
+    → CallAnswer (o .device) image p3 start path path′ deep deep′ (answered (N ∷ 0 ∷ []))
+    → (m : Machine) → Enters (o .device) m p3 start
+    → (frames : List ℕ) → Enough (o .device) frames N
+    → RunReturnsWithin image o m frames N

@@ -45,11 +45,23 @@ module _ (image : List ℕ) (o : Options) (m : Machine) (frames : List ℕ) (len
   answer-is : (k : ℕ) (l : List Pins) (r : Ran) → frameSize (o .device) * k ≤ length frames → take k (framesOf (o .device) frames) ≡ l → RunOf image o m (take (frameSize (o .device) * k) frames) r → r ≡ runOf (romOf image) o m l
   answer-is k l r h e a = a .runs len valid (rw length-take (omega arith)) (are-take (o .device) k frames h good) ∙ ap (runOf (romOf image) o m) (frames-take (o .device) k frames h ∙ e)
 
+  -- as many frames as are asked of are in the buffer
+  room : (N : ℕ) → N ≤ length (framesOf (o .device) frames) → (j : ℕ) → j ≤ N → frameSize (o .device) * j ≤ length frames
+  room N enough j h =
+      let many : N ≤ length frames / frameSize (o .device) = rw (← length-frames (o .device) frames good) enough in
+      frames-fit (o .device) j (length frames) (omega arith)
+
+  -- the call's answer to the frames before the last
+  answer-before : (N : ℕ) → N ≤ length (framesOf (o .device) frames) → (e : EndsWithin (romOf image) o m (framesOf (o .device) frames) N) (q : Ran)
+      → RunOf image o m (take (frameSize (o .device) * length (e .before)) frames) q → q ≡ runOf (romOf image) o m (e .before)
+  answer-before N enough e q a =
+      let k = length (e .before) in
+      answer-is k (e .before) q (room N enough k (omega (arith, e .steps))) (rw (e .parts) (take-append-seam (e .before) (e .last ∷ e .after))) a
+
   pub ends-by-call : (N : ℕ) → N ≤ length (framesOf (o .device) frames) → EndsWithin (romOf image) o m (framesOf (o .device) frames) N → RunEndsWithin image o m frames N
   ends-by-call N enough e =
       let k = length (e .before) in
       let many : N ≤ length frames / frameSize (o .device) = rw (← length-frames (o .device) frames good) enough in
-      let room : (j : ℕ) → j ≤ N → frameSize (o .device) * j ≤ length frames = λ j h. frames-fit (o .device) j (length frames) (omega arith) in
       record {
         before = k;
         steps = e .steps;
@@ -58,8 +70,18 @@ module _ (image : List ℕ) (o : Options) (m : Machine) (frames : List ℕ) (len
         answers =
             λ q r a b.
             rw (
-              answer-is k (e .before) q (room k (omega (arith, e .steps))) (rw (e .parts) (take-append-seam (e .before) (e .last ∷ e .after))) a,
-              answer-is (suc k) (e .before ++ (e .last ∷ [])) r (room (suc k) (e .steps)) (rw (e .parts) (take-with (e .before) (e .last) (e .after))) b,
+              answer-before N enough e q a,
+              answer-is (suc k) (e .before ++ (e .last ∷ [])) r (room N enough (suc k) (e .steps)) (rw (e .parts) (take-with (e .before) (e .last) (e .after))) b,
             )
             (run-ends (romOf image) o m N (e .before) (e .last) (e .completes) (e .cycles) (e .ends));
       }
+
+  -- the call's answer to the frames before the step that ends the handler, and that step's frame
+  pub answer-then : (N : ℕ) (enough : N ≤ length (framesOf (o .device) frames)) (e : EndsWithin (romOf image) o m (framesOf (o .device) frames) N) (q : Ran)
+      → RunOf image o m (take (frameSize (o .device) * ends-by-call N enough e .before) frames) q → q ≡ runOf (romOf image) o m (e .before)
+  unfolding ends-by-call
+  answer-then N enough e q a = answer-before N enough e q a
+
+  pub last-then : (N : ℕ) (enough : N ≤ length (framesOf (o .device) frames)) (e : EndsWithin (romOf image) o m (framesOf (o .device) frames) N) → ends-by-call N enough e .last ≡ e .last
+  unfolding ends-by-call
+  last-then N enough e = refl

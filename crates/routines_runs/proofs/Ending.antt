@@ -85,7 +85,7 @@ module _ (M : Machine) (f : Flow) (cycles address : ℕ → ℕ) (At : M .State 
 
   -- a run that ends, after a step that does not end it
   ends-later : (s : M .State) (x : M .Frame) (xs : List (M .Frame)) (v B : ℕ) → 0 < cycles v → cycles v ≤ B → GoesPast M s x → M .spends s x ≡ cycles v
-      → EndsWithin M (M .step s x) xs (B - cycles v) → EndsWithin M s (x ∷ xs) B
+      → EndsWithin M top (M .step s x) xs (B - cycles v) → EndsWithin M top s (x ∷ xs) B
   ends-later s x xs v B pos le goes-on spends q =
       record { steps = suc (q .steps); spent = M .spends s x + q .spent; ends = later goes-on (q .ends); steps-most = omega (arith, q .steps-most); spent-most = omega (arith, q .spent-most) }
 
@@ -162,11 +162,21 @@ module _ (M : Machine) (f : Flow) (cycles address : ℕ → ℕ) (At : M .State 
         most = λ l p. omega (arith, most (v ∷ l) (calling.Path.ret k p));
       }
 
+  -- RTI is not excluded in the outer routine only, where no call is open
+  at-start : (s : M .State) (r : Routine) (ks : List ℕ) (v : ℕ) → Stands s r ks v → f .kind v ≡ 2 → M .sp s ≡ top
+  unfolding Holds
+  at-start s r ks v h k = go (h .nested) (h .live) (h .reached) (h .stack)
+    where
+      go : {r : Routine} {ks : List ℕ} → Nested f K r ks → Live f K r → Reach (within f K r) (startIn f r) v → Holds address (M .level s) (M .sp s) top ks → M .sp s ≡ top
+      go none live i stack = stack
+      go (inner {r = r′} {u = u} n live′ j c) live i stack =
+          absurd (no-bad v (called (f .entry u), live, i, out-excluded f K (called (f .entry u)) v (λ z. omega arith) (λ z. omega arith) (λ z. omega arith)))
+
   step-on : (s : M .State) (x : M .Frame) (xs : List (M .Frame)) (r : Routine) (ks : List ℕ) (v B : ℕ) → Stands s r ks v → AtMost ks v B → Follows M f cycles address At s x v
       → ((M .Ends s x → ⊥) → ((M .Calls s x → ⊥) → Spares M top s x) × SparesStack M top (M .step s x) xs)
-      → (0 < cycles v) × (cycles v ≤ B) → ((M .Ends s x → ⊥) → GoesOn (M .step s x) (B - cycles v) → EndsWithin M (M .step s x) xs (B - cycles v)) → EndsWithin M s (x ∷ xs) B
-  step-on s x xs r ks v B h most (Follows.ends e c) spares cost ih =
-      record { steps = 1; spent = M .spends s x; ends = now e; steps-most = omega (arith, cost); spent-most = omega (arith, cost) }
+      → (0 < cycles v) × (cycles v ≤ B) → ((M .Ends s x → ⊥) → GoesOn (M .step s x) (B - cycles v) → EndsWithin M top (M .step s x) xs (B - cycles v)) → EndsWithin M top s (x ∷ xs) B
+  step-on s x xs r ks v B h most (Follows.ends e rti c) spares cost ih =
+      record { steps = 1; spent = M .spends s x; ends = now e (λ t. at-start s r ks v h (rti t)); steps-most = omega (arith, cost); spent-most = omega (arith, cost) }
   step-on s x xs r ks v B h most (Follows.goes {w = w} k e on calls c at same) spares cost ih =
       ends-later s x xs v B (cost .0) (cost .1) on c (ih (on .0) (goes-on s x r ks v w B h most k e at same (spares (on .0) .0 calls)))
   step-on s x xs r ks v B h most (Follows.calls k on c at lower stored kept) spares cost ih =
@@ -175,7 +185,7 @@ module _ (M : Machine) (f : Flow) (cycles address : ℕ → ℕ) (At : M .State 
       ends-later s x xs v B (cost .0) (cost .1) on c (ih (on .0) (goes-back s x r ks v B h most k at higher (spares (on .0) .0 calls)))
 
   -- with at most B left to spend, and B frames or more
-  run-from : (frames : List (M .Frame)) (s : M .State) (r : Routine) (ks : List ℕ) (v B : ℕ) → Stands s r ks v → AtMost ks v B → B ≤ length frames → SparesStack M top s frames → EndsWithin M s frames B
+  run-from : (frames : List (M .Frame)) (s : M .State) (r : Routine) (ks : List ℕ) (v B : ℕ) → Stands s r ks v → AtMost ks v B → B ≤ length frames → SparesStack M top s frames → EndsWithin M top s frames B
   unfolding SparesStack
   run-from [] s r ks v B h most enough spares = absurd (omega (arith, cost-le (h .nested) (h .live) (h .reached) most))
   run-from (x ∷ xs) s r ks v B h most enough spares =
@@ -189,7 +199,7 @@ module _ (M : Machine) (f : Flow) (cycles address : ℕ → ℕ) (At : M .State 
 module _ (M : Machine) (f : Flow) (cycles address : ℕ → ℕ) (At : M .State → ℕ → Type 0) (one-step : OneStep M f cycles address At)
     {n E : ℕ} (small : Small f n E) (widens : Widens f) (standard : Standard f n cycles address) where
   pub runs-end : {K : ℕ → Bool} {N d : ℕ} {path deep : List ℕ} → Judged f K → HasBound f cycles K N d path deep
-      → (s : M .State) → At s (f .start) → (frames : List (M .Frame)) → N ≤ length frames → SparesStack M (M .sp s) s frames → EndsWithin M s frames N
+      → (s : M .State) → At s (f .start) → (frames : List (M .Frame)) → N ≤ length frames → SparesStack M (M .sp s) s frames → EndsWithin M (M .sp s) s frames N
   unfolding AtMost Holds
   runs-end {K} {N} judged bound s at frames enough spares =
       run-from M f cycles address At one-step small widens standard K judged (bound .no-bad) (bound .no-loop) (M .sp s) frames s outer [] (f .start) N
@@ -197,5 +207,5 @@ module _ (M : Machine) (f : Flow) (cycles address : ℕ → ℕ) (At : M .State 
 
   -- the same from the answer N
   pub answer-runs-end : {a : ℕ → ℕ} {p p′ q q′ : List ℕ} {N d : ℕ} → Answer f cycles a p p′ q q′ (bounds N d)
-      → (s : M .State) → At s (f .start) → (frames : List (M .Frame)) → N ≤ length frames → SparesStack M (M .sp s) s frames → EndsWithin M s frames N
+      → (s : M .State) → At s (f .start) → (frames : List (M .Frame)) → N ≤ length frames → SparesStack M (M .sp s) s frames → EndsWithin M (M .sp s) s frames N
   answer-runs-end (Answer.judged j (FlowAnswer.bounded b (PathAnswer.gives-N l r t x y))) s at frames enough spares = runs-end j b s at frames enough spares

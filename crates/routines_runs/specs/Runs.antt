@@ -8,14 +8,15 @@ use Prim.Native.Nat.{ℕ, suc, _+_, _≤_, _<_}
 use lib.ListN.{length}
 use Rattle.routines.specs.Calling.{Flow}
 
--- a machine that steps once a frame: the state after the step and its cycles; whether the step ends the handler ("the return or a named stop"), whether it completes, and whether it executes a call;
--- SP, and the address that each level of the stack holds
+-- a machine that steps once a frame: the state after the step and its cycles; whether the step ends the handler ("the return or a named stop"), whether it is the return, RTI, whether it completes, and
+-- whether it executes a call; SP, and the address that each level of the stack holds
 pub record Machine : Type 1 where
   pub State : Type 0
   pub Frame : Type 0
   pub step : State → Frame → State
   pub spends : State → Frame → ℕ
   pub Ends : State → Frame → Type 0
+  pub Returns : State → Frame → Type 0
   pub Completes : State → Frame → Type 0
   pub Calls : State → Frame → Type 0
   pub sp : State → ℕ
@@ -25,10 +26,10 @@ pub record Machine : Type 1 where
 abbrev pub GoesPast : (M : Machine) → M .State → M .Frame → Type 0
 GoesPast M s x = (M .Ends s x → ⊥) × M .Completes s x
 
--- the run ends with its k-th step, having spent so many cycles
-pub data EndsAt (M : Machine) : M .State → List (M .Frame) → ℕ → ℕ → Type 0 where
-  now : {s : M .State} {x : M .Frame} {xs : List (M .Frame)} → M .Ends s x → EndsAt M s (x ∷ xs) 1 (M .spends s x)
-  later : {s : M .State} {x : M .Frame} {xs : List (M .Frame)} {k n : ℕ} → GoesPast M s x → EndsAt M (M .step s x) xs k n → EndsAt M s (x ∷ xs) (suc k) (M .spends s x + n)
+-- the run ends with its k-th step, having spent so many cycles; where that step is the return, SP is what it was at the start
+pub data EndsAt (M : Machine) (start : ℕ) : M .State → List (M .Frame) → ℕ → ℕ → Type 0 where
+  now : {s : M .State} {x : M .Frame} {xs : List (M .Frame)} → M .Ends s x → (M .Returns s x → M .sp s ≡ start) → EndsAt M start s (x ∷ xs) 1 (M .spends s x)
+  later : {s : M .State} {x : M .Frame} {xs : List (M .Frame)} {k n : ℕ} → GoesPast M s x → EndsAt M start (M .step s x) xs k n → EndsAt M start s (x ∷ xs) (suc k) (M .spends s x + n)
 
 -- the step leaves what the stack's levels hold "from SP at that time (included) up to the SP at the start (not included)". A step that stores into none of them does
 abbrev pub Spares : (M : Machine) → ℕ → M .State → M .Frame → Type 0
@@ -47,7 +48,7 @@ pub record Standard (f : Flow) (n : ℕ) (cycles address : ℕ → ℕ) : Type 0
 
 -- what a step does from a state that stands at the place v (At): the one lemma that the chip has to supply
 pub data Follows (M : Machine) (f : Flow) (cycles address : ℕ → ℕ) (At : M .State → ℕ → Type 0) (s : M .State) (x : M .Frame) (v : ℕ) : Type 0 where
-  ends : M .Ends s x → M .spends s x ≤ cycles v → Follows M f cycles address At s x v
+  ends : M .Ends s x → (M .Returns s x → f .kind v ≡ 2) → M .spends s x ≤ cycles v → Follows M f cycles address At s x v
   goes : {w : ℕ} → f .kind v ≡ 1 → (w ≡ f .next v) ⊎ (w ≡ f .other v) → GoesPast M s x → (M .Calls s x → ⊥) → M .spends s x ≡ cycles v
       → At (M .step s x) w → M .sp (M .step s x) ≡ M .sp s → Follows M f cycles address At s x v
   -- "A call or acceptance lowers SP first": it stores below the levels in use
@@ -63,9 +64,9 @@ abbrev pub OneStep : (M : Machine) → Flow → (ℕ → ℕ) → (ℕ → ℕ) 
 OneStep M f cycles address At = (s : M .State) (x : M .Frame) (v : ℕ) → At s v → 1 ≤ f .kind v → f .kind v ≤ 4 → Follows M f cycles address At s x v
 
 -- "reaches the return or a named stop having spent at most N", in at most N steps
-pub record EndsWithin (M : Machine) (s : M .State) (frames : List (M .Frame)) (N : ℕ) : Type 0 where
+pub record EndsWithin (M : Machine) (start : ℕ) (s : M .State) (frames : List (M .Frame)) (N : ℕ) : Type 0 where
   pub steps : ℕ
   pub spent : ℕ
-  pub ends : EndsAt M s frames steps spent
+  pub ends : EndsAt M start s frames steps spent
   pub steps-most : steps ≤ N
   pub spent-most : spent ≤ N

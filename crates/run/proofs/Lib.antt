@@ -2,3 +2,4 @@ pub mod Going
 pub mod Answering
 pub mod Rest
 pub mod AsBefore
+pub mod StaysValid

@@ -1,3 +1,4 @@
 pub mod Run
 pub mod Before
 pub mod Answers
+pub mod StaysValid

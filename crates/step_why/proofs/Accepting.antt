@@ -1,15 +1,22 @@
 -- The step is what the answer says of it, and the stored due source is the first of those that the answer names.
-use Prim.Native.Nat.{ℕ, _<_, _^_}
+use Prim.Native.Nat.{ℕ, suc, _<_, _^_}
 use mathlib.Core.Path.{_≡_, refl, sym, ap, subst, _∙_}
-use mathlib.Core.Bool.{Bool, true, false}
+use mathlib.Core.Bool.{Bool, true, false, not}
+use mathlib.Core.List.{List, [], _∷_}
+use native.Mathlib.Decide.{ℕ-discrete}
 use native.Mathlib.Omega.{arith}
 use lib.Dec.{eqb, ltb}
-use lib.ListN.{getD}
-use borrow.Author.Tests.{eqb-false, ltb-true, le-leb}
+use lib.ListN.{length, getD}
+use borrow.Author.Tests.{eqb-false, ltb-true, lt-ltb, le-leb}
+use Rattle.laws.specs.Choice.{both}
+use Rattle.laws.proofs.Choices.{both-false}
+use Rattle.laws.proofs.Computed.{true→T}
 use Rattle.bits.specs.Bits.{highestBit, withoutBit}
-use Rattle.numbers.specs.ComesBack.{stack-level}
+use Rattle.numbers.specs.ComesBack.{Paper, answered, refused, stack-level}
+use Rattle.device.specs.Device.{imageSize, romOf}
 use Rattle.device.specs.declared.Options.{Options}
-use Rattle.frame.specs.Frame.{PinsInRange}
+use Rattle.frame.specs.Frame.{PinsInRange, frameOf}
+use Rattle.frame.specs.declared.Frame.{Frame}
 use Rattle.frame.specs.declared.Pins.{Pins}
 use Rattle.due.specs.Due.{dueSource, latchOf}
 use Rattle.due.proofs.Sources.{number-tells}
@@ -17,18 +24,23 @@ use Rattle.machine.specs.Stack.{canPush, CanPush, accepted}
 use Rattle.machine.specs.Valid.{ValidInterrupts, Valid}
 use Rattle.machine.specs.declared.Machine.{Machine}
 use Rattle.machine.proofs.Range.{can-push}
+use Rattle.machine_valid.proofs.Validity.{valid?}
 use Rattle.row.specs.Rows.{Done, spent, stops}
 use Rattle.step_look.specs.Look.{isRunning, looked}
+use Rattle.step_look.proofs.LookValid.{waited-marked}
 use Rattle.step_act.specs.Act.{sourceOf, acceptOf, runOne, acceptOrRun, afterTime, actOf}
 use Rattle.step_act.proofs.Stops.{act-keeps}
 use Rattle.step.specs.Step.{lookStep, unmarked, stepOf}
+use Rattle.step.specs.Answers.{stepped, StepOf}
+use Rattle.step.specs.declared.Stepped.{Stepped}
+use Rattle.step.proofs.Answering.{seen-in-range}
 use Rattle.step.proofs.StepValid.{look-valid}
 use Rattle.step.proofs.Stepping.{step-runs, step-waits}
 use Rattle.step_why.specs.declared.Reason.{Reason}
 use Rattle.step_why.specs.declared.Taken.{Taken}
 use Rattle.step_why.specs.Why.{dueSet, whySeen, whyOf}
-use Rattle.step_why.specs.Answers.{valuesOf}
-use Rattle.step_why.specs.Accepting.{Accepts, actedBy, sighted, StepAccepts, LastExactly, StepByAnswer, AnswerTellsStep}
+use Rattle.step_why.specs.Answers.{valuesOf, WhyAnswer}
+use Rattle.step_why.specs.Accepting.{Accepts, actedBy, sighted, SaysAccepted, AcceptsByRule, StepAccepts, LastExactly, StepByAnswer, AnswerTellsStep, CallsTellAlike}
 use Rattle.step_why.proofs.Sources.{first-is-highest, none-latched, none-due, some-due}
 use Rattle.step_why.proofs.Reasons.{takes, by-reason, of-waiting}
 
@@ -150,17 +162,13 @@ module _ (o : Options) (m : Machine) (pins : Pins) (valid : Valid (o .device) m)
   running-by true e n = e
   running-by false e n = absurd (n (sym (of-waiting o (m .core) pins e)))
 
-  only : (t : Taken) → whyOf o (m .core) pins ≡ Reason.Accepted t → StepAccepts o m pins (t .source)
+  only : (t : Taken) → whyOf o (m .core) pins ≡ Reason.Accepted t → AcceptsByRule o m pins (t .source)
   only t q =
       let r = running-by (isRunning (m .core .mode)) refl (λ w. apart refl (sym w ∙ q)) in
       (r, accepts-only after ints t (sym (why-runs r) ∙ q))
 
-  last-exactly : LastExactly o m pins
-  last-exactly =
-      record {
-        only-then = λ source s. only (record { source = source; waiting = s .0 }) (s .1);
-        always-then = λ source a. (_, why-runs (a .0) ∙ accepts-always after ints source (a .1));
-      }
+  always : (source : ℕ) → AcceptsByRule o m pins source → SaysAccepted o m pins source
+  always source a = (_, why-runs (a .0) ∙ accepts-always after ints source (a .1))
 
   waits-by : (rom : ℕ → ℕ → ℕ) (t : Bool) → isRunning (m .core .mode) ≡ t → whyOf o (m .core) pins ≡ Reason.Waiting → stepOf rom o m pins ≡ spent (lookStep o m pins .cycles) (unmarked after)
   unfolding lookStep looked
@@ -174,11 +182,48 @@ module _ (o : Options) (m : Machine) (pins : Pins) (valid : Valid (o .device) m)
   step-acts rom t = act-runs rom t ∙ (acted after ints rom o ∙ ap (actedBy rom o after) (sym (why-runs t)))
 
   step-by-answer : (rom : ℕ → ℕ → ℕ) → StepByAnswer o m pins rom
-  step-by-answer rom =
+  step-by-answer rom = record { acts = step-acts rom; waits = waits-by rom (isRunning (m .core .mode)) refl }
+
+  -- a running record's look leaves it running and without a mark
+  look-acts : isRunning (m .core .mode) ≡ true → both (isRunning (after .core .mode)) (not (after .core .mark)) ≡ true
+  unfolding lookStep looked
+  look-acts t = rw t (rw t refl)
+
+  by-words : (rom : ℕ → ℕ → ℕ) (source : ℕ) → AcceptsByRule o m pins source → StepAccepts o m pins rom source
+  by-words rom source a =
+      let is : sourceOf (after .core) ≡ source = source-is after ints (a .1 .ei) ∙ a .1 .first in
       record {
-        acts = step-acts rom;
-        waits = waits-by rom (isRunning (m .core .mode)) refl;
-        accepts = λ source a. step-acts rom (a .0) ∙ ap (actedBy rom o after) (last-exactly .always-then source a .1);
+        acts = look-acts (a .0);
+        is-source = is;
+        due = rw is (lt-ltb source 6 (a .1 .some));
+        level = level-true after ints (a .1 .level);
+        is-acceptance = step-acts rom (a .0) ∙ ap (actedBy rom o after) (always source a .1);
+      }
+
+  -- a record that waits comes out of the look marked
+  runs-by : (t : Bool) → isRunning (m .core .mode) ≡ t → both (isRunning (after .core .mode)) (not (after .core .mark)) ≡ true → isRunning (m .core .mode) ≡ true
+  unfolding lookStep looked
+  runs-by true t e = t
+  runs-by false t e = absurd (true→T (rw (t, waited-marked (o .wake) (m .core) pins, both-false) at e))
+
+  enabled-by : (t : Bool) → after .core .ints .ei ≡ t → ltb (sourceOf (after .core)) 6 ≡ true → after .core .ints .ei ≡ true
+  enabled-by true t e = t
+  enabled-by false t e = absurd (true→T (rw (no-source after ints t) at e))
+
+  in-words : (rom : ℕ → ℕ → ℕ) (source : ℕ) → StepAccepts o m pins rom source → AcceptsByRule o m pins source
+  in-words rom source a =
+      let ei = enabled-by (after .core .ints .ei) refl (a .due) in (
+        runs-by (isRunning (m .core .mode)) refl (a .acts),
+        record { ei = ei; first = sym (source-is after ints ei) ∙ a .is-source; some = subst (λ (s : ℕ). s < 6) (a .is-source) (ltb-true (sourceOf (after .core)) 6 (a .due)); level = can-push (a .level) },
+      )
+
+  last-exactly : (rom : ℕ → ℕ → ℕ) → LastExactly o m pins rom
+  last-exactly rom =
+      record {
+        only-then = λ source s. by-words rom source (only (record { source = source; waiting = s .0 }) (s .1));
+        always-then = λ source a. always source (in-words rom source a);
+        in-words = in-words rom;
+        by-words = by-words rom;
       }
 
   refused-first : (due : ℕ) → whyOf o (m .core) pins ≡ Reason.Level due → latchOf (after .core .ints .due) ≡ highestBit due
@@ -201,4 +246,41 @@ answer-tells-step o m pins valid range =
             of-refused = refused-first o m pins valid range;
             of-accepted = accepted-first o m pins valid range;
           };
+    }
+
+-- the reason of the answer's values
+accepted-by : (w : Reason) (source waiting : ℕ) → valuesOf w ≡ 6 ∷ source ∷ waiting ∷ [] → w ≡ Reason.Accepted (record { source = source; waiting = waiting })
+accepted-by Reason.Waiting s t e = absurd (omega (arith, ap (λ (l : List ℕ). getD l 0 0) e))
+accepted-by Reason.Disabled s t e = absurd (omega (arith, ap (λ (l : List ℕ). getD l 0 0) e))
+accepted-by Reason.Nothing s t e = absurd (omega (arith, ap (λ (l : List ℕ). getD l 0 0) e))
+accepted-by (Reason.Masked l) s t e = absurd (omega (arith, ap (λ (l : List ℕ). getD l 0 0) e))
+accepted-by (Reason.Level l) s t e = absurd (omega (arith, ap (λ (l : List ℕ). getD l 0 0) e))
+accepted-by (Reason.Accepted x) s t e =
+    let a : x .source ≡ s = ap (λ (l : List ℕ). getD l 1 0) e in
+    let b : x .waiting ≡ t = ap (λ (l : List ℕ). getD l 2 0) e in
+    rw (← a, ← b)
+
+not-refused : {p : Paper} {l : List ℕ} (k : ℕ) → p ≡ refused (suc k) → p ≡ answered l → ⊥
+not-refused {p} k e q = let z : suc k ≡ 0 = ap (λ (x : Paper). x .number) (sym e ∙ q) in omega arith
+
+module _ (image : List ℕ) (o : Options) (m : Machine) (frame : List ℕ) (p : Paper) (r : Stepped) (w : WhyAnswer image o m frame p) (s : StepOf image o m frame r) where
+  abbrev Accepting : ℕ → Type 0
+  Accepting source = (pins : Pins) × (frameOf (o .device) frame ≡ Frame.Seen pins) × StepAccepts o m pins (romOf image) source × (r ≡ stepped (afterTime (spent 2 (accepted (sighted o m pins) source))))
+
+  tells-by : (source waiting : ℕ) → p ≡ answered (6 ∷ source ∷ waiting ∷ []) → Dec (length image ≡ imageSize (o .device)) → Dec (Valid (o .device) m) → (f : Frame) → frameOf (o .device) frame ≡ f → Accepting source
+  tells-by source waiting q (no n) v f e = absurd (not-refused 0 (w .refused-1 n) q)
+  tells-by source waiting q (yes l) (no n) f e = absurd (not-refused 1 (w .refused-2 l n) q)
+  tells-by source waiting q (yes l) (yes v) Frame.NoFrame e = absurd (not-refused 2 (w .refused-3 l v e) q)
+  tells-by source waiting q (yes l) (yes v) (Frame.Seen pins) e =
+      let same : valuesOf (whyOf o (m .core) pins) ≡ 6 ∷ source ∷ waiting ∷ [] = ap (λ (x : Paper). x .values) (sym (w .says l v pins e) ∙ q) in
+      let a = answer-tells-step o m pins v (seen-in-range (o .device) frame pins e) .last-exactly (romOf image) .only-then source (waiting, accepted-by (whyOf o (m .core) pins) source waiting same) in
+      (pins, e, a, s .steps l v pins e ∙ ap stepped (a .is-acceptance))
+
+pub calls-tell-alike : CallsTellAlike
+calls-tell-alike image o m frame p r w s =
+    record {
+      only-then = λ source waiting q. tells-by image o m frame p r w s source waiting q (ℕ-discrete (length image) (imageSize (o .device))) (valid? (o .device) m) (frameOf (o .device) frame) refl;
+      always-then = λ l v pins e source a.
+          let t = answer-tells-step o m pins v (seen-in-range (o .device) frame pins e) .last-exactly (romOf image) .always-then source a in
+          (t .0, w .says l v pins e ∙ ap (λ (x : Reason). answered (valuesOf x)) (t .1));
     }
