@@ -1,4 +1,4 @@
-// Executing one row: the arm is found by the row's group. What it gives is what the definition of crate execute says.
+// Executing one row: the arm is found by the row's group. What it gives is what the definition of crate row says.
 mod keeps;
 mod lends;
 
