@@ -9,9 +9,9 @@ use lib.Dec.{eqb}
 use lib.ListN.{length, getD, take, drop}
 use Rattle.laws.specs.Choice.{pick, both}
 use Rattle.laws.proofs.Computed.{true→T}
-use Rattle.text_script.specs.Script.{isLF}
-use Rattle.compare_lines.specs.Lines.{Line, whole, onLine, cut, partsOf, full, fullParts, spaced, sameText, sameEnd, sameLine, fieldFrom, fieldOf, differFrom, differenceOf}
-use Rattle.compare_lines.specs.Named.{FieldNamed, FirstDiffers, LineNamed, Named}
+use Rattle.text_script.specs.Script.{isLF, onFirst}
+use Rattle.compare_lines.specs.Lines.{Line, whole, onLine, cut, isBlank, partsOf, full, fullParts, spaced, sameText, sameEnd, sameLine, fieldFrom, fieldOf, differFrom, differenceOf}
+use Rattle.compare_lines.specs.Named.{FieldNamed, FirstDiffers, LineNamed, Named, DifferenceTells}
 use Rattle.compare_lines.specs.declared.Compared.{Compared}
 use Rattle.compare_lines.specs.declared.Compared.the-variants.{Same, Differs}
 use Rattle.compare_lines.proofs.Ending.{same-text}
@@ -127,8 +127,53 @@ field-by n o t false true d e f r h =
       differs = k .differs;
     }
 
+-- the blanks back between the parts, and one before them
+abbrev blanked : List (List ℕ) → List ℕ
+blanked [] = []
+blanked (p ∷ ps) = 32 ∷ (p ++ blanked ps)
+
+blanked-on : (c : ℕ) (ps : List (List ℕ)) (cs : List ℕ) → blanked ps ≡ 32 ∷ cs → blanked (onFirst c ps) ≡ 32 ∷ (c ∷ cs)
+blanked-on c [] cs e = let z : _≡_ {A = ℕ} 0 1 = cc in absurd (omega arith)
+blanked-on c (p ∷ ps) cs e = let z : p ++ blanked ps ≡ cs = cc in rw z
+
+blanked-by : (c : ℕ) (cs : List ℕ) (t : Bool) → isBlank c ≡ t → blanked (partsOf cs) ≡ 32 ∷ cs → blanked (partsOf (c ∷ cs)) ≡ 32 ∷ (c ∷ cs)
+blanked-by c cs true e g = rw (e, g) (ap (λ (x : ℕ). 32 ∷ (x ∷ cs)) (sym (eqb-true c 32 e)))
+blanked-by c cs false e g = rw e (blanked-on c (partsOf cs) cs g)
+
+blanked-parts : (cs : List ℕ) → blanked (partsOf cs) ≡ 32 ∷ cs
+blanked-parts [] = refl
+blanked-parts (c ∷ cs) = blanked-by c cs (isBlank c) refl (blanked-parts cs)
+
+-- so the parts tell the text
+parts-tell : (s t : List ℕ) → partsOf s ≡ partsOf t → s ≡ t
+parts-tell s t e = let z : 32 ∷ s ≡ 32 ∷ t = sym (blanked-parts s) ∙ (ap blanked e ∙ blanked-parts t) in cc
+
+-- of as many parts none differs
+parts-by : (m : ℕ) (p q : List ℕ) (ps qs : List (List ℕ)) (t : Bool) → sameText p q ≡ t → 0 < m → (fieldFrom (m + 1) ps qs ≡ 0 → ps ≡ qs) → fieldFrom m (p ∷ ps) (q ∷ qs) ≡ 0 → p ∷ ps ≡ q ∷ qs
+parts-by m p q ps qs true e h g r = rw (texts-equal p q e, g (rw e at r))
+parts-by m p q ps qs false e h g r = let z : m ≡ 0 = rw e at r in absurd (omega arith)
+
+parts-equal : (ps qs : List (List ℕ)) (m : ℕ) → 0 < m → length ps ≡ length qs → fieldFrom m ps qs ≡ 0 → ps ≡ qs
+parts-equal [] [] m h l r = refl
+parts-equal [] (q ∷ qs) m h l r = absurd (omega (arith, l))
+parts-equal (p ∷ ps) [] m h l r = absurd (omega (arith, l))
+parts-equal (p ∷ ps) (q ∷ qs) m h l r = parts-by m p q ps qs (sameText p q) refl h (λ z. parts-equal ps qs (m + 1) (omega arith) (omega (arith, l)) z) r
+
+-- two lines that are spaced so and differ, differ in a field
+some-field : (n : ℕ) (o t : Line) → (o ≡ t → ⊥) → spaced o ≡ true → spaced t ≡ true → (n ≡ 1 → ⊥) → fieldOf n o t ≡ 0 → ⊥
+some-field n o t differ a b c r =
+    let x = both-true (o .ended) (fullParts 8 (partsOf (o .text))) a in
+    let y = both-true (t .ended) (fullParts 8 (partsOf (t .text))) b in
+    let l : length (partsOf (o .text)) ≡ length (partsOf (t .text)) = full-count 8 (partsOf (o .text)) (x .1) ∙ sym (full-count 8 (partsOf (t .text)) (y .1)) in
+    let z : fieldFrom 1 (partsOf (o .text)) (partsOf (t .text)) ≡ 0 = rw (ne-eqb n 1 c, b) at r in
+    differ (line-by (parts-tell (o .text) (t .text) (parts-equal (partsOf (o .text)) (partsOf (t .text)) 1 (omega arith) l z)) (x .0 ∙ sym (y .0)))
+
 cons-by : {o t : Line} {os ts : List Line} → o ≡ t → os ≡ ts → o ∷ os ≡ t ∷ ts
 cons-by e f = rw (e, f)
+
+above : (f : ℕ) → (f ≡ 0 → ⊥) → 0 < f
+above zero n = absurd (n refl)
+above (suc f) n = omega arith
 
 -- where two lines differ
 named-by : (m : ℕ) (o t : Line) (os ts : List Line) (u : Bool) → sameLine o t ≡ u → ((n f : ℕ) → differFrom (m + 1) os ts ≡ Differs n f → LineNamed (m + 1) os ts n f) → (n f : ℕ) → differFrom m (o ∷ os) (t ∷ ts) ≡ Differs n f → LineNamed m (o ∷ os) (t ∷ ts) n f
@@ -144,14 +189,16 @@ named-by m o t os ts false e g n f r =
     let d : Differs m (fieldOf m o t) ≡ Differs n f = rw e at r in
     let a : m ≡ n = cc in
     let b : fieldOf m o t ≡ f = cc in
+    let differ : o ≡ t → ⊥ = λ z. true→T (sym e ∙ (ap (λ (x : Line). sameLine o x) (sym z) ∙ same-line o)) in
     record {
       before = zero;
       line = omega arith;
       same = refl;
       differs = (
-        λ z. true→T (sym e ∙ (ap (λ (x : Line). sameLine o x) (sym z) ∙ same-line o)),
+        differ,
         λ z. let y = eq-eqb m 1 (a ∙ z) in sym (rw y at b),
         λ h. field-by m o t (eqb m 1) (spaced t) refl refl f b h,
+        λ x y c. above f (λ z. some-field m o t differ x y (λ k. c (sym a ∙ k)) (b ∙ z)),
       );
     }
 
@@ -180,16 +227,19 @@ all-equal (o ∷ os) (t ∷ ts) m r =
     equal-by m o t os ts (sameLine o t) refl (λ q. all-equal os ts (m + 1) q) r
 
 -- "accept exactly the listing our runner would print"
-pub same-only : (ours theirs : List ℕ) → differenceOf ours theirs ≡ Same → ours ≡ theirs
+same-only : (ours theirs : List ℕ) → differenceOf ours theirs ≡ Same → ours ≡ theirs
 unfolding differenceOf
 same-only ours theirs r =
     sym (together-cut ours) ∙ (ap together (all-equal (cut ours) (cut theirs) 1 r) ∙ together-cut theirs)
 
-pub same-if : (ours theirs : List ℕ) → ours ≡ theirs → differenceOf ours theirs ≡ Same
+same-if : (ours theirs : List ℕ) → ours ≡ theirs → differenceOf ours theirs ≡ Same
 unfolding differenceOf
 same-if ours theirs e = rw e (all-same 1 (cut theirs))
 
 -- "and otherwise name the first line and field that differs"
-pub named-differs : (ours theirs : List ℕ) (n f : ℕ) → differenceOf ours theirs ≡ Differs n f → Named ours theirs n f
+named-differs : (ours theirs : List ℕ) (n f : ℕ) → differenceOf ours theirs ≡ Differs n f → Named ours theirs n f
 unfolding differenceOf
 named-differs ours theirs n f r = line-named (cut ours) (cut theirs) 1 n f r
+
+pub difference-tells : DifferenceTells
+difference-tells ours theirs = record { same-only = same-only ours theirs; same-if = same-if ours theirs; names = named-differs ours theirs }

@@ -66,18 +66,24 @@ pub record Bodied (text : List ℕ) : Type 0 where
 joined-so : (r f c s : List ℕ) → r ++ (f ++ ((c ++ (s ++ (10 ∷ []))) ++ [])) ≡ (r ++ (f ++ (c ++ s))) ++ (10 ∷ [])
 joined-so r f c s = simp (append-assoc, append-nil)
 
-step-bodied : (m : Core) (cycles stop : ℕ) → Bodied (stepLine m cycles stop)
+-- a step's line without its LF
+abbrev pub stepBody : Core → ℕ → ℕ → List ℕ
+stepBody m cycles stop = registersText (m .pc) (m .regs) (m .ptrs .sp) ++ (column (flagsText (m .regs)) ++ (column (decimal cycles) ++ inBase 10 2 stop))
+
+pub step-ended : (m : Core) (cycles stop : ℕ) → stepLine m cycles stop ≡ stepBody m cycles stop ++ (10 ∷ [])
 unfolding stepLine
-step-bodied m cycles stop =
+step-ended m cycles stop = joined-so (registersText (m .pc) (m .regs) (m .ptrs .sp)) (column (flagsText (m .regs))) (column (decimal cycles)) (inBase 10 2 stop)
+
+pub step-alone : (m : Core) (cycles stop : ℕ) → plain (stepBody m cycles stop) ≡ true
+step-alone m cycles stop =
     let r = registersText (m .pc) (m .regs) (m .ptrs .sp) in
     let f = column (flagsText (m .regs)) in
     let c = column (decimal cycles) in
     let s = inBase 10 2 stop in
-    record {
-      body = r ++ (f ++ (c ++ s));
-      ended = joined-so r f c s;
-      alone = plain-append r (f ++ (c ++ s)) (plain-registers (m .pc) (m .regs) (m .ptrs .sp)) (plain-append f (c ++ s) (plain-flags (m .regs)) (plain-append c s (plain-column 10 (placesOf cycles) cycles) (plain-number 10 2 stop)));
-    }
+    plain-append r (f ++ (c ++ s)) (plain-registers (m .pc) (m .regs) (m .ptrs .sp)) (plain-append f (c ++ s) (plain-flags (m .regs)) (plain-append c s (plain-column 10 (placesOf cycles) cycles) (plain-number 10 2 stop)))
+
+step-bodied : (m : Core) (cycles stop : ℕ) → Bodied (stepLine m cycles stop)
+step-bodied m cycles stop = record { body = stepBody m cycles stop; ended = step-ended m cycles stop; alone = step-alone m cycles stop }
 
 refused-bodied : Bodied (refusedLine 3)
 unfolding inBase digit

@@ -1,3 +1,4 @@
 pub mod Compared
 pub mod Progress
 pub mod Session
+pub mod Exactly

@@ -4,14 +4,19 @@ use mathlib.Core.Path.{_≡_}
 use mathlib.Core.Bool.{Bool, true, false}
 use mathlib.Core.List.{List, [], _++_}
 use lib.ListN.{length, take, drop}
+use Rattle.laws.specs.Writing.{Wrote}
+use Rattle.device.specs.Device.{imageSize, romOf}
 use Rattle.device.specs.declared.Device.{Device}
+use Rattle.machine_start.specs.Start.{freshMachine}
+use Rattle.text_runner.specs.Lines.{header}
 use Rattle.text_script.specs.Script.{upTo}
 use Rattle.compare_lines.specs.Left.{leftOf, Hears}
 use Rattle.compare_lines.specs.declared.Compared.{Compared}
 use Rattle.compare_lines.specs.declared.Compared.the-variants.{NotAFrame}
 use Rattle.compare_lines.specs.declared.Heard.{Heard}
 use Rattle.compare_lines.specs.declared.Phase.{Phase}
-use Rattle.compare_listing.specs.Progress.{Lasts, Goes}
+use Rattle.compare_listing.specs.Compared.{comparedOf}
+use Rattle.compare_listing.specs.Progress.{begun, Lasts, Goes}
 use Rattle.compare_listing.specs.declared.Progress.{Progress}
 use Rattle.compare_listing.specs.declared.Gone.{Gone}
 
@@ -25,3 +30,9 @@ pub data Session (d : Device) (rom : ℕ → ℕ → ℕ) (a : Compared) : Progr
   goes : {p : Progress} {ram ours ram' ours' : List ℕ} (script more listing theirs : List ℕ) {last : Bool} {r : Gone} → Goes d rom p ram ours script listing last r ram' ours' → (last ≡ true → theirs ≡ []) → Session d rom a (r .progress) ram' ours' (drop (r .script) script ++ more) (drop (r .listing) listing ++ theirs) → Session d rom a p ram ours (script ++ more) (listing ++ theirs)
   refused : {p q : Progress} {ram ours ram' ours' script listing : List ℕ} → Lasts d rom p ram ours script q ram' ours' → (p .ended ≡ false → upTo script ≡ length script) → q .bad ≡ true → a ≡ NotAFrame → Session d rom a p ram ours script listing
   ends : {p q : Progress} {ram ours ram' ours' script listing : List ℕ} → Lasts d rom p ram ours script q ram' ours' → (p .ended ≡ false → upTo script ≡ length script) → q .bad ≡ false → Concludes (q .line) (take (q .size) ours') a (q .phase) listing → Session d rom a p ram ours script listing
+
+-- for every cutting of script and listing into parts the answer at the end is that of the definition on the whole texts: from the fresh record and the header, which stands in our buffer
+abbrev pub AnyCutting : Type 0
+AnyCutting =
+    (d : Device) (image script listing before ours : List ℕ) (size : ℕ) (a : Compared) → Wrote before ours 0 size header → length image ≡ imageSize d
+    → Session d (romOf image) a (begun (freshMachine d .core) size) (freshMachine d .ram) ours script listing → comparedOf d image script listing ≡ a

@@ -14,7 +14,7 @@ use Rattle.sound_generator.specs.Answers.{answered, refused}
 use Rattle.sound_generator.specs.declared.Sound.{Sound}
 use Rattle.sound_generator.specs.declared.Answer.{Answer}
 use Rattle.sound_generator.proofs.Ranges.{within, tested}
-use Rattle.sound_advance.specs.Advance.{runs, counted, toggled, pulse, pulses, most-pulses, zeroWhileOn, advancedBy}
+use Rattle.sound_advance.specs.Advance.{runs, counted, toggled, pulse, pulses, most-pulses, zeroWhileOn, advancedBy, AdvancingAdds}
 
 -- what holds of the state, and after a pulse counted or a toggle, holds after a pulse
 after-pulse : (P : Sound → Type 0) (s : Sound) → P s → (s .count < s .tf → P (counted s)) → P (toggled s) → P (pulse s)
@@ -71,18 +71,14 @@ sum-by a b s true false h e f =
     let kept = tested (pulses-in-ranges a s (within e)) in
     rw (goes a s e (omega arith) f, goes b (pulses a s) kept (omega arith) (same-zero a s ∙ f), goes (a + b) s e h f, pulses-sum a b s)
 
--- "advancing by a and then b equals advancing by a + b when the sum is within the limit"
-pub sum : (a b : ℕ) (s : Sound) → a + b ≤ most-pulses → advancedBy b (advancedBy a s .state) ≡ advancedBy (a + b) s
-sum a b s h = sum-by a b s (inRanges s) (zeroWhileOn s) h refl refl
-
 -- the first of the two answers the same number as the whole
 number-by : (a b : ℕ) (s : Sound) (t z : Bool) → a + b ≤ most-pulses → inRanges s ≡ t → zeroWhileOn s ≡ z → advancedBy a s .number ≡ advancedBy (a + b) s .number
 number-by a b s false z h e f = rw (refuses-outside a s e, refuses-outside (a + b) s e)
 number-by a b s true true h e f = rw (refuses-zero a s e (omega arith) f, refuses-zero (a + b) s e h f)
 number-by a b s true false h e f = rw (goes a s e (omega arith) f, goes (a + b) s e h f)
 
-pub sum-number : (a b : ℕ) (s : Sound) → a + b ≤ most-pulses → advancedBy a s .number ≡ advancedBy (a + b) s .number
-sum-number a b s h = number-by a b s (inRanges s) (zeroWhileOn s) h refl refl
+pub advancing-adds : AdvancingAdds
+advancing-adds a b s h = record { same = sum-by a b s (inRanges s) (zeroWhileOn s) h refl refl; number = number-by a b s (inRanges s) (zeroWhileOn s) h refl refl }
 
 -- any two answers to the same state and number of pulses are equal
 pub one-answer : (n : ℕ) (s : Sound) {r q : Answer} → r ≡ advancedBy n s → q ≡ advancedBy n s → r ≡ q

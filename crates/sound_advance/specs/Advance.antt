@@ -1,6 +1,7 @@
 -- The request of the sound pin: the state "advanced by a number of pulses of the basic frequency".
-use Prim.Native.Nat.{ℕ, zero, suc, _+_}
+use Prim.Native.Nat.{ℕ, zero, suc, _+_, _≤_}
 use mathlib.Core.Bool.{Bool, not}
+use mathlib.Core.Path.{_≡_}
 use lib.Dec.{eqb, ltb}
 use Rattle.laws.specs.Choice.{pick, both}
 use Rattle.numbers.specs.ComesBack.{record-outside-the-ranges}
@@ -51,3 +52,11 @@ advancedBy n s =
     pick (not (inRanges s)) (refused record-outside-the-ranges s)
     (pick (ltb most-pulses n) (refused pulses-over-the-limit s)
     (pick (zeroWhileOn s) (refused tf-of-zero-while-on s) (answered (pulses n s))))
+
+-- "advancing by a and then b equals advancing by a + b when the sum is within the limit": of every state, refusals included; and the first of the two answers the number of the whole
+pub record Adds (a b : ℕ) (s : Sound) : Type 0 where
+  pub same : advancedBy b (advancedBy a s .state) ≡ advancedBy (a + b) s
+  pub number : advancedBy a s .number ≡ advancedBy (a + b) s .number
+
+abbrev pub AdvancingAdds : Type 0
+AdvancingAdds = (a b : ℕ) (s : Sound) → a + b ≤ most-pulses → Adds a b s

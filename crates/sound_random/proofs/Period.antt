@@ -8,7 +8,7 @@ use lib.Dec.{T, eqb, eqb→eq, T-not}
 use borrow.Author.Tests.{eq-eqb}
 use Rattle.laws.specs.Choice.{both}
 use Rattle.laws.proofs.Computed.{at, true→T, both-left, both-right}
-use Rattle.sound_random.specs.Random.{withNext, after, Random, RepeatsAfter}
+use Rattle.sound_random.specs.Random.{withNext, after, Random, Period}
 
 -- from these bits, n more are never those of the start after any of them, and one more is
 abbrev firstBack : ℕ → ℕ → ℕ → Bool
@@ -44,7 +44,7 @@ not-before : (bits k : ℕ) → Random bits → 0 < k → k < 511 → after k bi
 not-before bits zero r g h e = not-suc-le-zero g
 not-before bits (suc k) r g h e = not-back 510 bits bits k (walk bits r) (omega arith) e
 
-pub period : (bits : ℕ) → Random bits → RepeatsAfter 511 bits
+pub period : Period
 period bits r = record { again = back 510 bits bits (walk bits r); not-earlier = λ k g h e. not-before bits k r g h e }
 
 -- after some bits they are not nine zeros either

@@ -39,3 +39,7 @@ pub record Random (bits : ℕ) : Type 0 where
 pub record RepeatsAfter (n bits : ℕ) : Type 0 where
   pub again : after n bits ≡ bits
   pub not-earlier : (k : ℕ) → 0 < k → k < n → after k bits ≡ bits → ⊥
+
+-- "Prove that the random state repeats after 511 bits and not earlier": from any nine bits but nine zeros
+abbrev pub Period : Type 0
+Period = (bits : ℕ) → Random bits → RepeatsAfter 511 bits
