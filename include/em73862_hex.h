@@ -1,7 +1,7 @@
 /* Images of the EM73862 as Intel HEX, on numbers and byte buffers.
  *
- * Every call answers 0, a refusal's number, or 255 while nothing is told yet. 1, 2, 46 and 47 change no buffer. 40 to 45 leave the image; of a text in chunks
- * they write the state and may write the work buffer.
+ * Every call answers 0, a refusal's number, or 255 where nothing is told yet, which is neither. The refusals 1, 2, 46 and 47 change no buffer;
+ * 40 to 45 leave the image, but those of a text in chunks write the state and may write the work buffer.
  * A slice is a pointer and a length; a slice of no bytes may have any pointer. No two arguments of a call overlap.
  * crates/hex_calls/specs/Calls.antt and Chunks.antt say what each call answers.
  */

@@ -11,8 +11,12 @@ use device_words::Chosen;
 use image_file::chosen_window;
 use image_file::read_image;
 use libc::STDERR_FILENO;
-use libc::STDOUT_FILENO;
 use numbers::ADDRESSES;
+use routines_bound::Greatest;
+use streams::ending_of;
+use streams::say;
+use streams::show;
+use streams::show_part;
 use text_bounder::cycles_at;
 use text_bounder::most_depth;
 use text_bounder::opened;
@@ -36,18 +40,13 @@ fn usage() {
     );
 }
 
-fn show(out: &[u8], n: usize)
-    requires { ⌜ n ≤ length (now out) ⌝ }
-{
-    io::write_all(STDOUT_FILENO, &out[..n]);
-}
-
-fn show_line(image: &[u8], p3: u8, at: u16, counted: u32)
+// Whether all of it was written, as each function here answers of what it writes.
+fn show_line(image: &[u8], p3: u8, at: u16, counted: u32) -> bool
     requires { ⌜ (8192 + 4096 * (p3 % 4) ≤ length (now image)) × (at < addresses) × (counted < 100000) ⌝ }
 {
     let mut out = io::buffer();
     let n = path_line(&mut out, 0, image, p3, at, counted);
-    show(&out, n);
+    show_part(&out, n)
 }
 
 // The longest path there can be has 65,535 places: N is at most that, and each of them takes a cycle or more.
@@ -66,24 +65,27 @@ fn address_in(path: &[u8], i: usize) -> u16
 }
 
 // The lines of N's path: it ends where its cycles come to N.
-fn list_path(image: &[u8], p3: u8, path: &[u8], most: u32)
+fn list_path(image: &[u8], p3: u8, path: &[u8], most: u32) -> bool
     requires { ⌜ (8192 + 4096 * (p3 % 4) ≤ length (now image)) × (length (now path) ≡ 131070) × (most < 65536) ⌝ }
 {
     let mut total = 0;
     let mut i = 0;
     while i < MOST_PLACES {
         if most <= total {
-            return;
+            return true;
         }
         let at = address_in(path, i);
         total += cycles_at(image, p3, at);
-        show_line(image, p3, at, total);
+        if !show_line(image, p3, at, total) {
+            return false;
+        }
         i += 1;
     }
+    true
 }
 
 // The lines of depth's path: it ends with RTI, which stands only where no call is open.
-fn list_deep(d: Device, image: &[u8], p3: u8, deep: &[u8])
+fn list_deep(d: Device, image: &[u8], p3: u8, deep: &[u8]) -> bool
     requires { ⌜ (8192 + 4096 * (p3 % 4) ≤ length (now image)) × (length (now deep) ≡ 131070) ⌝ }
 {
     let mut calls = 0;
@@ -93,108 +95,110 @@ fn list_deep(d: Device, image: &[u8], p3: u8, deep: &[u8])
         let node = node_at(d, image, p3, 2 * at as usize);
         let kind = node.kind;
         calls = opened(kind, calls);
-        show_line(image, p3, at, calls);
+        if !show_line(image, p3, at, calls) {
+            return false;
+        }
         if kind == 2 {
-            return;
+            return true;
         }
         i += 1;
     }
+    true
 }
 
 // What stands in the buffer up to a place, as a line.
-fn end_line(out: &mut [u8], end: usize)
+fn end_line(out: &mut [u8], end: usize) -> bool
     requires { ⌜ end + 1 ≤ length (now out) ⌝ }
 {
     let n = put(out, end, b'\n');
-    show(out, n);
+    show_part(out, n)
 }
 
 // An answer on a line of its own.
-fn show_answer(answer: Bounded)
+fn show_answer(answer: Bounded) -> bool
     requires { ⌜ valueAt (paperOf answer) 0 < 131072 ⌝ }
 {
     let mut out = io::buffer();
     let end = summary(&mut out, 0, answer);
-    end_line(&mut out, end);
+    end_line(&mut out, end)
 }
 
 // An answer after what is already on its line, the depth beside N.
-fn show_entry(out: &mut [u8], from: usize, answer: Bounded)
+fn show_entry(out: &mut [u8], from: usize, answer: Bounded) -> bool
     requires { ⌜ (valueAt (paperOf answer) 0 < 131072) × (valueAt (paperOf answer) 1 < 65536) × (from + 31 ≤ length (now out)) ⌝ }
 {
     let end = summary(out, from, answer);
     let Bounded::Bounds(greatest) = answer else {
-        end_line(out, end);
-        return;
+        return end_line(out, end);
     };
     let gap = put(out, end, b' ');
     let last = most_depth(out, gap, greatest.depth as u32);
-    end_line(out, last);
+    end_line(out, last)
 }
 
-fn show_depth(depth: u32)
+fn show_depth(depth: u32) -> bool
     requires { ⌜ depth < 65536 ⌝ }
 {
     let mut out = io::buffer();
     let end = most_depth(&mut out, 0, depth);
-    end_line(&mut out, end);
+    end_line(&mut out, end)
 }
 
-// The ports whose writing is excluded.
-fn guarded_words(d: Device) {
+// A row that is excluded. The ports whose writing is excluded differ.
+fn explain_excluded(d: Device) -> bool {
+    if !show(
+        b"an excluded instruction can be reached: RTI in a called routine, RET outside of one, a store to SP, an unassigned code or one that passes the end of the image, a row that sets EI or a row that writes ",
+    ) {
+        return false;
+    }
     match d {
-        Device::Em73862 => {
-            io::write_all(STDOUT_FILENO, b"P16\n");
-        }
-        Device::Em73P982 => {
-            io::write_all(STDOUT_FILENO, b"P16 or P3\n");
-        }
+        Device::Em73862 => show(b"P16\n"),
+        Device::Em73P982 => show(b"P16 or P3\n"),
     }
 }
 
-fn explain(d: Device, answer: Bounded) {
+fn explain(d: Device, answer: Bounded) -> bool {
     match answer {
-        Bounded::Recursion(_) => {
-            io::write_all(STDOUT_FILENO, b"a routine can reach a call of itself\n");
-        }
-        Bounded::Excluded(_) => {
-            io::write_all(
-                STDOUT_FILENO,
-                b"an excluded instruction can be reached: RTI in a called routine, RET outside of one, a store to SP, an unassigned code or one that passes the end of the image, a row that sets EI or a row that writes ",
-            );
-            guarded_words(d);
-        }
-        Bounded::Repeats(_) => {
-            io::write_all(
-                STDOUT_FILENO,
-                b"a repetition can be reached: a path can come back to where it was\n",
-            );
-        }
-        Bounded::TooLarge => {
-            io::write_all(STDOUT_FILENO, b"the most cycles are over 65535\n");
-        }
-        _ => {}
+        Bounded::Recursion(_) => show(b"a routine can reach a call of itself\n"),
+        Bounded::Excluded(_) => explain_excluded(d),
+        Bounded::Repeats(_) => show(
+            b"a repetition can be reached: a path can come back to where it was\n",
+        ),
+        Bounded::TooLarge => show(b"the most cycles are over 65535\n"),
+        _ => true,
     }
 }
 
-fn bound_at(d: Device, image: &[u8], p3: u8, at: u16)
+// Both paths of a bound, and the depth between them.
+fn list_both(d: Device, image: &[u8], p3: u8, bounds: Greatest, path: &[u8], deep: &[u8]) -> bool
+    requires { ⌜ (8192 + 4096 * (p3 % 4) ≤ length (now image)) × (length (now path) ≡ 131070) × (length (now deep) ≡ 131070) × (bounds .cycles < 65536) × (bounds .depth < 65536) ⌝ }
+{
+    if !list_path(image, p3, path, bounds.cycles as u32) {
+        return false;
+    }
+    if !show_depth(bounds.depth as u32) {
+        return false;
+    }
+    list_deep(d, image, p3, deep)
+}
+
+fn bound_at(d: Device, image: &[u8], p3: u8, at: u16) -> bool
     requires { ⌜ 8192 + 4096 * (p3 % 4) ≤ length (now image) ⌝ }
 {
     let mut path = [0u8; MOST_BYTES];
     let mut deep = [0u8; MOST_BYTES];
     let answer = bound(d, image, p3 as u32, at as u32, &mut path, &mut deep);
-    show_answer(answer);
+    if !show_answer(answer) {
+        return false;
+    }
     let Bounded::Bounds(greatest) = answer else {
-        explain(d, answer);
-        return;
+        return explain(d, answer);
     };
-    list_path(image, p3, &path, greatest.cycles as u32);
-    show_depth(greatest.depth as u32);
-    list_deep(d, image, p3, &deep);
+    list_both(d, image, p3, greatest, &path, &deep)
 }
 
 // The entry of the source of a latch.
-fn entry(d: Device, image: &[u8], p3: u8, at: u32, latch: u8) {
+fn entry(d: Device, image: &[u8], p3: u8, at: u32, latch: u8) -> bool {
     let mut path = [0u8; MOST_BYTES];
     let mut deep = [0u8; MOST_BYTES];
     let answer = bound(d, image, p3 as u32, at, &mut path, &mut deep);
@@ -203,57 +207,60 @@ fn entry(d: Device, image: &[u8], p3: u8, at: u32, latch: u8) {
     let gap = put(&mut out, address, b' ');
     let named = source_name(&mut out, gap, d, latch);
     let from = put(&mut out, named, b' ');
-    show_entry(&mut out, from, answer);
+    show_entry(&mut out, from, answer)
 }
 
-fn entries(d: Device, image: &[u8], p3: u8) {
-    entry(d, image, p3, 0x002, 5);
-    entry(d, image, p3, 0x006, 3);
-    entry(d, image, p3, 0x008, 2);
-    entry(d, image, p3, 0x00A, 1);
-    entry(d, image, p3, 0x00C, 0);
+fn entries(d: Device, image: &[u8], p3: u8) -> bool {
+    if !entry(d, image, p3, 0x002, 5) {
+        return false;
+    }
+    if !entry(d, image, p3, 0x006, 3) {
+        return false;
+    }
+    if !entry(d, image, p3, 0x008, 2) {
+        return false;
+    }
+    if !entry(d, image, p3, 0x00A, 1) {
+        return false;
+    }
+    entry(d, image, p3, 0x00C, 0)
 }
 
-fn bound_image(d: Device, image: &[u8], p3: u8, before: u8)
+fn bound_image(d: Device, image: &[u8], p3: u8, before: u8) -> bool
     requires { ⌜ 8192 + 4096 * (p3 % 4) ≤ length (now image) ⌝ }
 {
     let word_at = before as usize + 2;
     if os::arg_count() <= word_at {
-        entries(d, image, p3);
-        return;
+        return entries(d, image, p3);
     }
     let mut word = io::buffer();
     let n = os::arg(word_at, &mut word);
     let Address::At(at) = text_words::read_address(&word[..n]) else {
-        io::write_all(STDOUT_FILENO, b"refused 20\n");
-        return;
+        return show(b"refused 20\n");
     };
     if word_at + 1 < os::arg_count() {
         usage();
-        return;
+        return true;
     }
-    bound_at(d, image, p3, at);
+    bound_at(d, image, p3, at)
 }
 
-fn bound_chosen(c: Chosen) {
+fn bound_chosen(c: Chosen) -> bool {
     let d = c.device;
     let mut image = [0u8; 16385];
     let file = read_image(c.before as usize + 1, &mut image);
     if !file.readable {
-        io::write_all(STDOUT_FILENO, b"refused 01\n");
         usage();
-        return;
+        return show(b"refused 01\n");
     }
     let size = file.size;
     if size != image_size(d) {
-        io::write_all(STDOUT_FILENO, b"refused 01\n");
-        return;
+        return show(b"refused 01\n");
     }
     if !is_banked(d, c.p3) {
-        io::write_all(STDOUT_FILENO, b"refused 02\n");
-        return;
+        return show(b"refused 02\n");
     }
-    bound_image(d, &image[..size], c.p3 as u8, c.before);
+    bound_image(d, &image[..size], c.p3 as u8, c.before)
 }
 
 fn main() {
@@ -261,5 +268,5 @@ fn main() {
         usage();
         return;
     };
-    bound_chosen(c);
+    say(ending_of(false, bound_chosen(c)));
 }

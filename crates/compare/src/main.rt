@@ -21,6 +21,10 @@ use libc::STDERR_FILENO;
 use libc::STDOUT_FILENO;
 use machine::Ram;
 use machine_start::fresh;
+use streams::Ending;
+use streams::ending_of;
+use streams::say;
+use streams::show;
 use text_runner::header;
 ghost use mathlib.Core.Path.{_≡_};
 ghost use mathlib.Core.Bool.{true};
@@ -34,7 +38,7 @@ ghost use Rattle.compare.specs.Parts.{Within, Turned};
 // No run counts so many lines.
 const MOST_LINES: u64 = 18446744073709000000;
 
-// Which part of either buffer is still to be compared, and whether that of the listing is its last, and that of the script.
+// Which part of either buffer is still to be compared, whether that of the listing is its last, and that of the script, and whether the last read failed.
 struct Parts {
     from: usize,
     to: usize,
@@ -42,6 +46,7 @@ struct Parts {
     end: usize,
     last: bool,
     over: bool,
+    failed: bool,
 }
 
 struct After {
@@ -49,7 +54,13 @@ struct After {
     parts: Parts,
 }
 
-// The files that the words name; one that cannot be read is negative.
+// What the comparison came to, or that the listing cannot be read.
+enum Found {
+    Told(Compared),
+    NoListing,
+}
+
+// The files that the words name; one that cannot be opened is negative.
 struct Files {
     script: i32,
     listing: i32,
@@ -62,24 +73,35 @@ fn usage() {
     );
 }
 
-fn show(answer: Compared) {
+fn show_difference(line: u64, field: u8) -> bool {
+    if !show(b"differs line ") {
+        return false;
+    }
+    if !io::print_decimal(STDOUT_FILENO, line) {
+        return false;
+    }
+    if !show(b" field ") {
+        return false;
+    }
+    if !io::print_decimal(STDOUT_FILENO, field as u64) {
+        return false;
+    }
+    show(b"\n")
+}
+
+fn show_answer(answer: Compared) -> bool {
     match answer {
-        Compared::ImageOfAnotherSize => {
-            io::write_all(STDOUT_FILENO, b"refused 01\n");
-        }
-        Compared::NotAFrame => {
-            io::write_all(STDOUT_FILENO, b"refused 03\n");
-        }
-        Compared::Same => {
-            io::write_all(STDOUT_FILENO, b"same\n");
-        }
-        Compared::Differs { line, field } => {
-            io::write_all(STDOUT_FILENO, b"differs line ");
-            io::print_decimal(STDOUT_FILENO, line);
-            io::write_all(STDOUT_FILENO, b" field ");
-            io::print_decimal(STDOUT_FILENO, field as u64);
-            io::write_all(STDOUT_FILENO, b"\n");
-        }
+        Compared::ImageOfAnotherSize => show(b"refused 01\n"),
+        Compared::NotAFrame => show(b"refused 03\n"),
+        Compared::Same => show(b"same\n"),
+        Compared::Differs { line, field } => show_difference(line, field),
+    }
+}
+
+fn end_with(found: Found) -> Ending {
+    match found {
+        Found::Told(answer) => ending_of(false, show_answer(answer)),
+        Found::NoListing => Ending::CannotRead,
     }
 }
 
@@ -89,19 +111,20 @@ fn open_word(word: usize) -> i32 {
     os::open_read(&path[..n])
 }
 
-// More of the listing, where all of it is used; a listing that cannot be read is an empty one.
+// More of the listing, where all of it is used.
 fn more_listing(file: i32, listing: &mut [u8], p: Parts) -> Parts
     requires { ⌜ (p .from ≤ p .to) ⌝ }
     ensures { λ r. ⌜ (r .from ≡ p .from) × (r .to ≡ p .to) × (r .at ≤ r .end) × (r .end ≤ length (now (listing .entry))) ⌝ }
 {
-    let n = read_behind(file, listing, 0);
+    let got = read_behind(file, listing, 0);
     Parts {
         from: p.from,
         to: p.to,
         at: 0,
-        end: n,
-        last: n == 0,
+        end: got.count,
+        last: got.count == 0,
         over: p.over,
+        failed: got.failed,
     }
 }
 
@@ -113,14 +136,15 @@ fn more_script(file: i32, script: &mut [u8], p: Parts) -> Parts
     let from = p.from;
     let kept = p.to - from;
     to_front(script, from, kept);
-    let n = read_behind(file, script, kept);
+    let got = read_behind(file, script, kept);
     Parts {
         from: 0,
-        to: kept + n,
+        to: kept + got.count,
         at: p.at,
         end: p.end,
         last: p.last,
-        over: n == 0,
+        over: got.count == 0,
+        failed: got.failed,
     }
 }
 
@@ -161,18 +185,13 @@ fn turn(
             end: end,
             last: parts.last,
             over: parts.over,
+            failed: false,
         },
     }
 }
 
 // The rest of the listing, after our last line.
-fn rest_of_listing(
-    p: Progress,
-    ours: &[u8],
-    file: i32,
-    listing: &mut [u8],
-    parts: Parts,
-) -> Compared
+fn rest_of_listing(p: Progress, ours: &[u8], file: i32, listing: &mut [u8], parts: Parts) -> Found
     requires { ⌜ (p .size ≤ length (now ours)) × (OneLine (take (p .size) (now ours))) × (Placed (p .phase) (p .size)) × (p .line < 18446744073709551600) × (parts .at ≤ parts .end) × (parts .end ≤ length (now listing)) ⌝ }
 {
     let size = p.size;
@@ -185,16 +204,20 @@ fn rest_of_listing(
         let heard = hear(phase, line, &ours[..size], &listing[at..end]);
         phase = heard.phase;
         if heard.used < end - at {
-            return verdict(phase, line, size, true);
+            return Found::Told(verdict(phase, line, size, true));
         }
-        end = read_behind(file, listing, 0);
+        let got = read_behind(file, listing, 0);
+        if got.failed {
+            return Found::NoListing;
+        }
+        end = got.count;
         at = 0;
         if end == 0 {
-            return verdict(phase, line, size, false);
+            return Found::Told(verdict(phase, line, size, false));
         }
         turns -= 1;
     }
-    Compared::Same
+    Found::NoListing
 }
 
 // The script has ended, or ours has.
@@ -208,14 +231,14 @@ fn conclude(
     file: i32,
     listing: &mut [u8],
     parts: Parts,
-) -> Compared
+) -> Found
     requires { ⌜ (length (now image) ≡ imageSize d) × (Sound d p (now ram) (now ours)) × (settled (p .phase) (p .size) ≡ true) × (p .line < 18446744073709040000) × (Within (length (now script)) (length (now listing)) parts) × (length (now script) ≤ 65536) ⌝ }
 {
     let from = parts.from;
     let to = parts.to;
     let end = last_line(d, image, p, ram, ours, &script[from..to]);
     if end.bad {
-        return Compared::NotAFrame;
+        return Found::Told(Compared::NotAFrame);
     }
     rest_of_listing(end, ours, file, listing, parts)
 }
@@ -255,7 +278,16 @@ fn no_parts() -> Parts
         end: 0,
         last: false,
         over: false,
+        failed: false,
     }
+}
+
+// A script that cannot be read is no frame; else it is the listing.
+fn unreadable(script: bool) -> Found {
+    if script {
+        return Found::Told(Compared::NotAFrame);
+    }
+    Found::NoListing
 }
 
 // A proved loop has to end, and nothing says that a script does: no run uses up the turns.
@@ -268,7 +300,7 @@ fn session(
     files: Files,
     script: &mut [u8],
     listing: &mut [u8],
-) -> Compared
+) -> Found
     requires { ⌜ (length (now image) ≡ imageSize d) × (Sound d p (now ram) (now ours)) × (length (now script) ≤ 65536) ⌝ }
 {
     let mut present = p;
@@ -276,7 +308,7 @@ fn session(
     let mut turns = u64::MAX;
     while turns > 0 {
         if present.line > MOST_LINES {
-            return Compared::NotAFrame;
+            return Found::NoListing;
         }
         let t = turn(d, image, present, ram, ours, script, listing, parts);
         present = t.progress;
@@ -299,16 +331,22 @@ fn session(
             }
         }
         parts = refill(ready, files, script, listing, parts);
+        if parts.failed {
+            return unreadable(ready);
+        }
         turns -= 1;
     }
-    Compared::NotAFrame
+    Found::NoListing
 }
 
-fn run(d: Device, image: &[u8], files: Files) -> Compared
+fn run(d: Device, image: &[u8], files: Files) -> Found
     requires { ⌜ length (now image) ≡ imageSize d ⌝ }
 {
     if files.script < 0 {
-        return Compared::NotAFrame;
+        return Found::Told(Compared::NotAFrame);
+    }
+    if files.listing < 0 {
+        return Found::NoListing;
     }
     let mut script = io::large_buffer();
     let mut listing = io::large_buffer();
@@ -331,25 +369,24 @@ fn run(d: Device, image: &[u8], files: Files) -> Compared
 }
 
 // The buffer has a byte more than the largest image, so that a file that is too long shows.
-fn run_chosen(c: Chosen) {
+fn run_chosen(c: Chosen) -> Ending {
     let d = c.device;
     let word = c.before as usize + 1;
     if os::arg_count() != word + 3 {
         usage();
-        return;
+        return Ending::Done;
     }
     let mut image = [0u8; 16385];
     let file = read_image(word, &mut image);
     let size = file.size;
     if size != image_size(d) {
-        show(Compared::ImageOfAnotherSize);
-        return;
+        return end_with(Found::Told(Compared::ImageOfAnotherSize));
     }
     let files = Files {
         script: open_word(word + 1),
         listing: open_word(word + 2),
     };
-    show(run(d, &image[..size], files));
+    end_with(run(d, &image[..size], files))
 }
 
 fn main() {
@@ -357,5 +394,5 @@ fn main() {
         usage();
         return;
     };
-    run_chosen(c);
+    say(run_chosen(c));
 }

@@ -1,4 +1,5 @@
 // fromhex: the image of the Intel HEX on standard input, which is read in parts; of the text one line is held.
+use file_part::read_behind;
 use hex_chunks::HexChunks;
 use hex_chunks::Told;
 use hex_chunks::feed;
@@ -6,7 +7,12 @@ use hex_chunks::finish;
 use hex_chunks::start;
 use libc::STDERR_FILENO;
 use libc::STDIN_FILENO;
-use libc::STDOUT_FILENO;
+use streams::Ending;
+use streams::ending_of;
+use streams::say;
+use streams::show;
+ghost use Prim.Native.Nat.{_<_};
+ghost use lib.ListN.{length};
 
 fn usage() {
     io::write_all(STDERR_FILENO, b"usage: fromhex < TEXT\n");
@@ -20,38 +26,44 @@ fn refuse(number: u8, line: usize) {
     io::write_all(STDERR_FILENO, b"\n");
 }
 
-fn end(state: HexChunks, work: &mut [u8], image: &mut [u8]) {
+fn end(state: HexChunks, work: &mut [u8], image: &mut [u8]) -> Ending {
     let last = finish(state, work, image);
     let told = last.told;
     match told {
-        Told::Good => {
-            io::write_all(STDOUT_FILENO, image);
+        Told::Good => ending_of(false, show(image)),
+        Told::Refused { number, line } => {
+            refuse(number, line);
+            Ending::Done
         }
-        Told::Refused { number, line } => refuse(number, line),
-        Told::More => {}
+        Told::More => Ending::Done,
     }
 }
 
 // A proved loop has to end, and nothing says that a text does: no run uses up the turns.
-fn session(part: &mut [u8], work: &mut [u8], image: &mut [u8]) {
+fn session(part: &mut [u8], work: &mut [u8], image: &mut [u8]) -> Ending
+    requires { ⌜ 0 < length (now part) ⌝ }
+{
     let mut state = start();
     let mut turns = u64::MAX;
     while turns > 0 {
-        let got = libc::read(STDIN_FILENO, part);
-        let n = io::count(got, part);
+        let got = read_behind(STDIN_FILENO, part, 0);
+        if got.failed {
+            return Ending::CannotRead;
+        }
+        let n = got.count;
         if n == 0 {
-            end(state, work, image);
-            return;
+            return end(state, work, image);
         }
         let fed = feed(state, &part[..n], work, image);
         let told = fed.told;
         if let Told::Refused { number, line } = told {
             refuse(number, line);
-            return;
+            return Ending::Done;
         }
         state = fed.state;
         turns -= 1;
     }
+    Ending::Done
 }
 
 fn main() {
@@ -62,5 +74,5 @@ fn main() {
     let mut part = io::large_buffer();
     let mut work = [0u8; 9216];
     let mut image = [0u8; 8192];
-    session(&mut part, &mut work, &mut image);
+    say(session(&mut part, &mut work, &mut image));
 }

@@ -2,15 +2,16 @@
 use device_words::Choice;
 use device_words::device_words;
 use device_words::window_words;
+use file_part::fill;
 ghost use Rattle.io.specs.Counts.{Counts};
 
-// Whether the file can be read, and how many of its bytes are in the buffer.
+// Whether there is such a file, and how many of its bytes are in the buffer.
 pub struct ImageFile {
     pub readable: bool,
     pub size: usize,
 }
 
-// Reads the file that the word names. A buffer longer than an image shows that a file is too long.
+// Reads the file that the word names. A buffer longer than an image shows that a file is too long. Where a read fails nothing counts, so that it is an image of no bytes.
 pub fn read_image(word: usize, buffer: &mut [u8]) -> ImageFile
     ensures { λ r. ⌜ Counts (r .size) (now (buffer .exit)) ⌝ }
 {
@@ -23,11 +24,17 @@ pub fn read_image(word: usize, buffer: &mut [u8]) -> ImageFile
             size: 0,
         };
     }
-    let size = io::read_full(file, buffer);
+    let got = fill(file, buffer);
     libc::close(file);
+    if got.failed {
+        return ImageFile {
+            readable: true,
+            size: 0,
+        };
+    }
     ImageFile {
         readable: true,
-        size: size,
+        size: got.count,
     }
 }
 

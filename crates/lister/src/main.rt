@@ -7,7 +7,10 @@ use device_words::Chosen;
 use image_file::chosen_window;
 use image_file::read_image;
 use libc::STDERR_FILENO;
-use libc::STDOUT_FILENO;
+use streams::ending_of;
+use streams::say;
+use streams::show;
+use streams::show_part;
 use text_words::Address;
 use text_words::Number;
 ghost use mathlib.Core.Path.{_≡_};
@@ -29,71 +32,66 @@ fn room() -> [u8; 303107]
     [0; 303107]
 }
 
-fn list(image: &[u8], p3: u8, at: u16, count: u32)
+// Whether all of it was written, as each function here answers of what it writes.
+fn list(image: &[u8], p3: u8, at: u16, count: u32) -> bool
     requires { ⌜ (8192 + 4096 * (p3 % 4) ≤ length (now image)) × (count ≤ addresses) ⌝ }
 {
     let mut out = room();
     let n = text_lister::line::listing(&mut out, image, p3, at, count);
-    io::write_all(STDOUT_FILENO, &out[..n]);
+    show_part(&out, n)
 }
 
-fn list_from(image: &[u8], p3: u8, before: u8, at: u16)
+fn list_from(image: &[u8], p3: u8, before: u8, at: u16) -> bool
     requires { ⌜ 8192 + 4096 * (p3 % 4) ≤ length (now image) ⌝ }
 {
     let word_at = before as usize + 3;
     if os::arg_count() <= word_at {
-        list(image, p3, at, 8192);
-        return;
+        return list(image, p3, at, 8192);
     }
     let mut word = io::buffer();
     let n = os::arg(word_at, &mut word);
     let Number::Value(count) = text_words::read_number(&word[..n], 10) else {
         usage();
-        return;
+        return true;
     };
     if word_at + 1 < os::arg_count() {
         usage();
-        return;
+        return true;
     }
-    list(image, p3, at, count);
+    list(image, p3, at, count)
 }
 
-fn list_image(image: &[u8], p3: u8, before: u8)
+fn list_image(image: &[u8], p3: u8, before: u8) -> bool
     requires { ⌜ 8192 + 4096 * (p3 % 4) ≤ length (now image) ⌝ }
 {
     let word_at = before as usize + 2;
     if os::arg_count() <= word_at {
-        list(image, p3, 0, 8192);
-        return;
+        return list(image, p3, 0, 8192);
     }
     let mut word = io::buffer();
     let n = os::arg(word_at, &mut word);
     let Address::At(at) = text_words::read_address(&word[..n]) else {
-        io::write_all(STDOUT_FILENO, b"refused 20\n");
-        return;
+        return show(b"refused 20\n");
     };
-    list_from(image, p3, before, at);
+    list_from(image, p3, before, at)
 }
 
-fn list_chosen(c: Chosen) {
+fn list_chosen(c: Chosen) -> bool {
     let d = c.device;
     let mut image = [0u8; 16385];
     let file = read_image(c.before as usize + 1, &mut image);
     if !file.readable {
-        io::write_all(STDOUT_FILENO, b"refused 01\n");
         usage();
-        return;
+        return show(b"refused 01\n");
     }
     let size = file.size;
     if size != image_size(d) {
-        io::write_all(STDOUT_FILENO, b"refused 01\n");
-        return;
+        return show(b"refused 01\n");
     }
     if !is_banked(d, c.p3) {
-        io::write_all(STDOUT_FILENO, b"refused 02\n");
-        return;
+        return show(b"refused 02\n");
     }
-    list_image(&image[..size], c.p3 as u8, c.before);
+    list_image(&image[..size], c.p3 as u8, c.before)
 }
 
 fn main() {
@@ -101,5 +99,5 @@ fn main() {
         usage();
         return;
     };
-    list_chosen(c);
+    say(ending_of(false, list_chosen(c)));
 }

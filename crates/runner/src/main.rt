@@ -13,24 +13,18 @@ use listing::tell;
 use machine::Core;
 use machine::Ram;
 use machine_start::fresh;
-use script_input::refill;
-use script_input::show;
+use script_input::go_on;
+use streams::Ending;
+use streams::ending_of;
+use streams::say;
+use streams::show;
+use streams::show_part;
 use text_runner::header;
-use text_runner::refused;
 ghost use mathlib.Core.Path.{_≡_};
-ghost use mathlib.Core.Bool.{true, false};
-ghost use Prim.Native.Nat.{_≤_};
+ghost use Prim.Native.Nat.{_<_, _≤_};
 ghost use lib.ListN.{length};
-ghost use Rattle.device.specs.Device.{imageSize};
+ghost use Rattle.device.specs.Device.{imageSize, frameSize};
 ghost use Rattle.machine.specs.Valid.{ValidCore, Nibbles};
-
-// After a turn: the record but for RAM, and which part of the buffer is still to be told.
-struct Rest {
-    core: Core,
-    ended: bool,
-    from: usize,
-    to: usize,
-}
 
 fn usage() {
     io::write_all(
@@ -39,154 +33,93 @@ fn usage() {
     );
 }
 
-fn refuse_image() {
-    let mut out = io::buffer();
-    let n = refused(&mut out, 0, 1);
-    show(&out, n);
+fn refuse_image() -> bool {
+    show(b"refused 01\n")
 }
 
 // What no LF ends: the last line, if there is one, or the beginning of a line that is too long.
-fn tell_last(d: Device, image: &[u8], m: Core, ram: &mut Ram, line: &[u8], out: &mut [u8])
+fn tell_last(d: Device, image: &[u8], m: Core, ram: &mut Ram, line: &[u8], out: &mut [u8]) -> Ending
     requires { ⌜ (length (now image) ≡ imageSize d) × (ValidCore d m) × (Nibbles (now ram)) × (26 ≤ length (now out)) ⌝ }
 {
     if line.len() == 0 {
-        return;
+        return Ending::Done;
     }
     let told = tell(d, image, m, ram, line, out, 0);
-    show(out, told.at);
+    ending_of(false, show_part(out, told.at))
 }
 
-// After the last turn.
-fn over(m: Core) -> Rest
-    ensures { λ r. ⌜ r ≡ record { core = m; ended = true; from = 0; to = 0 } ⌝ }
-{
-    Rest {
-        core: m,
-        ended: true,
-        from: 0,
-        to: 0,
-    }
-}
-
-// No whole line is left in the part: more of the script, or the last line.
-fn more(
+// The lines of the script that are whole in the part and find room in the output, then more of the script. A proved loop has to end, and nothing says that a script does: no run uses up the turns.
+fn session(
     d: Device,
     image: &[u8],
     m: Core,
     ram: &mut Ram,
     part: &mut [u8],
-    from: usize,
-    to: usize,
     out: &mut [u8],
-) -> Rest
-    requires { ⌜ (length (now image) ≡ imageSize d) × (ValidCore d m) × (Nibbles (now ram)) × (from ≤ to) × (to ≤ length (now part)) × (26 ≤ length (now out)) ⌝ }
-    ensures { λ r. ⌜ (r .ended ≡ false → (ValidCore d (r .core)) × (Nibbles (now (ram .exit)))) × (r .from ≤ r .to) × (r .to ≤ length (now (part .entry))) ⌝ }
-{
-    let r = refill(frame_size(d), part, from, to);
-    let count = r.count;
-    if r.last {
-        tell_last(d, image, m, ram, &part[..count], out);
-        return over(m);
-    }
-    Rest {
-        core: m,
-        ended: false,
-        from: 0,
-        to: count,
-    }
-}
-
-// The whole lines that are there and find room in the output; where there is none, more of the script.
-fn turn(
-    d: Device,
-    image: &[u8],
-    m: Core,
-    ram: &mut Ram,
-    part: &mut [u8],
-    from: usize,
-    to: usize,
-    out: &mut [u8],
-) -> Rest
-    requires { ⌜ (length (now image) ≡ imageSize d) × (ValidCore d m) × (Nibbles (now ram)) × (from ≤ to) × (to ≤ length (now part)) × (26 ≤ length (now out)) ⌝ }
-    ensures { λ r. ⌜ (r .ended ≡ false → (ValidCore d (r .core)) × (Nibbles (now (ram .exit)))) × (r .from ≤ r .to) × (r .to ≤ length (now (part .entry))) ⌝ }
-{
-    let fed = feed(d, image, m, ram, &part[from..to], out, 0);
-    show(out, fed.at);
-    let core = fed.core;
-    let next = from + fed.used;
-    if fed.ended {
-        return Rest {
-            core: core,
-            ended: true,
-            from: next,
-            to: to,
-        };
-    }
-    if next == from {
-        return more(d, image, core, ram, part, from, to, out);
-    }
-    Rest {
-        core: core,
-        ended: false,
-        from: next,
-        to: to,
-    }
-}
-
-// A proved loop has to end, and nothing says that a script does: no run uses up the turns.
-fn session(d: Device, image: &[u8], m: Core, ram: &mut Ram, part: &mut [u8], out: &mut [u8])
-    requires { ⌜ (length (now image) ≡ imageSize d) × (ValidCore d m) × (Nibbles (now ram)) × (26 ≤ length (now out)) ⌝ }
+) -> Ending
+    requires { ⌜ (length (now image) ≡ imageSize d) × (ValidCore d m) × (Nibbles (now ram)) × (frameSize d < length (now part)) × (26 ≤ length (now out)) ⌝ }
 {
     let mut core = m;
     let mut from = 0;
     let mut to = 0;
     let mut turns = u64::MAX;
     while turns > 0 {
-        let rest = turn(d, image, core, ram, part, from, to, out);
-        if rest.ended {
-            return;
+        let fed = feed(d, image, core, ram, &part[from..to], out, 0);
+        if !show_part(out, fed.at) {
+            return Ending::CannotWrite;
         }
-        core = rest.core;
-        from = rest.from;
-        to = rest.to;
+        if fed.ended {
+            return Ending::Done;
+        }
+        core = fed.core;
+        let span = go_on(frame_size(d), part, from, to, fed.used);
+        from = span.from;
+        to = span.to;
+        if span.failed {
+            return Ending::CannotRead;
+        }
+        if span.last {
+            return tell_last(d, image, core, ram, &part[from..to], out);
+        }
         turns -= 1;
     }
+    Ending::Done
 }
 
-fn run(d: Device, image: &[u8])
+fn run(d: Device, image: &[u8]) -> Ending
     requires { ⌜ length (now image) ≡ imageSize d ⌝ }
 {
     let mut part = io::large_buffer();
     let mut out = io::large_buffer();
     let n = header(&mut out, 0);
-    show(&out, n);
+    if !show_part(&out, n) {
+        return Ending::CannotWrite;
+    }
     let m = fresh(d);
     let core = m.core;
     let mut ram = m.ram;
-    session(d, image, core, &mut ram, &mut part, &mut out);
+    session(d, image, core, &mut ram, &mut part, &mut out)
 }
 
 // The buffer has a byte more than the largest image, so that a file that is too long shows.
-fn run_chosen(c: Chosen) {
+fn run_chosen(c: Chosen) -> Ending {
     let d = c.device;
     let word = c.before as usize + 1;
     let mut image = [0u8; 16385];
     let file = read_image(word, &mut image);
     if !file.readable {
-        refuse_image();
         usage();
-        return;
+        return ending_of(false, refuse_image());
     }
     let size = file.size;
     if size != image_size(d) {
-        refuse_image();
-        return;
+        return ending_of(false, refuse_image());
     }
     if word + 1 < os::arg_count() {
         usage();
-        return;
+        return Ending::Done;
     }
-    run(d, &image[..size]);
+    run(d, &image[..size])
 }
 
 fn main() {
@@ -194,5 +127,5 @@ fn main() {
         usage();
         return;
     };
-    run_chosen(c);
+    say(run_chosen(c));
 }

@@ -11,26 +11,27 @@ use libc::STDERR_FILENO;
 use machine::Core;
 use machine::Ram;
 use machine_start::fresh;
-use script_input::refill;
-use script_input::show;
-use text_runner::refused;
+use script_input::go_on;
+use streams::Ending;
+use streams::ending_of;
+use streams::say;
+use streams::show;
+use streams::show_part;
 use text_script::line_end;
 use text_why::step_word;
 use text_why::tell;
 ghost use mathlib.Core.Path.{_≡_};
-ghost use mathlib.Core.Bool.{true, false};
-ghost use Prim.Native.Nat.{_≤_};
+ghost use Prim.Native.Nat.{_<_, _≤_};
 ghost use lib.ListN.{length};
-ghost use Rattle.device.specs.Device.{imageSize};
+ghost use Rattle.device.specs.Device.{imageSize, frameSize};
 ghost use Rattle.machine.specs.Valid.{ValidCore, Nibbles};
 
-// After a turn: the record but for RAM, whether a line of the script was answered, and which part of the buffer is still to be told.
-struct Rest {
+// The record but for RAM after a line of the script, whether it is the last, how many characters it had, and whether its answer was written.
+struct Turn {
     core: Core,
-    told: bool,
     ended: bool,
-    from: usize,
-    to: usize,
+    used: usize,
+    written: bool,
 }
 
 fn usage() {
@@ -40,10 +41,8 @@ fn usage() {
     );
 }
 
-fn refuse_image() {
-    let mut out = io::buffer();
-    let n = refused(&mut out, 0, 1);
-    show(&out, n);
+fn refuse_image() -> bool {
+    show(b"refused 01\n")
 }
 
 // What no LF ends: the last line, if there is one, or the beginning of a line that is too long.
@@ -56,87 +55,54 @@ fn tell_last(
     ram: &mut Ram,
     line: &[u8],
     out: &mut [u8],
-)
+) -> Ending
     requires { ⌜ (length (now image) ≡ imageSize d) × (ValidCore d m) × (Nibbles (now ram)) × (76 ≤ length (now out)) ⌝ }
 {
     if line.len() == 0 {
-        return;
+        return Ending::Done;
     }
     let told = tell(d, image, only, step, m, ram, line, out, 0);
-    show(out, told.at);
+    ending_of(false, show_part(out, told.at))
 }
 
-// No whole line is left in the part: more of the script, or the last line.
-fn more(
+// The first line of a part of the script, where it is whole.
+fn tell_first(
     d: Device,
     image: &[u8],
     only: u64,
     step: u64,
     m: Core,
     ram: &mut Ram,
-    part: &mut [u8],
-    from: usize,
-    to: usize,
+    part: &[u8],
     out: &mut [u8],
-) -> Rest
-    requires { ⌜ (length (now image) ≡ imageSize d) × (ValidCore d m) × (Nibbles (now ram)) × (from ≤ to) × (to ≤ length (now part)) × (76 ≤ length (now out)) ⌝ }
-    ensures { λ r. ⌜ (r .ended ≡ false → (ValidCore d (r .core)) × (Nibbles (now (ram .exit)))) × (r .from ≤ r .to) × (r .to ≤ length (now (part .entry))) ⌝ }
+) -> Turn
+    requires { ⌜ (length (now image) ≡ imageSize d) × (ValidCore d m) × (Nibbles (now ram)) × (76 ≤ length (now out)) ⌝ }
+    ensures { λ r. ⌜ (ValidCore d (r .core)) × (Nibbles (now (ram .exit))) × (r .used ≤ length (now (part .entry))) ⌝ }
 {
-    let r = refill(frame_size(d), part, from, to);
-    let count = r.count;
-    if r.last {
-        tell_last(d, image, only, step, m, ram, &part[..count], out);
-        return Rest {
+    let end = line_end(part, 0);
+    if end == part.len() {
+        return Turn {
             core: m,
-            told: true,
-            ended: true,
-            from: 0,
-            to: 0,
+            ended: false,
+            used: 0,
+            written: true,
         };
     }
-    Rest {
-        core: m,
-        told: false,
-        ended: false,
-        from: 0,
-        to: count,
-    }
-}
-
-// The next line of the script, where it is whole in the part.
-fn turn(
-    d: Device,
-    image: &[u8],
-    only: u64,
-    step: u64,
-    m: Core,
-    ram: &mut Ram,
-    part: &mut [u8],
-    from: usize,
-    to: usize,
-    out: &mut [u8],
-) -> Rest
-    requires { ⌜ (length (now image) ≡ imageSize d) × (ValidCore d m) × (Nibbles (now ram)) × (from ≤ to) × (to ≤ length (now part)) × (76 ≤ length (now out)) ⌝ }
-    ensures { λ r. ⌜ (r .ended ≡ false → (ValidCore d (r .core)) × (Nibbles (now (ram .exit)))) × (r .from ≤ r .to) × (r .to ≤ length (now (part .entry))) ⌝ }
-{
-    let end = line_end(&part[..to], from);
-    if end == to {
-        return more(d, image, only, step, m, ram, part, from, to, out);
-    }
-    let told = tell(d, image, only, step, m, ram, &part[from..end], out, 0);
-    show(out, told.at);
+    let told = tell(d, image, only, step, m, ram, &part[..end], out, 0);
     let core = told.core;
-    Rest {
+    Turn {
         core: core,
-        told: true,
         ended: told.ended,
-        from: end + 1,
-        to: to,
+        used: end + 1,
+        written: show_part(out, told.at),
     }
 }
 
-// The number of the step after that one; no run makes so many that it stays.
-fn after(step: u64) -> u64 {
+// The number of the step after a turn that told so many characters; no run makes so many that it stays.
+fn after(step: u64, used: usize) -> u64 {
+    if used == 0 {
+        return step;
+    }
     if step == u64::MAX {
         return step;
     }
@@ -152,8 +118,8 @@ fn session(
     ram: &mut Ram,
     part: &mut [u8],
     out: &mut [u8],
-)
-    requires { ⌜ (length (now image) ≡ imageSize d) × (ValidCore d m) × (Nibbles (now ram)) × (76 ≤ length (now out)) ⌝ }
+) -> Ending
+    requires { ⌜ (length (now image) ≡ imageSize d) × (ValidCore d m) × (Nibbles (now ram)) × (frameSize d < length (now part)) × (76 ≤ length (now out)) ⌝ }
 {
     let mut core = m;
     let mut step = 1;
@@ -161,22 +127,31 @@ fn session(
     let mut to = 0;
     let mut turns = u64::MAX;
     while turns > 0 {
-        let rest = turn(d, image, only, step, core, ram, part, from, to, out);
-        if rest.ended {
-            return;
+        let told = tell_first(d, image, only, step, core, ram, &part[from..to], out);
+        if !told.written {
+            return Ending::CannotWrite;
         }
-        if rest.told {
-            step = after(step);
+        if told.ended {
+            return Ending::Done;
         }
-        core = rest.core;
-        from = rest.from;
-        to = rest.to;
+        core = told.core;
+        step = after(step, told.used);
+        let span = go_on(frame_size(d), part, from, to, told.used);
+        from = span.from;
+        to = span.to;
+        if span.failed {
+            return Ending::CannotRead;
+        }
+        if span.last {
+            return tell_last(d, image, only, step, core, ram, &part[from..to], out);
+        }
         turns -= 1;
     }
+    Ending::Done
 }
 
 // The script from the fresh record; only is 0 where each step is asked for.
-fn ask(d: Device, image: &[u8], only: u64)
+fn ask(d: Device, image: &[u8], only: u64) -> Ending
     requires { ⌜ length (now image) ≡ imageSize d ⌝ }
 {
     let mut part = io::large_buffer();
@@ -184,48 +159,45 @@ fn ask(d: Device, image: &[u8], only: u64)
     let m = fresh(d);
     let core = m.core;
     let mut ram = m.ram;
-    session(d, image, only, core, &mut ram, &mut part, &mut out);
+    session(d, image, only, core, &mut ram, &mut part, &mut out)
 }
 
 // The step that a word names, where there is one.
-fn ask_word(d: Device, image: &[u8], at: usize)
+fn ask_word(d: Device, image: &[u8], at: usize) -> Ending
     requires { ⌜ (length (now image) ≡ imageSize d) × (at ≤ 1000) ⌝ }
 {
     if os::arg_count() <= at {
-        ask(d, image, 0);
-        return;
+        return ask(d, image, 0);
     }
     let mut word = io::buffer();
     let n = os::arg(at, &mut word);
     let only = step_word(&word[..n]);
     if only == 0 {
         usage();
-        return;
+        return Ending::Done;
     }
     if at + 1 < os::arg_count() {
         usage();
-        return;
+        return Ending::Done;
     }
-    ask(d, image, only);
+    ask(d, image, only)
 }
 
 // The buffer has a byte more than the largest image, so that a file that is too long shows.
-fn ask_chosen(c: Chosen) {
+fn ask_chosen(c: Chosen) -> Ending {
     let d = c.device;
     let word = c.before as usize + 1;
     let mut image = [0u8; 16385];
     let file = read_image(word, &mut image);
     if !file.readable {
-        refuse_image();
         usage();
-        return;
+        return ending_of(false, refuse_image());
     }
     let size = file.size;
     if size != image_size(d) {
-        refuse_image();
-        return;
+        return ending_of(false, refuse_image());
     }
-    ask_word(d, &image[..size], word + 1);
+    ask_word(d, &image[..size], word + 1)
 }
 
 fn main() {
@@ -233,5 +205,5 @@ fn main() {
         usage();
         return;
     };
-    ask_chosen(c);
+    say(ask_chosen(c));
 }

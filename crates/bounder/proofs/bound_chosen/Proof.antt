@@ -1,11 +1,11 @@
--- `bounder::proofs::bound_chosen` meets its contract.
+-- `bounder::bound_chosen` meets its contract.
+use borrow.Author.Needs.{needs}
 use mathlib.Core.Path.{sym, _∙_}
 use native.Mathlib.Omega.{arith}
 use borrow.Author.Tests.{not-false}
 use lib.Seq.{length-take-le}
 use Rattle.laws.proofs.Computed.{true→T}
 use Rattle.device.proofs.Laws.{also-nibble, banked, window-fits}
-use borrow.Author.Needs.{needs}
 use Rattle.bounder.proofs.bound_chosen.Statement.{statement}
 use Rattle.bounder.proofs.bound_chosen.Tie as tie
 
@@ -21,14 +21,14 @@ slice-aggregate-read-image c = search needs
 read-image-requires : tie.Need-read-image-requires
 read-image-requires c κs = search needs
 
-slice-aggregate-write-all : tie.Need-slice-aggregate-write-all
-slice-aggregate-write-all c = search needs
-
-write-all-requires : tie.Need-write-all-requires
-write-all-requires c κs = search needs
-
 usage-requires : tie.Need-usage-requires
 usage-requires c κs = search needs
+
+slice-aggregate-show : tie.Need-slice-aggregate-show
+slice-aggregate-show c = search needs
+
+show-requires : tie.Need-show-requires
+show-requires c κs = search needs
 
 returns : tie.Need-returns
 returns c = search needs
@@ -36,11 +36,11 @@ returns c = search needs
 image-size-requires : tie.Need-image-size-requires
 image-size-requires c κs = search needs
 
-slice-aggregate-write-all-2 : tie.Need-slice-aggregate-write-all-2
-slice-aggregate-write-all-2 c = search needs
+slice-aggregate-show-2 : tie.Need-slice-aggregate-show-2
+slice-aggregate-show-2 c = search needs
 
-write-all-requires-2 : tie.Need-write-all-requires-2
-write-all-requires-2 c κs = search needs
+show-requires-2 : tie.Need-show-requires-2
+show-requires-2 c κs = search needs
 
 returns-2 : tie.Need-returns-2
 returns-2 c = search needs
@@ -48,11 +48,11 @@ returns-2 c = search needs
 is-banked-requires : tie.Need-is-banked-requires
 is-banked-requires c κs = search needs
 
-slice-aggregate-write-all-3 : tie.Need-slice-aggregate-write-all-3
-slice-aggregate-write-all-3 c = search needs
+slice-aggregate-show-3 : tie.Need-slice-aggregate-show-3
+slice-aggregate-show-3 c = search needs
 
-write-all-requires-3 : tie.Need-write-all-requires-3
-write-all-requires-3 c κs = search needs
+show-requires-3 : tie.Need-show-requires-3
+show-requires-3 c κs = search needs
 
 returns-3 : tie.Need-returns-3
 returns-3 c = search needs
@@ -64,10 +64,20 @@ slice-aggregate-bound-image : tie.Need-slice-aggregate-bound-image
 slice-aggregate-bound-image c = search needs
 
 cast-bound-image : tie.Need-cast-bound-image
-cast-bound-image c = let h = banked (c .before .before .before .before .before .before .before .before .before .before .before .before .args .c .device) (c .before .before .before .before .before .before .before .before .before .before .before .before .args .c .p3) .sound (true→T (sym (c .before .before .before .is-banked .ensures) ∙ not-false _ (c .before .before .if3 .left))) .0 in let n = also-nibble (c .before .before .before .before .before .before .before .before .before .before .before .before .args .c .device) 3 in omega arith
+cast-bound-image c =
+    let chosen = c .before .before .before .before .before .before .before .before .before .before .before .before .args .c in
+    let stands = true→T (sym (c .before .before .before .is-banked .ensures) ∙ not-false _ (c .before .before .if3 .left)) in
+    let h = banked (chosen .device) (chosen .p3) .sound stands .0 in
+    let n = also-nibble (chosen .device) 3 in
+    omega arith
 
 bound-image-requires : tie.Need-bound-image-requires
-bound-image-requires c κs = let h = window-fits (c .before .before .before .before .before .before .before .before .before .before .before .before .args .c .device) (c .before .before .before .before .before .before .before .before .before .before .before .before .args .c .p3) (true→T (sym (c .before .before .before .is-banked .ensures) ∙ not-false _ (c .before .before .if3 .left))) in rw (length-take-le (c .before .before .before .before .before .before .before .before .before .read-image .result .size) (c .before .before .before .before .before .before .before .before .before .read-image .last .1 .0) (omega arith), c .before .before .before .before .if2 .left ∙ c .before .before .before .before .before .image-size .ensures) h
+bound-image-requires c κs =
+    let chosen = c .before .before .before .before .before .before .before .before .before .before .before .before .args .c in
+    let stands = true→T (sym (c .before .before .before .is-banked .ensures) ∙ not-false _ (c .before .before .if3 .left)) in
+    let file = c .before .before .before .before .before .before .before .before .before .read-image in
+    let size = c .before .before .before .before .if2 .left ∙ c .before .before .before .before .before .image-size .ensures in
+    rw (length-take-le (file .result .size) (file .last .1 .0) (omega arith), size) (window-fits (chosen .device) (chosen .p3) stands)
 
 returns-4 : tie.Need-returns-4
 returns-4 c = search needs
@@ -80,17 +90,17 @@ bound-chosen-spec =
     add-read-image
     slice-aggregate-read-image
     read-image-requires
-    slice-aggregate-write-all
-    write-all-requires
     usage-requires
+    slice-aggregate-show
+    show-requires
     returns
     image-size-requires
-    slice-aggregate-write-all-2
-    write-all-requires-2
+    slice-aggregate-show-2
+    show-requires-2
     returns-2
     is-banked-requires
-    slice-aggregate-write-all-3
-    write-all-requires-3
+    slice-aggregate-show-3
+    show-requires-3
     returns-3
     array-share-prefix-image
     slice-aggregate-bound-image

@@ -28,17 +28,20 @@ add-total c = omega (arith, c .cycles-at .ensures .1, c .before .before .before 
 show-line-requires : tie.Need-show-line-requires Inv-loop μ-loop
 show-line-requires c κs = (c .before .before .before .before .before .before .before .pre .0, c .before .address-in .ensures, omega (arith, c .cycles-at .ensures .1, c .before .before .before .before .loop .inv .0))
 
-add-i : tie.Need-add-i Inv-loop μ-loop
-add-i c = omega (arith, c .before .before .before .before .loop-test .taken)
-
-loop-less : tie.Need-loop-less Inv-loop μ-loop
-loop-less c = omega (arith, c .before .before .before .before .loop-test .taken)
-
-loop-again : tie.Need-loop-again Inv-loop μ-loop
-loop-again c = (omega (arith, c .before .cycles-at .ensures .1, c .before .before .before .if1 .left, c .before .before .before .before .before .before .before .before .pre .2), omega (arith, c .before .before .before .before .loop-test .taken))
-
 returns-2 : tie.Need-returns-2 Inv-loop μ-loop
 returns-2 c = tt
+
+add-i : tie.Need-add-i Inv-loop μ-loop
+add-i c = omega (arith, c .before .before .before .before .before .loop-test .taken)
+
+loop-less : tie.Need-loop-less Inv-loop μ-loop
+loop-less c = omega (arith, c .before .before .before .before .before .loop-test .taken)
+
+loop-again : tie.Need-loop-again Inv-loop μ-loop
+loop-again c = (omega (arith, c .before .before .cycles-at .ensures .1, c .before .before .before .before .if1 .left, c .before .before .before .before .before .before .before .before .before .pre .2), omega (arith, c .before .before .before .before .before .loop-test .taken))
+
+returns-3 : tie.Need-returns-3 Inv-loop μ-loop
+returns-3 c = tt
 
 pub list-path-spec : {M : Type 1} → statement M
 list-path-spec =
@@ -52,7 +55,8 @@ list-path-spec =
     cycles-at-requires
     add-total
     show-line-requires
+    returns-2
     add-i
     loop-less
     loop-again
-    returns-2)
+    returns-3)

@@ -34,13 +34,22 @@ part-hear-end : tie.Need-part-hear-end Inv-loop μ-loop
 part-hear-end c = omega (arith, c .before .before .before .loop .inv .2)
 
 hear-requires : tie.Need-hear-requires Inv-loop μ-loop
-hear-requires c κs = (c .before .before .before .before .before .before .before .pre .1, rw (length-take-le (c .before .before .before .before .before .before .before .args .p .size) (now (c .before .before .before .before .before .before .before .args .ours)) (c .before .before .before .before .before .before .before .pre .0)) (c .before .before .before .before .loop .inv .0))
+hear-requires c κs =
+    let args = c .before .before .before .before .before .before .before .args in
+    let size = length-take-le (args .p .size) (now (args .ours)) (c .before .before .before .before .before .before .before .pre .0) in
+    (c .before .before .before .before .before .before .before .pre .1, rw size (c .before .before .before .before .loop .inv .0))
 
 sub-if1 : tie.Need-sub-if1 Inv-loop μ-loop
 sub-if1 c = omega (arith, c .before .before .before .before .before .loop .inv .1)
 
 verdict-requires : tie.Need-verdict-requires Inv-loop μ-loop
-verdict-requires c κs = (rw (length-take-le (c .before .before .before .before .before .before .before .before .before .before .args .p .size) (now (c .before .before .before .before .before .before .before .before .before .before .args .ours)) (c .before .before .before .before .before .before .before .before .before .before .pre .0)) at (c .before .before .hear .ensures .placed), omega (arith, c .before .before .before .before .before .before .before .before .before .before .pre .3), λ t. rw (length-take-le (c .before .before .before .before .before .before .before .before .before .before .args .p .size) (now (c .before .before .before .before .before .before .before .before .before .before .args .ours)) (c .before .before .before .before .before .before .before .before .before .before .pre .0)) at (c .before .before .hear .ensures .all (omega (arith, part-length (c .before .before .before .before .before .before .before .loop .listing) (c .before .before .before .before .before .before .before .loop .at) (c .before .before .before .before .before .before .before .loop .end) (c .before .before .before .before .before .before .before .loop .inv .1) (c .before .before .before .before .before .before .before .loop .inv .2), c .if1 .taken))))
+verdict-requires c κs =
+    let args = c .before .before .before .before .before .before .before .before .before .before .args in
+    let size = length-take-le (args .p .size) (now (args .ours)) (c .before .before .before .before .before .before .before .before .before .before .pre .0) in
+    let heard = c .before .before .hear .ensures in
+    let loop = c .before .before .before .before .before .before .before .loop in
+    let part = part-length (loop .listing) (loop .at) (loop .end) (loop .inv .1) (loop .inv .2) in
+    (rw size at (heard .placed), omega (arith, c .before .before .before .before .before .before .before .before .before .before .pre .3), λ t. rw size at (heard .all (omega (arith, part, c .if1 .taken))))
 
 same-length : tie.Need-same-length Inv-loop μ-loop
 same-length c = c .before .before .before .before .before .before .before .before .loop .inv .3
@@ -51,14 +60,24 @@ returns c = tt
 read-behind-requires : tie.Need-read-behind-requires Inv-loop μ-loop
 read-behind-requires c κs = omega arith
 
-verdict-requires-2 : tie.Need-verdict-requires-2 Inv-loop μ-loop
-verdict-requires-2 c κs = (rw (length-take-le (c .before .before .before .before .before .before .before .before .before .before .before .before .before .before .before .args .p .size) (now (c .before .before .before .before .before .before .before .before .before .before .before .before .before .before .before .args .ours)) (c .before .before .before .before .before .before .before .before .before .before .before .before .before .before .before .pre .0)) at (c .before .before .before .before .before .before .before .hear .ensures .placed), omega (arith, c .before .before .before .before .before .before .before .before .before .before .before .before .before .before .before .pre .3), λ t. absurd (true→T t))
-
 same-length-2 : tie.Need-same-length-2 Inv-loop μ-loop
 same-length-2 c = search needs
 
 returns-2 : tie.Need-returns-2 Inv-loop μ-loop
 returns-2 c = tt
+
+verdict-requires-2 : tie.Need-verdict-requires-2 Inv-loop μ-loop
+verdict-requires-2 c κs =
+    let args = c .before .before .before .before .before .before .before .before .before .before .before .before .before .before .before .before .args in
+    let size = length-take-le (args .p .size) (now (args .ours)) (c .before .before .before .before .before .before .before .before .before .before .before .before .before .before .before .before .pre .0) in
+    let heard = c .before .before .before .before .before .before .before .before .hear .ensures in
+    (rw size at (heard .placed), omega (arith, c .before .before .before .before .before .before .before .before .before .before .before .before .before .before .before .before .pre .3), λ t. absurd (true→T t))
+
+same-length-3 : tie.Need-same-length-3 Inv-loop μ-loop
+same-length-3 c = search needs
+
+returns-3 : tie.Need-returns-3 Inv-loop μ-loop
+returns-3 c = tt
 
 sub-turns : tie.Need-sub-turns Inv-loop μ-loop
 sub-turns c = omega arith
@@ -67,13 +86,17 @@ loop-less : tie.Need-loop-less Inv-loop μ-loop
 loop-less c = omega arith
 
 loop-again : tie.Need-loop-again Inv-loop μ-loop
-loop-again c = (rw (length-take-le (c .before .before .before .before .before .before .before .before .before .before .before .before .before .before .before .args .p .size) (now (c .before .before .before .before .before .before .before .before .before .before .before .before .before .before .before .args .ours)) (c .before .before .before .before .before .before .before .before .before .before .before .before .before .before .before .pre .0)) at (c .before .before .before .before .before .before .before .hear .ensures .placed), omega arith, search needs, search needs)
+loop-again c =
+    let args = c .before .before .before .before .before .before .before .before .before .before .before .before .before .before .before .before .args in
+    let size = length-take-le (args .p .size) (now (args .ours)) (c .before .before .before .before .before .before .before .before .before .before .before .before .before .before .before .before .pre .0) in
+    let heard = c .before .before .before .before .before .before .before .before .hear .ensures in
+    (rw size at (heard .placed), omega arith, search needs, search needs)
 
-same-length-3 : tie.Need-same-length-3 Inv-loop μ-loop
-same-length-3 c = c .before .loop .inv .3
+same-length-4 : tie.Need-same-length-4 Inv-loop μ-loop
+same-length-4 c = c .before .loop .inv .3
 
-returns-3 : tie.Need-returns-3 Inv-loop μ-loop
-returns-3 c = tt
+returns-4 : tie.Need-returns-4 Inv-loop μ-loop
+returns-4 c = tt
 
 pub rest-of-listing-spec : {M : Type 1} → statement M
 rest-of-listing-spec =
@@ -92,11 +115,13 @@ rest-of-listing-spec =
     same-length
     returns
     read-behind-requires
-    verdict-requires-2
     same-length-2
     returns-2
+    verdict-requires-2
+    same-length-3
+    returns-3
     sub-turns
     loop-less
     loop-again
-    same-length-3
-    returns-3)
+    same-length-4
+    returns-4)

@@ -1,13 +1,16 @@
 -- `compare::run` meets its contract.
+use borrow.Author.Needs.{needs}
 use mathlib.Core.Path.{refl}
 use native.Mathlib.Omega.{arith}
 use Rattle.compare_listing.proofs.Whole.{start-sound}
-use borrow.Author.Needs.{needs}
 use Rattle.compare.proofs.run.Statement.{statement}
 use Rattle.compare.proofs.run.Tie as tie
 
 returns : tie.Need-returns
 returns c = search needs
+
+returns-2 : tie.Need-returns-2
+returns-2 c = search needs
 
 large-buffer-requires : tie.Need-large-buffer-requires
 large-buffer-requires c κs = search needs
@@ -37,16 +40,23 @@ slice-aggregate-session-3 : tie.Need-slice-aggregate-session-3
 slice-aggregate-session-3 c = search needs
 
 session-requires : tie.Need-session-requires
-session-requires c κs = (c .before .before .before .before .before .before .before .before .before .before .before .before .before .before .before .before .before .pre, rw (c .before .before .before .before .begin .ensures, c .before .before .before .before .before .before .before .fresh .ensures) (start-sound _ (c .before .before .before .before .before .before .before .before .before .header .ensures .0) refl), omega (arith, c .before .before .before .before .before .before .before .before .before .before .before .before .large-buffer .ensures))
+session-requires c κs =
+    let pre = c .before .before .before .before .before .before .before .before .before .before .before .before .before .before .before .before .before .before .before .before .pre in
+    let the-begin = c .before .before .before .before .begin in
+    let the-fresh = c .before .before .before .before .before .before .before .fresh in
+    let the-header = c .before .before .before .before .before .before .before .before .before .header in
+    let the-large-buffer = c .before .before .before .before .before .before .before .before .before .before .before .before .large-buffer in
+    (pre, rw (the-begin .ensures, the-fresh .ensures) (start-sound _ (the-header .ensures .0) refl), omega (arith, the-large-buffer .ensures))
 
-returns-2 : tie.Need-returns-2
-returns-2 c = search needs
+returns-3 : tie.Need-returns-3
+returns-3 c = search needs
 
 pub run-spec : {M : Type 1} → statement M
 run-spec =
     tie.close
     (tie.spec
     returns
+    returns-2
     large-buffer-requires
     large-buffer-requires-2
     slice-aggregate-header
@@ -57,4 +67,4 @@ run-spec =
     slice-aggregate-session-2
     slice-aggregate-session-3
     session-requires
-    returns-2)
+    returns-3)

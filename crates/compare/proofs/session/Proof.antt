@@ -20,7 +20,9 @@ no-parts-requires : tie.Need-no-parts-requires Inv-loop μ-loop
 no-parts-requires c κs = search needs
 
 loop-holds : tie.Need-loop-holds Inv-loop μ-loop
-loop-holds c = (c .before .before .before .before .before .pre .1, record { from = c .no-parts .ensures .from; to = omega (arith, c .no-parts .ensures .to); at = c .no-parts .ensures .at; end = omega (arith, c .no-parts .ensures .end) }, refl, refl, refl)
+loop-holds c =
+    let none = c .no-parts .ensures in
+    (c .before .before .before .before .before .pre .1, record { from = none .from; to = omega (arith, none .to); at = none .at; end = omega (arith, none .end) }, refl, refl, refl)
 
 same-length : tie.Need-same-length Inv-loop μ-loop
 same-length c = c .before .before .before .loop .inv .4
@@ -35,7 +37,10 @@ returns : tie.Need-returns Inv-loop μ-loop
 returns c = tt
 
 turn-requires : tie.Need-turn-requires Inv-loop μ-loop
-turn-requires c κs = (c .before .before .before .before .before .before .before .before .before .before .before .before .before .pre .0, c .before .before .before .before .before .before .before .loop .inv .0, c .before .before .before .before .before .before .before .loop .inv .1, c .before .before .before .before .if1 .left, omega (arith, c .before .before .before .before .before .before .before .loop .inv .2, c .before .before .before .before .before .before .before .before .before .before .before .before .before .pre .2))
+turn-requires c κs =
+    let pre = c .before .before .before .before .before .before .before .before .before .before .before .before .before .pre in
+    let inv = c .before .before .before .before .before .before .before .loop .inv in
+    (pre .0, inv .0, inv .1, c .before .before .before .before .if1 .left, omega (arith, inv .2, pre .2))
 
 is-settled-requires : tie.Need-is-settled-requires Inv-loop μ-loop
 is-settled-requires c κs = search needs
@@ -44,10 +49,19 @@ is-over-requires : tie.Need-is-over-requires Inv-loop μ-loop
 is-over-requires c κs = c .before .before .before .before .before .before .turn .ensures .within .from
 
 conclude-requires : tie.Need-conclude-requires Inv-loop μ-loop
-conclude-requires c κs = (c .before .before .before .before .before .before .before .before .before .before .before .before .before .before .before .before .before .before .before .before .before .before .before .before .before .before .before .pre .0, c .before .before .before .before .before .before .before .before .before .before .before .before .before .turn .ensures .sound, sym (c .before .before .before .before .before .before .before .before .is-settled .ensures) ∙ c .before .before .before .before .before .before .before .if2 .taken, c .before .before .before .before .before .before .before .before .before .before .before .before .before .turn .ensures .line, c .before .before .before .before .before .before .before .before .before .before .before .before .before .turn .ensures .within, omega (arith, c .before .before .before .before .before .before .before .before .before .before .before .before .before .before .before .before .before .before .before .before .before .loop .inv .2, c .before .before .before .before .before .before .before .before .before .before .before .before .before .before .before .before .before .before .before .before .before .before .before .before .before .before .before .pre .2))
+conclude-requires c κs =
+    let pre = c .before .before .before .before .before .before .before .before .before .before .before .before .before .before .before .before .before .before .before .before .before .before .before .before .before .before .before .pre in
+    let inv = c .before .before .before .before .before .before .before .before .before .before .before .before .before .before .before .before .before .before .before .before .before .loop .inv in
+    let turned = c .before .before .before .before .before .before .before .before .before .before .before .before .before .turn .ensures in
+    let settled = sym (c .before .before .before .before .before .before .before .before .is-settled .ensures) ∙ c .before .before .before .before .before .before .before .if2 .taken in
+    (pre .0, turned .sound, settled, turned .line, turned .within, omega (arith, inv .2, pre .2))
 
 same-length-4 : tie.Need-same-length-4 Inv-loop μ-loop
-same-length-4 c = omega (arith, c .before .before .before .ours2 .given, c .before .before .before .before .before .before .before .before .before .before .before .before .before .before .before .before .before .before .turn .ensures .size, c .before .before .before .before .before .before .before .before .before .before .before .before .before .before .before .before .before .before .before .before .before .before .before .before .before .before .loop .inv .4)
+same-length-4 c =
+    let the-ours2 = c .before .before .before .ours2 in
+    let the-turn = c .before .before .before .before .before .before .before .before .before .before .before .before .before .before .before .before .before .before .turn in
+    let loop = c .before .before .before .before .before .before .before .before .before .before .before .before .before .before .before .before .before .before .before .before .before .before .before .before .before .before .loop in
+    omega (arith, the-ours2 .given, the-turn .ensures .size, loop .inv .4)
 
 same-length-5 : tie.Need-same-length-5 Inv-loop μ-loop
 same-length-5 c = c .before .before .before .before .before .before .before .before .before .before .before .before .before .before .before .before .before .before .before .before .before .before .before .before .before .before .loop .inv .2
@@ -61,26 +75,47 @@ returns-2 c = tt
 refill-requires : tie.Need-refill-requires Inv-loop μ-loop
 refill-requires c κs = c .before .before .before .before .before .before .before .before .turn .ensures .within
 
-sub-turns : tie.Need-sub-turns Inv-loop μ-loop
-sub-turns c = omega (arith, c .before .before .before .before .before .before .before .before .before .before .before .before .before .before .before .before .before .before .before .before .loop-test .taken)
-
-loop-less : tie.Need-loop-less Inv-loop μ-loop
-loop-less c = omega (arith, c .before .before .before .before .before .before .before .before .before .before .before .before .before .before .before .before .before .before .before .before .loop-test .taken)
-
-loop-again : tie.Need-loop-again Inv-loop μ-loop
-loop-again c = (c .before .before .before .before .before .before .before .before .before .before .before .before .before .turn .ensures .sound, search needs, omega (arith, c .before .before .before .script .given, c .before .before .before .before .before .before .before .before .before .before .before .before .before .before .before .before .before .before .before .before .before .loop .inv .2), omega (arith, c .before .listing2 .given, c .before .before .before .before .before .before .before .before .before .before .before .before .before .before .before .before .before .before .before .before .before .loop .inv .3), c .before .before .before .before .before .before .before .before .before .before .before .before .before .turn .ensures .size ∙ c .before .before .before .before .before .before .before .before .before .before .before .before .before .before .before .before .before .before .before .before .before .loop .inv .4)
+unreadable-requires : tie.Need-unreadable-requires Inv-loop μ-loop
+unreadable-requires c κs = search needs
 
 same-length-7 : tie.Need-same-length-7 Inv-loop μ-loop
-same-length-7 c = c .before .loop .inv .4
+same-length-7 c =
+    let the-turn = c .before .before .before .before .before .before .before .before .before .before .before .before .before .before .before .turn in
+    let loop = c .before .before .before .before .before .before .before .before .before .before .before .before .before .before .before .before .before .before .before .before .before .before .before .loop in
+    the-turn .ensures .size ∙ loop .inv .4
 
 same-length-8 : tie.Need-same-length-8 Inv-loop μ-loop
-same-length-8 c = c .before .loop .inv .2
+same-length-8 c = omega (arith, c .before .before .before .before .before .script .given, c .before .before .before .before .before .before .before .before .before .before .before .before .before .before .before .before .before .before .before .before .before .before .before .loop .inv .2)
 
 same-length-9 : tie.Need-same-length-9 Inv-loop μ-loop
-same-length-9 c = c .before .loop .inv .3
+same-length-9 c = omega (arith, c .before .before .before .listing2 .given, c .before .before .before .before .before .before .before .before .before .before .before .before .before .before .before .before .before .before .before .before .before .before .before .loop .inv .3)
 
 returns-3 : tie.Need-returns-3 Inv-loop μ-loop
 returns-3 c = tt
+
+sub-turns : tie.Need-sub-turns Inv-loop μ-loop
+sub-turns c = omega (arith, c .before .before .before .before .before .before .before .before .before .before .before .before .before .before .before .before .before .before .before .before .before .loop-test .taken)
+
+loop-less : tie.Need-loop-less Inv-loop μ-loop
+loop-less c = omega (arith, c .before .before .before .before .before .before .before .before .before .before .before .before .before .before .before .before .before .before .before .before .before .loop-test .taken)
+
+loop-again : tie.Need-loop-again Inv-loop μ-loop
+loop-again c =
+    let inv = c .before .before .before .before .before .before .before .before .before .before .before .before .before .before .before .before .before .before .before .before .before .before .loop .inv in
+    let turned = c .before .before .before .before .before .before .before .before .before .before .before .before .before .before .turn .ensures in
+    (turned .sound, search needs, omega (arith, c .before .before .before .before .script .given, inv .2), omega (arith, c .before .before .listing2 .given, inv .3), turned .size ∙ inv .4)
+
+same-length-10 : tie.Need-same-length-10 Inv-loop μ-loop
+same-length-10 c = c .before .loop .inv .4
+
+same-length-11 : tie.Need-same-length-11 Inv-loop μ-loop
+same-length-11 c = c .before .loop .inv .2
+
+same-length-12 : tie.Need-same-length-12 Inv-loop μ-loop
+same-length-12 c = c .before .loop .inv .3
+
+returns-4 : tie.Need-returns-4 Inv-loop μ-loop
+returns-4 c = tt
 
 pub session-spec : {M : Type 1} → statement M
 session-spec =
@@ -103,10 +138,15 @@ session-spec =
     same-length-6
     returns-2
     refill-requires
-    sub-turns
-    loop-less
-    loop-again
+    unreadable-requires
     same-length-7
     same-length-8
     same-length-9
-    returns-3)
+    returns-3
+    sub-turns
+    loop-less
+    loop-again
+    same-length-10
+    same-length-11
+    same-length-12
+    returns-4)

@@ -1,8 +1,17 @@
 -- `why::ask` meets its contract.
+use Prim.Native.Nat.{_≤_}
+use native.Mathlib.Omega.{arith}
+use Rattle.device.specs.declared.Device.{Device}
+use Rattle.device.specs.declared.Device.the-variants.{Em73862, Em73P982}
+use Rattle.device.specs.Device.{frameSize}
 use Rattle.machine_start.proofs.Starting.{fresh-valid}
 use borrow.Author.Needs.{needs}
 use Rattle.why.proofs.ask.Statement.{statement}
 use Rattle.why.proofs.ask.Tie as tie
+
+small-frames : (d : Device) → frameSize d ≤ 4
+small-frames Em73862 = search needs
+small-frames Em73P982 = search needs
 
 large-buffer-requires : tie.Need-large-buffer-requires
 large-buffer-requires c κs = search needs
@@ -21,7 +30,12 @@ slice-aggregate-session-2 c = search needs
 
 session-requires : tie.Need-session-requires
 session-requires c κs =
-    (c .before .before .before .before .before .before .before .before .before .pre, rw (c .before .before .before .before .before .fresh .ensures) (fresh-valid (c .before .before .before .before .before .before .before .before .before .args .d) .core), rw (c .before .before .before .before .before .fresh .ensures) (fresh-valid (c .before .before .before .before .before .before .before .before .before .args .d) .ram), search needs)
+    let start = c .before .before .before .before .before .before .before .before .before in
+    let d = start .args .d in
+    let valid = fresh-valid d in
+    let new = c .before .before .before .before .before .fresh .ensures in
+    let room = c .before .before .before .before .before .before .before .large-buffer .ensures in
+    (start .pre, rw new (valid .core), rw new (valid .ram), omega (arith, small-frames d, room), search needs)
 
 returns : tie.Need-returns
 returns c = search needs

@@ -1,10 +1,10 @@
--- `script_input::show` meets its contract.
+-- `streams::show_part` meets its contract.
 use mathlib.Core.Path.{sym}
 use native.Mathlib.Omega.{arith}
 use lib.Seq.{length-take-le}
 use borrow.Author.Needs.{needs}
-use Rattle.script_input.proofs.show.Statement.{statement}
-use Rattle.script_input.proofs.show.Tie as tie
+use Rattle.streams.proofs.show_part.Statement.{statement}
+use Rattle.streams.proofs.show_part.Tie as tie
 
 slice-aggregate-write-all : tie.Need-slice-aggregate-write-all
 slice-aggregate-write-all c = sym (length-take-le _ _ (omega arith))
@@ -15,5 +15,5 @@ write-all-requires c κs = search needs
 returns : tie.Need-returns
 returns c = search needs
 
-pub show-spec : {M : Type 1} → statement M
-show-spec = tie.close (tie.spec slice-aggregate-write-all write-all-requires returns)
+pub show-part-spec : {M : Type 1} → statement M
+show-part-spec = tie.close (tie.spec slice-aggregate-write-all write-all-requires returns)
