@@ -14,12 +14,14 @@ use numbers::PATH_BUFFER_TOO_SHORT;
 use numbers::RECORD_OUTSIDE_THE_RANGES;
 use numbers::RECURSION_REACHABLE;
 use numbers::REPETITION_REACHABLE;
+use reader::p3_given;
 use routines_bound::Found;
 use routines_bound::Greatest;
 ghost use mathlib.Core.Path.{_≡_};
 ghost use Prim.Native.Nat.{_+_, _*_, _%_, _<_, _≤_};
 ghost use lib.ListN.{length};
 ghost use Rattle.device.specs.Device.{romOf};
+ghost use Rattle.reader.specs.Answer.{p3Given};
 ghost use Rattle.routines.specs.Answer.{Answer};
 ghost use Rattle.routines_bound.specs.Handler.{foundOf};
 ghost use Rattle.bound_flow.specs.Flow.{addressOf};
@@ -70,8 +72,8 @@ fn answer(found: Found) -> Bounded
     }
 }
 
-// The public bound: N's path in the first buffer, depth's in the second.
-pub fn bound(
+// The bound in the window of a P3 that the device has: N's path in the first buffer, depth's in the second.
+fn bound_shown(
     d: Device,
     image: &[u8],
     p3: u32,
@@ -92,6 +94,20 @@ pub fn bound(
     }
     let found = found(d, image, p3 as u8, address as usize, path, deep);
     answer(found)
+}
+
+// The public bound.
+pub fn bound(
+    d: Device,
+    image: &[u8],
+    p3: u32,
+    address: u32,
+    path: &mut [u8],
+    deep: &mut [u8],
+) -> Bounded
+    ensures { λ r. ⌜ CallAnswer d (now (image .entry)) (p3Given d p3) address (now (path .entry)) (now (path .exit)) (now (deep .entry)) (now (deep .exit)) (paperOf r) ⌝ }
+{
+    bound_shown(d, image, p3_given(d, p3), address, path, deep)
 }
 
 // The paper's number of an answer, and the values that come with it: N and the depth, or what comes with a refusal.

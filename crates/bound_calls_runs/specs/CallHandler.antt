@@ -86,7 +86,7 @@ pub record RunReturnsWithin (image : List ℕ) (o : Options) (m : Machine) (fram
   pub ends : RunEndsWithin image o m frames N
   pub own : (q : Ran) → RunOf image o m (take (frameSize (o .device) * ends .before) frames) q → Returns (romOf image) o (q .machine) (ends .last) → q .machine .core .ptrs .sp ≡ m .core .ptrs .sp
 
--- the same of the answers: the bound answers N with a depth, and the call run is given such a buffer
+-- the same of the answers: the bound answers N with a depth, P3 being that which the device looks at (reader/specs/Answer.antt, `p3Given`), and the call run is given such a buffer
 abbrev pub Demand3OfCalls : Type 0
 Demand3OfCalls =
     (image : List ℕ) → ((p3 at : ℕ) → romOf image p3 at < 256) → (o : Options) (p3 start N depth : ℕ) (path path′ deep deep′ : List ℕ)

@@ -16,7 +16,7 @@ use text_notation::goes_to;
 ghost use mathlib.Core.Path.{_≡_};
 ghost use Prim.Native.Nat.{_<_};
 ghost use Rattle.numbers.specs.ComesBack.{refused};
-ghost use Rattle.reader.specs.Answer.{paperOf};
+ghost use Rattle.reader.specs.Answer.{paperOf, p3Given};
 ghost use Rattle.pane_device.specs.Numbers.{OfRead};
 ghost use Rattle.pane_device.specs.Operands.{Fits, beginsInB, operandAt, goesSomewhere, goesFrom};
 ghost use Rattle.pane_device.specs.Pane.{ReadCall, LengthCall, RowCall, NotationCall, BoundCall};
@@ -145,7 +145,7 @@ pub fn read_call(
     a: &mut u16,
     b: &mut u8,
 ) -> u8
-    ensures { λ r. ⌜ ReadCall d (now (image .entry)) p3 address r (now (row .exit)) (now (a .exit)) (now (b .exit)) ⌝ }
+    ensures { λ r. ⌜ ReadCall d (now (image .entry)) (p3Given d p3) address r (now (row .exit)) (now (a .exit)) (now (b .exit)) ⌝ }
 {
     let n = read_numbers(read(d, image, p3, address));
     *row = n.insn.row;
@@ -162,7 +162,7 @@ pub fn length_call(
     bytes: &mut u8,
     cycles: &mut u8,
 ) -> u8
-    ensures { λ r. ⌜ LengthCall d (now (image .entry)) p3 address r (now (bytes .exit)) (now (cycles .exit)) ⌝ }
+    ensures { λ r. ⌜ LengthCall d (now (image .entry)) (p3Given d p3) address r (now (bytes .exit)) (now (cycles .exit)) ⌝ }
 {
     let n = read_numbers(read(d, image, p3, address));
     *bytes = n.bytes;
@@ -182,7 +182,7 @@ pub fn row_call(
     bytes: &mut u8,
     cycles: &mut u8,
 ) -> u8
-    ensures { λ r. ⌜ RowCall d (now (image .entry)) p3 address r (now (row .exit)) (now (first .exit)) (now (second .exit)) (now (goes .exit)) (now (bytes .exit)) (now (cycles .exit)) ⌝ }
+    ensures { λ r. ⌜ RowCall d (now (image .entry)) (p3Given d p3) address r (now (row .exit)) (now (first .exit)) (now (second .exit)) (now (goes .exit)) (now (bytes .exit)) (now (cycles .exit)) ⌝ }
 {
     let n = read_numbers(read(d, image, p3, address));
     let insn = n.insn;
@@ -208,7 +208,7 @@ pub fn notation_call(
     text: &mut [u8],
     length: &mut u32,
 ) -> u8
-    ensures { λ r. ⌜ NotationCall d (now (image .entry)) p3 address (now (text .entry)) r (now (length .exit)) (now (text .exit)) ⌝ }
+    ensures { λ r. ⌜ NotationCall d (now (image .entry)) (p3Given d p3) address (now (text .entry)) r (now (length .exit)) (now (text .exit)) ⌝ }
 {
     let n = read_numbers(read(d, image, p3, address));
     if n.number != 0 {
@@ -235,7 +235,7 @@ pub fn bound_call(
     value: &mut u32,
     depth: &mut u32,
 ) -> u8
-    ensures { λ r. ⌜ BoundCall d (now (image .entry)) p3 address (now (path .entry)) (now (deep .entry)) r (now (value .exit)) (now (depth .exit)) (now (path .exit)) (now (deep .exit)) ⌝ }
+    ensures { λ r. ⌜ BoundCall d (now (image .entry)) (p3Given d p3) address (now (path .entry)) (now (deep .entry)) r (now (value .exit)) (now (depth .exit)) (now (path .exit)) (now (deep .exit)) ⌝ }
 {
     let n = bound::numbers_of(bound(d, image, p3, address, path, deep));
     *value = n.value as u32;

@@ -8,6 +8,7 @@ use Rattle.laws.specs.Choice.{pick}
 use Rattle.numbers.specs.ComesBack.{Paper, answered, refused, image-of-another-size, record-outside-the-ranges, address-over-8191, unassigned-code, past-end}
 use Rattle.device.specs.Device.{imageSize, isBanked, romOf}
 use Rattle.device.specs.declared.Device.{Device}
+use Rattle.device.specs.declared.Device.the-variants.{Em73862, Em73P982}
 use Rattle.sheet.specs.Reading.{readAt, bytesOf, cyclesOf}
 use Rattle.sheet.specs.declared.Insn.{Insn}
 use Rattle.sheet.specs.declared.Read.{Read}
@@ -38,6 +39,11 @@ abbrev pub paperOfCode : Read → Paper
 paperOfCode (Row i) = answered (valuesOf i (bytesOf (i .row)) (cyclesOf (i .row)))
 paperOfCode Unassigned = refused (stopOf Unassigned)
 paperOfCode PastEnd = refused (stopOf PastEnd)
+
+-- Q-6: "The reader and the bound take P3 as an input": of the EM73P982. The EM73862 has no P3, and an input for it is not looked at; its window is that of 0
+abbrev pub p3Given : Device → ℕ → ℕ
+p3Given Em73862 p3 = 0
+p3Given Em73P982 p3 = p3
 
 -- what has to come back of a device's image, P3 and an address
 abbrev pub readPaper : Device → List ℕ → ℕ → ℕ → Paper

@@ -16,7 +16,7 @@ ghost use Prim.Native.Nat.{_+_, _*_, _%_, _<_, _≤_};
 ghost use Rattle.numbers.specs.Sizes.{addresses};
 ghost use Rattle.device.specs.Device.{romOf};
 ghost use Rattle.sheet.specs.Reading.{readBytes, readLeft, readAt};
-ghost use Rattle.reader.specs.Answer.{stopOf, paperOf, readPaper};
+ghost use Rattle.reader.specs.Answer.{stopOf, paperOf, p3Given, readPaper};
 
 // What is read at an address: the instruction, its bytes and its cycles.
 pub struct Decoded {
@@ -122,8 +122,8 @@ pub fn stop_of(read: Read) -> u8
     }
 }
 
-// The public reader.
-pub fn read(d: Device, image: &[u8], p3: u32, address: u32) -> Answer
+// The reader in the window of a P3 that the device has.
+fn read_shown(d: Device, image: &[u8], p3: u32, address: u32) -> Answer
     ensures { λ r. ⌜ paperOf r ≡ readPaper d (now (image .entry)) p3 address ⌝ }
 {
     if image.len() != image_size(d) {
@@ -148,4 +148,21 @@ pub fn read(d: Device, image: &[u8], p3: u32, address: u32) -> Answer
         Read::Unassigned => Answer::Unassigned,
         Read::PastEnd => Answer::PastEnd,
     }
+}
+
+// The P3 of a reader's or a bound's input that the device looks at.
+pub fn p3_given(d: Device, p3: u32) -> u32
+    ensures { λ r. ⌜ r ≡ p3Given d p3 ⌝ }
+{
+    match d {
+        Device::Em73862 => 0,
+        Device::Em73P982 => p3,
+    }
+}
+
+// The public reader.
+pub fn read(d: Device, image: &[u8], p3: u32, address: u32) -> Answer
+    ensures { λ r. ⌜ paperOf r ≡ readPaper d (now (image .entry)) (p3Given d p3) address ⌝ }
+{
+    read_shown(d, image, p3_given(d, p3), address)
 }

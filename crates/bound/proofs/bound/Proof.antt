@@ -1,38 +1,13 @@
 -- `bound::bound` meets its contract.
-use mathlib.Core.Path.{sym, _∙_}
-use native.Mathlib.Omega.{arith}
-use borrow.Author.Tests.{not-true, not-false}
-use Rattle.laws.proofs.Computed.{true→T}
-use Rattle.device.proofs.Laws.{also-nibble, banked, window-fits}
-use Rattle.bound_calls.specs.CallAnswer.{gives-1, gives-2, gives-20}
-use Rattle.bound.proofs.Answers.{kept, answers}
 use borrow.Author.Needs.{needs}
 use Rattle.bound.proofs.bound.Statement.{statement}
 use Rattle.bound.proofs.bound.Tie as tie
 
-image-size-requires : tie.Need-image-size-requires
-image-size-requires c κs = search needs
+p3-given-requires : tie.Need-p3-given-requires
+p3-given-requires c κs = search needs
 
-returns : tie.Need-returns
-returns c = gives-1 (λ e. c .if1 .taken (e ∙ sym (c .before .image-size .ensures))) (kept _ _)
-
-is-banked-requires : tie.Need-is-banked-requires
-is-banked-requires c κs = search needs
-
-returns-2 : tie.Need-returns-2
-returns-2 c = gives-2 (c .before .before .if1 .left ∙ c .before .before .before .image-size .ensures) (λ b. rw (sym (c .before .is-banked .ensures) ∙ not-true _ (c .if2 .taken)) at b) (kept _ _)
-
-returns-3 : tie.Need-returns-3
-returns-3 c = gives-20 (c .before .before .before .if1 .left ∙ c .before .before .before .before .image-size .ensures) (true→T (sym (c .before .before .is-banked .ensures) ∙ not-false _ (c .before .if2 .left))) (c .if3 .taken) (kept _ _)
-
-cast-found : tie.Need-cast-found
-cast-found c = let h = banked (c .before .before .before .before .before .before .before .before .args .d) (c .before .before .before .before .before .before .before .before .args .p3) .sound (true→T (sym (c .before .before .is-banked .ensures) ∙ not-false _ (c .before .if2 .left))) .0 in let n = also-nibble (c .before .before .before .before .before .before .before .before .args .d) 3 in omega arith
-
-found-requires : tie.Need-found-requires
-found-requires c κs = (rw (c .before .before .before .before .before .if1 .left ∙ c .before .before .before .before .before .before .image-size .ensures) (window-fits (c .before .before .before .before .before .before .before .before .before .before .args .d) (c .before .before .before .before .before .before .before .before .before .before .args .p3) (true→T (sym (c .before .before .before .before .is-banked .ensures) ∙ not-false _ (c .before .before .before .if2 .left)))), omega (arith, c .before .before .if3 .left))
-
-answer-requires : tie.Need-answer-requires
-answer-requires c κs = search needs
+bound-shown-requires : tie.Need-bound-shown-requires
+bound-shown-requires c κs = search needs
 
 same-length : tie.Need-same-length
 same-length c = search needs
@@ -40,21 +15,10 @@ same-length c = search needs
 same-length-2 : tie.Need-same-length-2
 same-length-2 c = search needs
 
-returns-4 : tie.Need-returns-4
-returns-4 c = rw (c .answer .ensures) (answers _ _ _ _ _ _ _ _ (c .before .before .before .before .before .found .result) (c .before .before .before .before .before .before .before .before .before .before .before .if1 .left ∙ c .before .before .before .before .before .before .before .before .before .before .before .before .image-size .ensures) (true→T (sym (c .before .before .before .before .before .before .before .before .before .before .is-banked .ensures) ∙ not-false _ (c .before .before .before .before .before .before .before .before .before .if2 .left))) (omega (arith, c .before .before .before .before .before .before .before .before .if3 .left)) (c .before .before .before .before .before .found .ensures))
+returns : tie.Need-returns
+returns c =
+    let shown = c .before .before .before .before in
+    rw (← shown .before .before .before .p3-given .ensures) (shown .bound-shown .ensures)
 
 pub bound-spec : {M : Type 1} → statement M
-bound-spec =
-    tie.close
-    (tie.spec
-    image-size-requires
-    returns
-    is-banked-requires
-    returns-2
-    returns-3
-    cast-found
-    found-requires
-    answer-requires
-    same-length
-    same-length-2
-    returns-4)
+bound-spec = tie.close (tie.spec p3-given-requires bound-shown-requires same-length same-length-2 returns)

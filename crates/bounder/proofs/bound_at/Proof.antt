@@ -2,6 +2,7 @@
 use borrow.Author.Needs.{needs}
 use native.Mathlib.Omega.{arith}
 use Rattle.device.specs.Device.{inImage}
+use Rattle.reader.specs.Answer.{p3Given}
 use Rattle.bound.proofs.Sizes.{answer-few, bounds-few}
 use Rattle.bounder.proofs.bound_at.Statement.{statement}
 use Rattle.bounder.proofs.bound_at.Tie as tie
@@ -16,7 +17,7 @@ bound-requires : tie.Need-bound-requires
 bound-requires c κs = search needs
 
 show-answer-requires : tie.Need-show-answer-requires
-show-answer-requires c κs = (answer-few (λ at. c .before .before .before .before .before .shared-slice-known .given (inImage (c .before .before .before .before .before .before .args .p3) at) .fits) (c .before .before .bound .ensures)) .value
+show-answer-requires c κs = (answer-few (λ at. c .before .before .before .before .before .shared-slice-known .given (inImage (p3Given (c .before .before .before .before .before .before .args .d) (c .before .before .before .before .before .before .args .p3)) at) .fits) (c .before .before .bound .ensures)) .value
 
 returns : tie.Need-returns
 returns c = search needs
@@ -38,7 +39,7 @@ slice-aggregate-list-both-2 c = search needs
 
 list-both-requires : tie.Need-list-both-requires
 list-both-requires c κs =
-    let few = answer-few (λ at. c .before .before .before .before .before .before .before .before .before .before .before .before .shared-slice-known .given (inImage (c .before .before .before .before .before .before .before .before .before .before .before .before .before .args .p3) at) .fits) (c .before .before .before .before .before .before .before .before .before .bound .ensures) in
+    let few = answer-few (λ at. c .before .before .before .before .before .before .before .before .before .before .before .before .shared-slice-known .given (inImage (p3Given (c .before .before .before .before .before .before .before .before .before .before .before .before .before .args .d) (c .before .before .before .before .before .before .before .before .before .before .before .before .before .args .p3)) at) .fits) (c .before .before .before .before .before .before .before .before .before .bound .ensures) in
     let h = bounds-few (c .before .before .before .answer .given .1) few in
     (c .before .before .before .before .before .before .before .before .before .before .before .before .before .pre, omega arith, omega arith, h .0, h .1)
 

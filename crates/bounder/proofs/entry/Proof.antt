@@ -1,6 +1,7 @@
 -- `bounder::entry` meets its contract.
 use native.Mathlib.Omega.{arith}
 use Rattle.device.specs.Device.{inImage}
+use Rattle.reader.specs.Answer.{p3Given}
 use Rattle.bound.proofs.Sizes.{answer-few}
 use borrow.Author.Needs.{needs}
 use Rattle.bounder.proofs.entry.Statement.{statement}
@@ -46,7 +47,7 @@ slice-aggregate-show-entry : tie.Need-slice-aggregate-show-entry
 slice-aggregate-show-entry c = search needs
 
 show-entry-requires : tie.Need-show-entry-requires
-show-entry-requires c κs = let h = answer-few (λ at. c .before .before .before .before .before .before .before .before .before .before .before .before .before .before .before .before .before .before .before .shared-slice-known .given (inImage (c .before .before .before .before .before .before .before .before .before .before .before .before .before .before .before .before .before .before .before .before .args .p3) at) .fits) (c .before .before .before .before .before .before .before .before .before .before .before .before .before .before .before .before .bound .ensures) in (h .value, h .depth, omega (arith, c .before .before .put2 .ensures .end, c .before .before .put2 .ensures .size, c .before .before .before .before .before .source-name .ensures .1, c .before .before .before .before .before .source-name .ensures .0 .size, c .before .before .before .before .before .before .before .before .put .ensures .end, c .before .before .before .before .before .before .before .before .put .ensures .size, c .before .before .before .before .before .before .before .before .before .before .before .number .ensures .1, c .before .before .before .before .before .before .before .before .before .before .before .number .ensures .0 .size, c .before .before .before .before .before .before .before .before .before .before .before .before .before .buffer .ensures))
+show-entry-requires c κs = let h = answer-few (λ at. c .before .before .before .before .before .before .before .before .before .before .before .before .before .before .before .before .before .before .before .shared-slice-known .given (inImage (p3Given (c .before .before .before .before .before .before .before .before .before .before .before .before .before .before .before .before .before .before .before .before .args .d) (c .before .before .before .before .before .before .before .before .before .before .before .before .before .before .before .before .before .before .before .before .args .p3)) at) .fits) (c .before .before .before .before .before .before .before .before .before .before .before .before .before .before .before .before .bound .ensures) in (h .value, h .depth, omega (arith, c .before .before .put2 .ensures .end, c .before .before .put2 .ensures .size, c .before .before .before .before .before .source-name .ensures .1, c .before .before .before .before .before .source-name .ensures .0 .size, c .before .before .before .before .before .before .before .before .put .ensures .end, c .before .before .before .before .before .before .before .before .put .ensures .size, c .before .before .before .before .before .before .before .before .before .before .before .number .ensures .1, c .before .before .before .before .before .before .before .before .before .before .before .number .ensures .0 .size, c .before .before .before .before .before .before .before .before .before .before .before .before .before .buffer .ensures))
 
 returns : tie.Need-returns
 returns c = search needs

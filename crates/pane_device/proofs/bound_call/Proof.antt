@@ -2,6 +2,7 @@
 use native.Mathlib.Omega.{arith}
 use Rattle.device.specs.Device.{inImage}
 use Rattle.bound.proofs.Sizes.{answer-few}
+use Rattle.reader.specs.Answer.{p3Given}
 use borrow.Author.Needs.{needs}
 use Rattle.pane_device.proofs.bound_call.Statement.{statement}
 use Rattle.pane_device.proofs.bound_call.Tie as tie
@@ -13,10 +14,10 @@ numbers-of-requires : tie.Need-numbers-of-requires
 numbers-of-requires c κs = search needs
 
 cast-value : tie.Need-cast-value
-cast-value c = omega (arith, c .before .numbers-of .ensures .value, (answer-few (λ at. c .before .before .before .before .before .before .before .before .before .before .before .shared-slice-known .given (inImage (c .before .before .before .before .before .before .before .before .before .before .before .before .args .p3) at) .fits) (c .before .before .before .before .before .before .bound .ensures)) .value)
+cast-value c = omega (arith, c .before .numbers-of .ensures .value, (answer-few (λ at. c .before .before .before .before .before .before .before .before .before .before .before .shared-slice-known .given (inImage (p3Given (c .before .before .before .before .before .before .before .before .before .before .before .before .args .d) (c .before .before .before .before .before .before .before .before .before .before .before .before .args .p3)) at) .fits) (c .before .before .before .before .before .before .bound .ensures)) .value)
 
 cast-depth : tie.Need-cast-depth
-cast-depth c = omega (arith, c .before .before .numbers-of .ensures .depth, (answer-few (λ at. c .before .before .before .before .before .before .before .before .before .before .before .before .shared-slice-known .given (inImage (c .before .before .before .before .before .before .before .before .before .before .before .before .before .args .p3) at) .fits) (c .before .before .before .before .before .before .before .bound .ensures)) .depth)
+cast-depth c = omega (arith, c .before .before .numbers-of .ensures .depth, (answer-few (λ at. c .before .before .before .before .before .before .before .before .before .before .before .before .shared-slice-known .given (inImage (p3Given (c .before .before .before .before .before .before .before .before .before .before .before .before .before .args .d) (c .before .before .before .before .before .before .before .before .before .before .before .before .before .args .p3)) at) .fits) (c .before .before .before .before .before .before .before .bound .ensures)) .depth)
 
 same-length : tie.Need-same-length
 same-length c = search needs

@@ -3,6 +3,7 @@ use native.Mathlib.Omega.{arith}
 use Rattle.pane_device.proofs.Answers.{answered-as, fits-read, operand-lt, address-inside, address-fits, row-refused, row-shown}
 use denote.Ref.{now}
 use Rattle.device.specs.Device.{inImage}
+use Rattle.reader.specs.Answer.{p3Given}
 use borrow.Author.Needs.{needs}
 use Rattle.pane_device.proofs.row_call.Statement.{statement}
 use Rattle.pane_device.proofs.row_call.Tie as tie
@@ -14,19 +15,19 @@ read-numbers-requires : tie.Need-read-numbers-requires
 read-numbers-requires c κs = search needs
 
 in-order-requires : tie.Need-in-order-requires
-in-order-requires c κs = fits-read (c .before .before .before .before .args .d) (now (c .before .before .before .before .args .image)) (c .before .before .before .before .args .p3) (λ at. c .before .before .before .shared-slice-known .given (inImage (c .before .before .before .before .args .p3) at) .fits) (c .before .before .before .before .args .address) (answered-as (c .before .before .before .before .args .d) (now (c .before .before .before .before .args .image)) (c .before .before .before .before .args .p3) (c .before .before .before .before .args .address) (c .before .before .read .ensures) (c .before .read-numbers .ensures))
+in-order-requires c κs = fits-read (c .before .before .before .before .args .d) (now (c .before .before .before .before .args .image)) (p3Given (c .before .before .before .before .args .d) (c .before .before .before .before .args .p3)) (λ at. c .before .before .before .shared-slice-known .given (inImage (p3Given (c .before .before .before .before .args .d) (c .before .before .before .before .args .p3)) at) .fits) (c .before .before .before .before .args .address) (answered-as (c .before .before .before .before .args .d) (now (c .before .before .before .before .args .image)) (p3Given (c .before .before .before .before .args .d) (c .before .before .before .before .args .p3)) (c .before .before .before .before .args .address) (c .before .before .read .ensures) (c .before .read-numbers .ensures))
 
 returns : tie.Need-returns
-returns c = row-refused (c .before .before .before .before .before .before .before .args .d) (now (c .before .before .before .before .before .before .before .args .image)) (c .before .before .before .before .before .before .before .args .p3) (c .before .before .before .before .before .before .before .args .address) (answered-as (c .before .before .before .before .before .before .before .args .d) (now (c .before .before .before .before .before .before .before .args .image)) (c .before .before .before .before .before .before .before .args .p3) (c .before .before .before .before .before .before .before .args .address) (c .before .before .before .before .before .read .ensures) (c .before .before .before .before .read-numbers .ensures)) (c .before .before .in-order .ensures .0) (c .before .before .in-order .ensures .1) (c .if1 .taken)
+returns c = row-refused (c .before .before .before .before .before .before .before .args .d) (now (c .before .before .before .before .before .before .before .args .image)) (p3Given (c .before .before .before .before .before .before .before .args .d) (c .before .before .before .before .before .before .before .args .p3)) (c .before .before .before .before .before .before .before .args .address) (answered-as (c .before .before .before .before .before .before .before .args .d) (now (c .before .before .before .before .before .before .before .args .image)) (p3Given (c .before .before .before .before .before .before .before .args .d) (c .before .before .before .before .before .before .before .args .p3)) (c .before .before .before .before .before .before .before .args .address) (c .before .before .before .before .before .read .ensures) (c .before .before .before .before .read-numbers .ensures)) (c .before .before .in-order .ensures .0) (c .before .before .in-order .ensures .1) (c .if1 .taken)
 
 cast-target : tie.Need-cast-target
-cast-target c = omega (arith, address-fits (c .before .before .before .before .before .before .before .args .d) (now (c .before .before .before .before .before .before .before .args .image)) (c .before .before .before .before .before .before .before .args .p3) (c .before .before .before .before .before .before .before .args .address) (answered-as (c .before .before .before .before .before .before .before .args .d) (now (c .before .before .before .before .before .before .before .args .image)) (c .before .before .before .before .before .before .before .args .p3) (c .before .before .before .before .before .before .before .args .address) (c .before .before .before .before .before .read .ensures) (c .before .before .before .before .read-numbers .ensures)) (c .if1 .left))
+cast-target c = omega (arith, address-fits (c .before .before .before .before .before .before .before .args .d) (now (c .before .before .before .before .before .before .before .args .image)) (p3Given (c .before .before .before .before .before .before .before .args .d) (c .before .before .before .before .before .before .before .args .p3)) (c .before .before .before .before .before .before .before .args .address) (answered-as (c .before .before .before .before .before .before .before .args .d) (now (c .before .before .before .before .before .before .before .args .image)) (p3Given (c .before .before .before .before .before .before .before .args .d) (c .before .before .before .before .before .before .before .args .p3)) (c .before .before .before .before .before .before .before .args .address) (c .before .before .before .before .before .read .ensures) (c .before .before .before .before .read-numbers .ensures)) (c .if1 .left))
 
 target-requires : tie.Need-target-requires
-target-requires c κs = (address-inside (c .before .before .before .before .before .before .before .args .d) (now (c .before .before .before .before .before .before .before .args .image)) (c .before .before .before .before .before .before .before .args .p3) (c .before .before .before .before .before .before .before .args .address) (answered-as (c .before .before .before .before .before .before .before .args .d) (now (c .before .before .before .before .before .before .before .args .image)) (c .before .before .before .before .before .before .before .args .p3) (c .before .before .before .before .before .before .before .args .address) (c .before .before .before .before .before .read .ensures) (c .before .before .before .before .read-numbers .ensures)) (c .if1 .left), operand-lt _ (fits-read (c .before .before .before .before .before .before .before .args .d) (now (c .before .before .before .before .before .before .before .args .image)) (c .before .before .before .before .before .before .before .args .p3) (λ at. c .before .before .before .before .before .before .shared-slice-known .given (inImage (c .before .before .before .before .before .before .before .args .p3) at) .fits) (c .before .before .before .before .before .before .before .args .address) (answered-as (c .before .before .before .before .before .before .before .args .d) (now (c .before .before .before .before .before .before .before .args .image)) (c .before .before .before .before .before .before .before .args .p3) (c .before .before .before .before .before .before .before .args .address) (c .before .before .before .before .before .read .ensures) (c .before .before .before .before .read-numbers .ensures))))
+target-requires c κs = (address-inside (c .before .before .before .before .before .before .before .args .d) (now (c .before .before .before .before .before .before .before .args .image)) (p3Given (c .before .before .before .before .before .before .before .args .d) (c .before .before .before .before .before .before .before .args .p3)) (c .before .before .before .before .before .before .before .args .address) (answered-as (c .before .before .before .before .before .before .before .args .d) (now (c .before .before .before .before .before .before .before .args .image)) (p3Given (c .before .before .before .before .before .before .before .args .d) (c .before .before .before .before .before .before .before .args .p3)) (c .before .before .before .before .before .before .before .args .address) (c .before .before .before .before .before .read .ensures) (c .before .before .before .before .read-numbers .ensures)) (c .if1 .left), operand-lt _ (fits-read (c .before .before .before .before .before .before .before .args .d) (now (c .before .before .before .before .before .before .before .args .image)) (p3Given (c .before .before .before .before .before .before .before .args .d) (c .before .before .before .before .before .before .before .args .p3)) (λ at. c .before .before .before .before .before .before .shared-slice-known .given (inImage (p3Given (c .before .before .before .before .before .before .before .args .d) (c .before .before .before .before .before .before .before .args .p3)) at) .fits) (c .before .before .before .before .before .before .before .args .address) (answered-as (c .before .before .before .before .before .before .before .args .d) (now (c .before .before .before .before .before .before .before .args .image)) (p3Given (c .before .before .before .before .before .before .before .args .d) (c .before .before .before .before .before .before .before .args .p3)) (c .before .before .before .before .before .before .before .args .address) (c .before .before .before .before .before .read .ensures) (c .before .before .before .before .read-numbers .ensures))))
 
 returns-2 : tie.Need-returns-2
-returns-2 c = row-shown (c .before .before .before .before .before .before .before .before .args .d) (now (c .before .before .before .before .before .before .before .before .args .image)) (c .before .before .before .before .before .before .before .before .args .p3) (c .before .before .before .before .before .before .before .before .args .address) (answered-as (c .before .before .before .before .before .before .before .before .args .d) (now (c .before .before .before .before .before .before .before .before .args .image)) (c .before .before .before .before .before .before .before .before .args .p3) (c .before .before .before .before .before .before .before .before .args .address) (c .before .before .before .before .before .before .read .ensures) (c .before .before .before .before .before .read-numbers .ensures)) (c .before .before .before .in-order .ensures .0) (c .before .before .before .in-order .ensures .1) _ (c .before .if1 .left) (c .target .ensures)
+returns-2 c = row-shown (c .before .before .before .before .before .before .before .before .args .d) (now (c .before .before .before .before .before .before .before .before .args .image)) (p3Given (c .before .before .before .before .before .before .before .before .args .d) (c .before .before .before .before .before .before .before .before .args .p3)) (c .before .before .before .before .before .before .before .before .args .address) (answered-as (c .before .before .before .before .before .before .before .before .args .d) (now (c .before .before .before .before .before .before .before .before .args .image)) (p3Given (c .before .before .before .before .before .before .before .before .args .d) (c .before .before .before .before .before .before .before .before .args .p3)) (c .before .before .before .before .before .before .before .before .args .address) (c .before .before .before .before .before .before .read .ensures) (c .before .before .before .before .before .read-numbers .ensures)) (c .before .before .before .in-order .ensures .0) (c .before .before .before .in-order .ensures .1) _ (c .before .if1 .left) (c .target .ensures)
 
 pub row-call-spec : {M : Type 1} → statement M
 row-call-spec =
