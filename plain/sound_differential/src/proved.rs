@@ -1,4 +1,4 @@
-//! The proved calls' answers: `Proved::new()` and `answers(&[Call]) -> Vec<Answer>`. See build.rs for the two ways.
+//! The proved calls' answers: `Proved::new()` and `answers(&[Call]) -> Vec<Answer>`. See the crate archives for the two ways.
 
 #[cfg(linked)]
 mod linked;

@@ -1,57 +1,30 @@
-//! The archive in a server of its own, server.c, which tools/on-host runs. A request and an answer have 24 bytes each, so
-//! that those of a batch fit into the pipes.
+//! The archive in a server, server.c. A request and an answer have 24 bytes each.
 
 use crate::calls::{Answer, Call, Kind};
+use archives::Server;
 use std::io::{Read, Write};
-use std::path::Path;
-use std::process::{Child, ChildStdin, ChildStdout, Command, Stdio};
 
-const BATCH: usize = 1024;
 const HEAD: usize = 12;
 const MESSAGE: usize = 24;
 
-pub struct Proved {
-    server: Child,
-    requests: Option<ChildStdin>,
-    answers: ChildStdout,
-}
+pub struct Proved(Server);
 
 impl Proved {
     #[allow(clippy::new_without_default)]
     pub fn new() -> Proved {
-        let here = Path::new(env!("CARGO_MANIFEST_DIR"));
-        let program = here.join("../target/server/em73862-sound-server");
-        assert!(program.exists(), "there is no {}: tools/build-server sound makes it", program.display());
-        let mut server = Command::new(here.join("../../tools/on-host"))
-            .arg(program)
-            .stdin(Stdio::piped())
-            .stdout(Stdio::piped())
-            .spawn()
-            .expect("tools/on-host starts the server");
-        let requests = server.stdin.take();
-        let answers = server.stdout.take().expect("the server's output is a pipe");
-        Proved { server, requests, answers }
+        Proved(Server::start("em73862-sound-server"))
     }
 
     pub fn answers(&mut self, calls: &[Call]) -> Vec<Answer> {
-        calls.chunks(BATCH).flat_map(|batch| self.batch(batch)).collect()
-    }
-
-    fn batch(&mut self, calls: &[Call]) -> Vec<Answer> {
-        let requests = self.requests.as_mut().expect("the server's input is a pipe");
-        let bytes: Vec<u8> = calls.iter().flat_map(request).collect();
-        requests.write_all(&bytes).expect("the server reads every call");
-        let mut answers = vec![0; MESSAGE * calls.len()];
-        self.answers.read_exact(&mut answers).expect("the server answers every call");
-        calls.iter().zip(answers.chunks_exact(MESSAGE)).map(|(call, bytes)| answer(call, bytes)).collect()
-    }
-}
-
-impl Drop for Proved {
-    /// The server ends at the end of its input.
-    fn drop(&mut self) {
-        self.requests = None;
-        let _ = self.server.wait();
+        let send = |requests: &mut archives::Requests, calls: &[Call]| {
+            calls.iter().try_for_each(|call| requests.write_all(&request(call)))?;
+            requests.flush()
+        };
+        self.0.answers(calls, send, |answers, call| {
+            let mut bytes = [0; MESSAGE];
+            answers.read_exact(&mut bytes)?;
+            Ok(answer(call, &bytes))
+        })
     }
 }
 
