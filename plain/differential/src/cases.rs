@@ -13,6 +13,7 @@ pub mod rows;
 pub mod sound;
 pub mod waking;
 pub mod why;
+pub mod worked;
 
 use crate::asker::first_difference;
 use crate::calls::{Answer, Call, Image, MOST_VALUES};
@@ -122,6 +123,13 @@ pub fn failures(proved: &mut Proved, cases: &[Case]) -> Vec<String> {
 #[cfg(test)]
 mod tests {
     use super::*;
+
+    #[test]
+    fn the_plain_emulator_gives_the_worked_values() {
+        let (compared, failures) = worked::judged("plain", |call| plainly::answer(&call));
+        assert_eq!(failures, [""; 0]);
+        assert!(compared > 100);
+    }
 
     #[test]
     fn the_plain_emulator_gives_every_answer() {

@@ -1,7 +1,8 @@
 //! `cases`: puts the cases of `differential::cases`, whose answers were written from the documents, to the proved calls and to the
 //! plain emulator. Its last line is 'N passed, M failed'; exit status 0 only where none failed.
 
-use differential::cases::{failures, groups, rows, Case};
+use differential::cases::{failures, groups, rows, worked, Case};
+use differential::plainly;
 use differential::proved::Proved;
 use std::process::exit;
 
@@ -23,6 +24,16 @@ fn main() {
         println!("{name}: {} calls", cases.len());
         // Each call is put to two sides.
         passed += 2 * cases.len() - failures.len();
+        failed += failures.len();
+    }
+    let by_proved = worked::judged("proved", |call| proved.answers(&[call]).remove(0));
+    let by_plain = worked::judged("plain", |call| plainly::answer(&call));
+    for (compared, failures) in [by_proved, by_plain] {
+        for failure in &failures {
+            println!("{failure}");
+        }
+        println!("worked values: {compared} lines");
+        passed += compared - failures.len();
         failed += failures.len();
     }
     println!("{passed} passed, {failed} failed");
