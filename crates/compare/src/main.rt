@@ -11,21 +11,22 @@ use compare_listing::last_line;
 use device::Device;
 use device::frame_size;
 use device::image_size;
-use device_words::Choice;
-use device_words::Chosen;
-use file_part::read_behind;
-use file_part::to_front;
-use image_file::chosen_device;
-use image_file::read_image;
 use libc::STDERR_FILENO;
 use libc::STDOUT_FILENO;
-use machine::Ram;
-use machine_start::fresh;
-use streams::Ending;
-use streams::ending_of;
-use streams::say;
-use streams::show;
-use text_runner::header;
+use listing::line::header;
+use program::image::chosen_device;
+use program::image::read_image;
+use program::part::read_behind;
+use program::part::to_front;
+use program::streams::Ending;
+use program::streams::Got;
+use program::streams::ending_of;
+use program::streams::say;
+use program::streams::show;
+use program::words::Choice;
+use program::words::Chosen;
+use record::Ram;
+use record::start::fresh;
 ghost use mathlib.Core.Path.{_≡_};
 ghost use mathlib.Core.Bool.{true};
 ghost use Prim.Native.Nat.{_+_, _<_, _≤_};
@@ -111,12 +112,25 @@ fn open_word(word: usize) -> i32 {
     os::open_read(&path[..n])
 }
 
+// The next part of the listing. One that cannot be opened has no lines.
+fn listing_part(file: i32, listing: &mut [u8]) -> Got
+    ensures { λ r. ⌜ r .count ≤ length (now (listing .entry)) ⌝ }
+{
+    if file < 0 {
+        return Got {
+            failed: false,
+            count: 0,
+        };
+    }
+    read_behind(file, listing, 0)
+}
+
 // More of the listing, where all of it is used.
 fn more_listing(file: i32, listing: &mut [u8], p: Parts) -> Parts
     requires { ⌜ (p .from ≤ p .to) ⌝ }
     ensures { λ r. ⌜ (r .from ≡ p .from) × (r .to ≡ p .to) × (r .at ≤ r .end) × (r .end ≤ length (now (listing .entry))) ⌝ }
 {
-    let got = read_behind(file, listing, 0);
+    let got = listing_part(file, listing);
     Parts {
         from: p.from,
         to: p.to,
@@ -206,7 +220,7 @@ fn rest_of_listing(p: Progress, ours: &[u8], file: i32, listing: &mut [u8], part
         if heard.used < end - at {
             return Found::Told(verdict(phase, line, size, true));
         }
-        let got = read_behind(file, listing, 0);
+        let got = listing_part(file, listing);
         if got.failed {
             return Found::NoListing;
         }
@@ -344,9 +358,6 @@ fn run(d: Device, image: &[u8], files: Files) -> Found
 {
     if files.script < 0 {
         return Found::Told(Compared::NotAFrame);
-    }
-    if files.listing < 0 {
-        return Found::NoListing;
     }
     let mut script = io::large_buffer();
     let mut listing = io::large_buffer();

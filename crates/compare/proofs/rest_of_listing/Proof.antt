@@ -8,7 +8,7 @@ use lib.ListN.{length}
 use lib.Seq.{length-take-le}
 use Rattle.laws.proofs.Computed.{true→T}
 use Rattle.compare_lines.specs.Left.{Placed}
-use Rattle.file_part.proofs.Lengths.{part-length}
+use Rattle.program.proofs.part.Lengths.{part-length}
 use Rattle.compare.proofs.rest_of_listing.Statement.{statement}
 use Rattle.compare.proofs.rest_of_listing.Tie as tie
 
@@ -57,8 +57,8 @@ same-length c = c .before .before .before .before .before .before .before .befor
 returns : tie.Need-returns Inv-loop μ-loop
 returns c = tt
 
-read-behind-requires : tie.Need-read-behind-requires Inv-loop μ-loop
-read-behind-requires c κs = omega arith
+listing-part-requires : tie.Need-listing-part-requires Inv-loop μ-loop
+listing-part-requires c κs = omega arith
 
 same-length-2 : tie.Need-same-length-2 Inv-loop μ-loop
 same-length-2 c = search needs
@@ -114,7 +114,7 @@ rest-of-listing-spec =
     verdict-requires
     same-length
     returns
-    read-behind-requires
+    listing-part-requires
     same-length-2
     returns-2
     verdict-requires-2

@@ -9,9 +9,6 @@ use Rattle.compare.proofs.run.Tie as tie
 returns : tie.Need-returns
 returns c = search needs
 
-returns-2 : tie.Need-returns-2
-returns-2 c = search needs
-
 large-buffer-requires : tie.Need-large-buffer-requires
 large-buffer-requires c κs = search needs
 
@@ -41,22 +38,21 @@ slice-aggregate-session-3 c = search needs
 
 session-requires : tie.Need-session-requires
 session-requires c κs =
-    let pre = c .before .before .before .before .before .before .before .before .before .before .before .before .before .before .before .before .before .before .before .before .pre in
+    let pre = c .before .before .before .before .before .before .before .before .before .before .before .before .before .before .before .before .before .pre in
     let the-begin = c .before .before .before .before .begin in
     let the-fresh = c .before .before .before .before .before .before .before .fresh in
     let the-header = c .before .before .before .before .before .before .before .before .before .header in
     let the-large-buffer = c .before .before .before .before .before .before .before .before .before .before .before .before .large-buffer in
     (pre, rw (the-begin .ensures, the-fresh .ensures) (start-sound _ (the-header .ensures .0) refl), omega (arith, the-large-buffer .ensures))
 
-returns-3 : tie.Need-returns-3
-returns-3 c = search needs
+returns-2 : tie.Need-returns-2
+returns-2 c = search needs
 
 pub run-spec : {M : Type 1} → statement M
 run-spec =
     tie.close
     (tie.spec
     returns
-    returns-2
     large-buffer-requires
     large-buffer-requires-2
     slice-aggregate-header
@@ -67,4 +63,4 @@ run-spec =
     slice-aggregate-session-2
     slice-aggregate-session-3
     session-requires
-    returns-3)
+    returns-2)

@@ -1,7 +1,7 @@
 -- `compare::turn` meets its contract.
 use native.Mathlib.Omega.{arith}
 use denote.Ref.{now}
-use Rattle.file_part.proofs.Lengths.{part-length, goes-on}
+use Rattle.program.proofs.part.Lengths.{part-length, goes-on}
 use borrow.Author.Needs.{needs}
 use Rattle.compare.proofs.turn.Statement.{statement}
 use Rattle.compare.proofs.turn.Tie as tie
