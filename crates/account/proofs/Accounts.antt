@@ -3,9 +3,9 @@ use mathlib.Core.Path.{_≡_}
 use mathlib.Core.List.{List, [], _∷_}
 use Prim.Native.Nat.{ℕ, _+_, _*_, _/_, _%_, _^_, _<_}
 use native.Mathlib.Omega.{arith}
-use Rattle.machine.specs.Valid.{ValidTimers}
-use Rattle.machine.specs.declared.Timers.{Timers}
-use Rattle.machine.specs.declared.Machine.{Machine}
+use Rattle.record.specs.Valid.{ValidTimers}
+use Rattle.record.specs.declared.Timers.{Timers}
+use Rattle.record.specs.declared.Machine.{Machine}
 use Rattle.account.specs.Sequence.{StepInput, stepBy, recordAfter, cyclesSpent, EachStep, KeepsMode}
 use Rattle.account.specs.Account.{ClockAccount, Timer, countOf, CountsOn, multiplesMet, periodOf, TimerAccount}
 use Rattle.account.proofs.Multiples.{met-sum}

@@ -14,9 +14,9 @@ use Rattle.device.specs.Device.{imageSize, frameSize, romOf}
 use Rattle.device.specs.declared.Options.{Options}
 use Rattle.frame.specs.Frame.{areFrames, framesOf}
 use Rattle.frame.specs.declared.Pins.{Pins}
-use Rattle.machine.specs.Valid.{Valid}
-use Rattle.machine.specs.declared.Machine.{Machine}
-use Rattle.machine_valid.proofs.Validity.{valid?}
+use Rattle.record.specs.Valid.{Valid}
+use Rattle.record.specs.declared.Machine.{Machine}
+use Rattle.record.proofs.valid.Validity.{valid?}
 use Rattle.row.specs.Rows.{Done}
 use Rattle.step.specs.Step.{stepOf}
 use Rattle.step.proofs.StepValid.{stop-leaves}

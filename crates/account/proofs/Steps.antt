@@ -19,8 +19,8 @@ use Rattle.due.specs.Due.{int0Due, trgaDue, trgbDue, tbiDue, int1Due, dueSource
 use Rattle.ports.specs.declared.Mode.{Mode}
 use Rattle.ports.specs.declared.Ports.{Ports}
 use Rattle.ports.specs.declared.Mode.the-variants.{Running}
-use Rattle.machine.specs.declared.Core.{Core}
-use Rattle.machine.specs.declared.Machine.{Machine}
+use Rattle.record.specs.declared.Core.{Core}
+use Rattle.record.specs.declared.Machine.{Machine}
 use Rattle.row.specs.Rows.{Done}
 use Rattle.step_look.specs.Look.{timeOf, isRunning, edgesTimed, edgesCounted, releasesByLevel, waited}
 use Rattle.step_look.specs.declared.Looked.{Looked}

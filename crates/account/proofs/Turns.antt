@@ -17,10 +17,10 @@ use Rattle.sheet.specs.declared.Read.{Read}
 use Rattle.ports.specs.Ports.{enters}
 use Rattle.ports.specs.declared.Mode.{Mode}
 use Rattle.ports.specs.declared.Mode.the-variants.{Running}
-use Rattle.machine.specs.Stack.{canPush, canPop, moved, called, popped, accepted, flagsReturned}
-use Rattle.machine.specs.declared.Registers.{Registers}
-use Rattle.machine.specs.declared.Interrupts.{Interrupts}
-use Rattle.machine.specs.declared.Machine.{Machine}
+use Rattle.record.specs.Stack.{canPush, canPop, moved, called, popped, accepted, flagsReturned}
+use Rattle.record.specs.declared.Registers.{Registers}
+use Rattle.record.specs.declared.Interrupts.{Interrupts}
+use Rattle.record.specs.declared.Machine.{Machine}
 use Rattle.row.specs.Places.{Around, portOf, putOf}
 use Rattle.row.specs.Rows.{Done, spent, stops, workOf, branchOf, callOf, latchesOf, performed, pcPast}
 use Rattle.row.proofs.Keeps.{work-holds, work-keeps-but, Any, any-in, any-after}

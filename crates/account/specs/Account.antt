@@ -17,9 +17,9 @@ use Rattle.frame.specs.declared.Pins.{Pins}
 use Rattle.clock.specs.Clock.{isMultiple, timerExponent}
 use Rattle.ports.specs.declared.Ports.{Ports}
 use Rattle.ports.specs.declared.Mode.the-variants.{Running}
-use Rattle.machine.specs.Valid.{ValidTimers}
-use Rattle.machine.specs.declared.Timers.{Timers}
-use Rattle.machine.specs.declared.Machine.{Machine}
+use Rattle.record.specs.Valid.{ValidTimers}
+use Rattle.record.specs.declared.Timers.{Timers}
+use Rattle.record.specs.declared.Machine.{Machine}
 use Rattle.row.specs.Columns.{workPuts}
 use Rattle.step_act.specs.Act.{sourceOf, shown}
 use Rattle.step.specs.Step.{lookStep}

@@ -20,7 +20,7 @@ use routines_bound::Greatest;
 ghost use mathlib.Core.Path.{_≡_};
 ghost use Prim.Native.Nat.{_+_, _*_, _%_, _<_, _≤_};
 ghost use lib.ListN.{length};
-ghost use Rattle.device.specs.Device.{romOf};
+ghost use Rattle.device.specs.Device.{romOf, windowEnd};
 ghost use Rattle.reader.specs.Answer.{p3Given};
 ghost use Rattle.routines.specs.Answer.{Answer};
 ghost use Rattle.routines_bound.specs.Handler.{foundOf};
@@ -45,7 +45,7 @@ pub enum Bounded {
 
 // The bound from an address of the image. Where the outer routine reaches no call it is the whole handler.
 fn found(d: Device, image: &[u8], p3: u8, address: usize, path: &mut [u8], deep: &mut [u8]) -> Found
-    requires { ⌜ (8192 + 4096 * (p3 % 4) ≤ length (now image)) × (address < 8192) ⌝ }
+    requires { ⌜ (windowEnd p3 ≤ length (now image)) × (address < 8192) ⌝ }
     ensures { λ r. ⌜ Answer (callFlow d (romOf (now (image .entry)) p3) address) (callCycles d (romOf (now (image .entry)) p3)) addressOf
         (now (path .entry)) (now (path .exit)) (now (deep .entry)) (now (deep .exit)) (foundOf r) ⌝ }
 {

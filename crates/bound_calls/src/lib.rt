@@ -11,7 +11,7 @@ ghost use mathlib.Core.Path.{_≡_};
 ghost use Prim.Native.Nat.{_+_, _*_, _%_, _<_, _≤_};
 ghost use lib.ListN.{length};
 ghost use Rattle.numbers.specs.Sizes.{addresses};
-ghost use Rattle.device.specs.Device.{romOf};
+ghost use Rattle.device.specs.Device.{romOf, windowEnd};
 ghost use Rattle.graph.specs.Laid.{places};
 ghost use Rattle.sheet.specs.Fields.{InFields};
 ghost use Rattle.sheet.specs.Flow.{callEntry};
@@ -167,7 +167,7 @@ fn node_by(at: u16, known: bool, i: Insn, cost: Cost, way: u8) -> CallNode
 
 // What stands at a place of an image, seen through the window of P3, and what follows it.
 pub fn node_at(d: Device, image: &[u8], p3: u8, v: usize) -> CallNode
-    requires { ⌜ (8192 + 4096 * (p3 % 4) ≤ length (now image)) × (v < places) ⌝ }
+    requires { ⌜ (windowEnd p3 ≤ length (now image)) × (v < places) ⌝ }
     ensures { λ r. ⌜ r ≡ callNodeOf d (romOf (now (image .entry)) p3) v ⌝ }
 {
     let at = (v / 2) as u16;

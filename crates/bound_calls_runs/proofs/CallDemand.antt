@@ -8,7 +8,7 @@ use lib.ListN.{length}
 use Rattle.device.specs.declared.Device.{Device}
 use Rattle.device.specs.declared.Options.{Options}
 use Rattle.frame.specs.declared.Pins.{Pins}
-use Rattle.machine.specs.declared.Machine.{Machine}
+use Rattle.record.specs.declared.Machine.{Machine}
 use Rattle.step.specs.Step.{stepOf}
 use Rattle.run.specs.Run.{runOf}
 use Rattle.run.proofs.Rest.{run-next}

@@ -11,11 +11,11 @@ use Rattle.sheet.specs.Operation.Operation.{return-FLAG}
 use Rattle.sheet.specs.Table.{Line}
 use Rattle.sheet.specs.Flow.{callEntry}
 use Rattle.ports.specs.declared.Mode.the-variants.{Running}
-use Rattle.machine.specs.Stack.{canPush, canPop, CanPush, called, popped, keptTop, topAt, pcAt, level}
-use Rattle.machine.specs.Valid.{Nibbles}
-use Rattle.machine.specs.declared.Machine.{Machine}
-use Rattle.machine.proofs.Levels.{pc-back}
-use Rattle.machine.proofs.Range.{can-push}
+use Rattle.record.specs.Stack.{canPush, canPop, CanPush, called, popped, keptTop, topAt, pcAt, level}
+use Rattle.record.specs.Valid.{Nibbles}
+use Rattle.record.specs.declared.Machine.{Machine}
+use Rattle.record.proofs.Levels.{pc-back}
+use Rattle.record.proofs.Range.{can-push}
 use Rattle.row.specs.Places.{Around}
 use Rattle.row.specs.Rows as Rows
 use Rattle.row.specs.Rows.{Done, pcPast, spent, callOf, branchOf, latchesOf, performed}

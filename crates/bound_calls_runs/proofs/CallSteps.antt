@@ -13,10 +13,10 @@ use Rattle.reader.proofs.Rows.{read-in-fields}
 use Rattle.frame.specs.Frame.{PinsInRange}
 use Rattle.frame.specs.declared.Pins.{Pins}
 use Rattle.ports.specs.declared.Mode.{Mode}
-use Rattle.machine.specs.Stack.{pcAt}
-use Rattle.machine.specs.Valid.{Valid}
-use Rattle.machine.specs.declared.Core.{Core}
-use Rattle.machine.specs.declared.Machine.{Machine}
+use Rattle.record.specs.Stack.{pcAt}
+use Rattle.record.specs.Valid.{Valid}
+use Rattle.record.specs.declared.Core.{Core}
+use Rattle.record.specs.declared.Machine.{Machine}
 use Rattle.row.specs.Rows.{Done, executed}
 use Rattle.row.proofs.RowsValid.{line-fits}
 use Rattle.step_act.specs.Act.{coreIn, coreAfter, afterTime}

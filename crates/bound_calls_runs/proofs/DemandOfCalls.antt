@@ -11,8 +11,8 @@ use Rattle.device.specs.Device.{imageSize, romOf}
 use Rattle.device.specs.declared.Device.{Device}
 use Rattle.device.specs.declared.Options.{Options}
 use Rattle.frame.specs.Frame.{framesOf}
-use Rattle.machine.specs.Valid.{Valid}
-use Rattle.machine.specs.declared.Machine.{Machine}
+use Rattle.record.specs.Valid.{Valid}
+use Rattle.record.specs.declared.Machine.{Machine}
 use Rattle.routines.specs.Answer.{Found, Judged, HasBound, PathAnswer, FlowAnswer, Answer}
 use Rattle.bound_flow.specs.Flow.{addressOf}
 use Rattle.bound_runs.proofs.Buffers.{all-in-range}

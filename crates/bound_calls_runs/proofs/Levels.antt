@@ -6,8 +6,8 @@ use native.Mathlib.Nat.{add-zero}
 use native.Mathlib.Omega.{arith}
 use lib.ListN.{getD, set}
 use lib.Seq.{getD-set-other}
-use Rattle.machine.specs.Stack.{level, stored, pcAt}
-use Rattle.machine.specs.declared.Machine.{Machine}
+use Rattle.record.specs.Stack.{level, stored, pcAt}
+use Rattle.record.specs.declared.Machine.{Machine}
 use Rattle.bound_calls_runs.specs.CallHandler.{LevelsKept}
 
 module _ (ram : List ℕ) (n pc top : ℕ) where

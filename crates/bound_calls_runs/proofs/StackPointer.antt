@@ -5,7 +5,7 @@ use Prim.Native.Nat.{ℕ}
 use lib.Dec.{T}
 use Rattle.sheet.specs.Operation.{Place, Pointer, Step, After}
 use Rattle.sheet.specs.Table.{Line}
-use Rattle.machine.specs.declared.Machine.{Machine}
+use Rattle.record.specs.declared.Machine.{Machine}
 use Rattle.row.specs.Places.{Around, putOf}
 use Rattle.row.specs.Rows.{workOf}
 use Rattle.row.specs.Columns.{workPuts}

@@ -17,8 +17,8 @@ use Rattle.sheet.specs.declared.Read.{Read}
 use Rattle.frame.specs.Frame.{areFrames, framesOf}
 use Rattle.frame.specs.declared.Pins.{Pins}
 use Rattle.ports.specs.declared.Mode.the-variants.{Running}
-use Rattle.machine.specs.Stack.{level}
-use Rattle.machine.specs.declared.Machine.{Machine}
+use Rattle.record.specs.Stack.{level}
+use Rattle.record.specs.declared.Machine.{Machine}
 use Rattle.step_act.specs.Act.{shown}
 use Rattle.step.specs.Step.{stepOf}
 use Rattle.run.specs.Run.{runOf}

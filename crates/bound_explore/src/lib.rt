@@ -7,7 +7,7 @@ ghost use Prim.Native.Nat.{_+_, _*_, _%_, _<_, _≤_};
 ghost use lib.ListN.{length};
 ghost use Rattle.graph.specs.Laid.{places};
 ghost use Rattle.graph.specs.Graph.{Edge};
-ghost use Rattle.device.specs.Device.{romOf};
+ghost use Rattle.device.specs.Device.{romOf, windowEnd};
 ghost use Rattle.graph_search.specs.Marks.{Blank, Room, Grown};
 ghost use Rattle.graph_search.specs.Search.{Visited};
 ghost use Rattle.bound_explore.specs.Explored.{callGraph, Sized, Empty, Lays, Explored};
@@ -26,7 +26,7 @@ fn visit(
     count: usize,
     v: usize,
 ) -> usize
-    requires { ⌜ (8192 + 4096 * (p3 % 4) ≤ length (now image)) × Sized (now kind) (now next) (now other) (now cost) × Room (now m) (now q) count × (length (now m) ≡ places) × (v < places) ⌝ }
+    requires { ⌜ (windowEnd p3 ≤ length (now image)) × Sized (now kind) (now next) (now other) (now cost) × Room (now m) (now q) count × (length (now m) ≡ places) × (v < places) ⌝ }
     ensures { λ r. ⌜ Lays d (romOf (now (image .entry)) p3) v (now (kind .entry)) (now (next .entry)) (now (other .entry)) (now (cost .entry)) (now (kind .exit)) (now (next .exit)) (now (other .exit)) (now (cost .exit))
         × Grown (Edge (callGraph d (romOf (now (image .entry)) p3)) v) (now (m .entry)) (now (q .entry)) count (now (m .exit)) (now (q .exit)) r
         × Visited (callGraph d (romOf (now (image .entry)) p3)) v (now (m .exit)) ⌝ }
@@ -57,7 +57,7 @@ pub fn explore(
     m: &mut [u8],
     q: &mut [u16],
 ) -> usize
-    requires { ⌜ (8192 + 4096 * (p3 % 4) ≤ length (now image)) × (s < places) × Empty (now kind) (now next) (now other) (now cost) × Blank (now m) × (length (now m) ≡ places) × (length (now q) ≡ places) ⌝ }
+    requires { ⌜ (windowEnd p3 ≤ length (now image)) × (s < places) × Empty (now kind) (now next) (now other) (now cost) × Blank (now m) × (length (now m) ≡ places) × (length (now q) ≡ places) ⌝ }
     ensures { λ r. ⌜ Explored d (romOf (now (image .entry)) p3) s (now (kind .exit)) (now (next .exit)) (now (other .exit)) (now (cost .exit)) (now (m .exit)) (now (q .exit)) r ⌝ }
 {
     let mut count = mark(m, q, 0, s);

@@ -8,7 +8,7 @@ ghost use mathlib.Core.Path.{_≡_};
 ghost use Prim.Native.Nat.{_+_, _*_, _%_, _<_, _≤_};
 ghost use lib.ListN.{length};
 ghost use Rattle.graph.specs.Laid.{places};
-ghost use Rattle.device.specs.Device.{romOf};
+ghost use Rattle.device.specs.Device.{romOf, windowEnd};
 ghost use Rattle.graph_search.specs.Marks.{Blank, Queue};
 ghost use Rattle.bound_explore.specs.Explored.{Empty};
 ghost use Rattle.bound_plain.specs.Named.{HasCall, Named};
@@ -72,7 +72,7 @@ fn plain_in(
     marks: &mut [u8],
     queue: &mut [u16],
 ) -> Plain
-    requires { ⌜ (8192 + 4096 * (p3 % 4) ≤ length (now image)) × (address < 8192) × Empty (now kind) (now next) (now other) (now cost) × Blank (now marks) × (length (now marks) ≡ places) × (length (now queue) ≡ places) ⌝ }
+    requires { ⌜ (windowEnd p3 ≤ length (now image)) × (address < 8192) × Empty (now kind) (now next) (now other) (now cost) × Blank (now marks) × (length (now marks) ≡ places) × (length (now queue) ≡ places) ⌝ }
     ensures { λ r. ⌜ PlainAnswer d (romOf (now (image .entry)) p3) address (now (path .entry)) (now (path .exit)) (now (deep .entry)) (now (deep .exit)) r ⌝ }
 {
     let s = 2 * address + 1;
@@ -90,7 +90,7 @@ pub fn bound_plain(
     path: &mut [u8],
     deep: &mut [u8],
 ) -> Plain
-    requires { ⌜ (8192 + 4096 * (p3 % 4) ≤ length (now image)) × (address < 8192) ⌝ }
+    requires { ⌜ (windowEnd p3 ≤ length (now image)) × (address < 8192) ⌝ }
     ensures { λ r. ⌜ PlainAnswer d (romOf (now (image .entry)) p3) address (now (path .entry)) (now (path .exit)) (now (deep .entry)) (now (deep .exit)) r ⌝ }
 {
     let mut kind = [0u8; PLACES];

@@ -7,7 +7,7 @@ use routines_bound::bound_routines;
 ghost use mathlib.Core.Path.{_≡_};
 ghost use Prim.Native.Nat.{_+_, _*_, _%_, _<_, _≤_};
 ghost use lib.ListN.{length};
-ghost use Rattle.device.specs.Device.{romOf};
+ghost use Rattle.device.specs.Device.{romOf, windowEnd};
 ghost use Rattle.graph.specs.Laid.{places};
 ghost use Rattle.graph_search.specs.Marks.{Blank};
 ghost use Rattle.routines.specs.Answer.{Answer};
@@ -32,7 +32,7 @@ fn routed_in(
     marks: &mut [u8],
     queue: &mut [u16],
 ) -> Found
-    requires { ⌜ (8192 + 4096 * (p3 % 4) ≤ length (now image)) × (address < 8192) × Empty (now kind) (now next) (now other) (now entry) (now cost) × Blank (now marks) × (length (now marks) ≡ places) × (length (now queue) ≡ places) ⌝ }
+    requires { ⌜ (windowEnd p3 ≤ length (now image)) × (address < 8192) × Empty (now kind) (now next) (now other) (now entry) (now cost) × Blank (now marks) × (length (now marks) ≡ places) × (length (now queue) ≡ places) ⌝ }
     ensures { λ r. ⌜ Answer (callFlow d (romOf (now (image .entry)) p3) address) (callCycles d (romOf (now (image .entry)) p3)) addressOf (now (path .entry)) (now (path .exit)) (now (deep .entry)) (now (deep .exit)) (foundOf r) ⌝ }
 {
     let start = 2 * address + 1;
@@ -71,7 +71,7 @@ pub fn bound_routed(
     path: &mut [u8],
     deep: &mut [u8],
 ) -> Found
-    requires { ⌜ (8192 + 4096 * (p3 % 4) ≤ length (now image)) × (address < 8192) ⌝ }
+    requires { ⌜ (windowEnd p3 ≤ length (now image)) × (address < 8192) ⌝ }
     ensures { λ r. ⌜ Answer (callFlow d (romOf (now (image .entry)) p3) address) (callCycles d (romOf (now (image .entry)) p3)) addressOf (now (path .entry)) (now (path .exit)) (now (deep .entry)) (now (deep .exit)) (foundOf r) ⌝ }
 {
     let mut kind = [0u8; PLACES];

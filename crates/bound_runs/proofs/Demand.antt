@@ -4,7 +4,7 @@ use mathlib.Core.Bool.{true}
 use Prim.Native.Nat.{ℕ}
 use native.Mathlib.Omega.{arith}
 use Rattle.device.specs.declared.Device.{Device}
-use Rattle.machine.specs.declared.Machine.{Machine}
+use Rattle.record.specs.declared.Machine.{Machine}
 use Rattle.graph.specs.Graph.{here}
 use Rattle.bound_flow.specs.Flow.{startOf}
 use Rattle.bound_runs.specs.Handler.{Enters, Demand3}

@@ -13,8 +13,8 @@ use Rattle.frame.specs.Frame.{areFrames, framesOf}
 use Rattle.frame.specs.declared.Pins.{Pins}
 use Rattle.frame.specs.declared.Frame.the-variants.{Seen}
 use Rattle.frame.proofs.Sequence.{length-frames, frame-number}
-use Rattle.machine.specs.Valid.{Valid}
-use Rattle.machine.specs.declared.Machine.{Machine}
+use Rattle.record.specs.Valid.{Valid}
+use Rattle.record.specs.declared.Machine.{Machine}
 use Rattle.step.specs.Step.{stepOf}
 use Rattle.device.specs.declared.Options.{Options}
 use Rattle.run.specs.Run.{runOf}

@@ -18,7 +18,7 @@ use Rattle.sheet.specs.Table.{Line, set}
 use Rattle.sheet.specs.Flow.{targetOf}
 use Rattle.alu.specs.Flags.{flagAfter}
 use Rattle.ports.specs.declared.Mode.the-variants.{Running}
-use Rattle.machine.specs.declared.Machine.{Machine}
+use Rattle.record.specs.declared.Machine.{Machine}
 use Rattle.row.specs.Places.{Around}
 use Rattle.row.specs.Rows.{Done, pcPast, spent, stops, branchOf, latchesOf, performed}
 use Rattle.row.specs.Columns.{isOrdinary, setsEi, writesPort}

@@ -9,8 +9,8 @@ use Rattle.sheet.specs.Reading.{readAt}
 use Rattle.sheet.specs.declared.Insn.{Insn}
 use Rattle.sheet.specs.declared.Read.{Read}
 use Rattle.frame.specs.declared.Pins.{Pins}
-use Rattle.machine.specs.Valid.{Valid}
-use Rattle.machine.specs.declared.Machine.{Machine}
+use Rattle.record.specs.Valid.{Valid}
+use Rattle.record.specs.declared.Machine.{Machine}
 use Rattle.row.specs.Places.{Around}
 use Rattle.row.specs.Rows.{Done, executed}
 use Rattle.step_look.specs.Look.{isRunning, seen}

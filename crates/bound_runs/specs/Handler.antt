@@ -17,8 +17,8 @@ use Rattle.frame.specs.Frame.{frameAt, areFrames, framesOf, PinsInRange}
 use Rattle.frame.specs.declared.Pins.{Pins}
 use Rattle.frame.specs.declared.Frame.the-variants.{Seen}
 use Rattle.ports.specs.declared.Mode.the-variants.{Running}
-use Rattle.machine.specs.Valid.{Valid}
-use Rattle.machine.specs.declared.Machine.{Machine}
+use Rattle.record.specs.Valid.{Valid}
+use Rattle.record.specs.declared.Machine.{Machine}
 use Rattle.step_act.specs.Act.{shown}
 use Rattle.step.specs.Step.{stepOf}
 use Rattle.device.specs.declared.Options.{Options}

@@ -6,32 +6,33 @@ use bound_calls::node_at;
 use device::Device;
 use device::image_size;
 use device::is_banked;
-use device_words::Choice;
-use device_words::Chosen;
-use image_file::chosen_window;
-use image_file::read_image;
 use libc::STDERR_FILENO;
+use notation::sources::source_name;
 use numbers::ADDRESSES;
+use program::image::chosen_window;
+use program::image::read_image;
+use program::streams::ending_of;
+use program::streams::say;
+use program::streams::show;
+use program::streams::show_part;
+use program::words::Choice;
+use program::words::Chosen;
 use routines_bound::Greatest;
-use streams::ending_of;
-use streams::say;
-use streams::show;
-use streams::show_part;
+use text::digits::number;
+use text::digits::put;
+use text::words::Address;
 use text_bounder::cycles_at;
 use text_bounder::most_depth;
 use text_bounder::opened;
 use text_bounder::path_line;
 use text_bounder::summary;
-use text_digits::number;
-use text_digits::put;
-use text_sources::source_name;
-use text_words::Address;
 ghost use mathlib.Core.Path.{_≡_};
 ghost use Prim.Native.Nat.{_+_, _*_, _%_, _<_, _≤_};
 ghost use lib.ListN.{length};
 ghost use Rattle.numbers.specs.Sizes.{addresses};
 ghost use Rattle.numbers.specs.ComesBack.{valueAt};
 ghost use Rattle.bound.specs.Answer.{paperOf};
+ghost use Rattle.device.specs.Device.{windowEnd};
 
 fn usage() {
     io::write_all(
@@ -42,7 +43,7 @@ fn usage() {
 
 // Whether all of it was written, as each function here answers of what it writes.
 fn show_line(image: &[u8], p3: u8, at: u16, counted: u32) -> bool
-    requires { ⌜ (8192 + 4096 * (p3 % 4) ≤ length (now image)) × (at < addresses) × (counted < 100000) ⌝ }
+    requires { ⌜ (windowEnd p3 ≤ length (now image)) × (at < addresses) × (counted < 100000) ⌝ }
 {
     let mut out = io::buffer();
     let n = path_line(&mut out, 0, image, p3, at, counted);
@@ -66,7 +67,7 @@ fn address_in(path: &[u8], i: usize) -> u16
 
 // The lines of N's path: it ends where its cycles come to N.
 fn list_path(image: &[u8], p3: u8, path: &[u8], most: u32) -> bool
-    requires { ⌜ (8192 + 4096 * (p3 % 4) ≤ length (now image)) × (length (now path) ≡ 131070) × (most < 65536) ⌝ }
+    requires { ⌜ (windowEnd p3 ≤ length (now image)) × (length (now path) ≡ 131070) × (most < 65536) ⌝ }
 {
     let mut total = 0;
     let mut i = 0;
@@ -86,7 +87,7 @@ fn list_path(image: &[u8], p3: u8, path: &[u8], most: u32) -> bool
 
 // The lines of depth's path: it ends with RTI, which stands only where no call is open.
 fn list_deep(d: Device, image: &[u8], p3: u8, deep: &[u8]) -> bool
-    requires { ⌜ (8192 + 4096 * (p3 % 4) ≤ length (now image)) × (length (now deep) ≡ 131070) ⌝ }
+    requires { ⌜ (windowEnd p3 ≤ length (now image)) × (length (now deep) ≡ 131070) ⌝ }
 {
     let mut calls = 0;
     let mut i = 0;
@@ -171,7 +172,7 @@ fn explain(d: Device, answer: Bounded) -> bool {
 
 // Both paths of a bound, and the depth between them.
 fn list_both(d: Device, image: &[u8], p3: u8, bounds: Greatest, path: &[u8], deep: &[u8]) -> bool
-    requires { ⌜ (8192 + 4096 * (p3 % 4) ≤ length (now image)) × (length (now path) ≡ 131070) × (length (now deep) ≡ 131070) × (bounds .cycles < 65536) × (bounds .depth < 65536) ⌝ }
+    requires { ⌜ (windowEnd p3 ≤ length (now image)) × (length (now path) ≡ 131070) × (length (now deep) ≡ 131070) × (bounds .cycles < 65536) × (bounds .depth < 65536) ⌝ }
 {
     if !list_path(image, p3, path, bounds.cycles as u32) {
         return false;
@@ -183,7 +184,7 @@ fn list_both(d: Device, image: &[u8], p3: u8, bounds: Greatest, path: &[u8], dee
 }
 
 fn bound_at(d: Device, image: &[u8], p3: u8, at: u16) -> bool
-    requires { ⌜ 8192 + 4096 * (p3 % 4) ≤ length (now image) ⌝ }
+    requires { ⌜ windowEnd p3 ≤ length (now image) ⌝ }
 {
     let mut path = [0u8; MOST_BYTES];
     let mut deep = [0u8; MOST_BYTES];
@@ -227,7 +228,7 @@ fn entries(d: Device, image: &[u8], p3: u8) -> bool {
 }
 
 fn bound_image(d: Device, image: &[u8], p3: u8, before: u8) -> bool
-    requires { ⌜ 8192 + 4096 * (p3 % 4) ≤ length (now image) ⌝ }
+    requires { ⌜ windowEnd p3 ≤ length (now image) ⌝ }
 {
     let word_at = before as usize + 2;
     if os::arg_count() <= word_at {
@@ -235,7 +236,7 @@ fn bound_image(d: Device, image: &[u8], p3: u8, before: u8) -> bool
     }
     let mut word = io::buffer();
     let n = os::arg(word_at, &mut word);
-    let Address::At(at) = text_words::read_address(&word[..n]) else {
+    let Address::At(at) = text::words::read_address(&word[..n]) else {
         return show(b"refused 20\n");
     };
     if word_at + 1 < os::arg_count() {

@@ -4,7 +4,7 @@ use mathlib.Core.Bool.{Bool, true, false}
 use mathlib.Core.List.{List, [], _∷_, _++_, append-nil}
 use Prim.Native.Nat.{ℕ}
 use Rattle.laws.proofs.Computed.{true→T}
-use Rattle.text_script.specs.Script.{isLF}
+use Rattle.text.specs.Script.{isLF}
 use Rattle.compare_lines.specs.Lines.{Line, whole, onLine, cut}
 use Rattle.compare_lines.specs.Left.{plain}
 

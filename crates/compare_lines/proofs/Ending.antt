@@ -11,8 +11,9 @@ use lib.ListN.{length, take, drop, length-append, length-drop, drop-of-length-le
 use lib.Seq.{take-append-le, take-all}
 use Rattle.laws.specs.Choice.{pick}
 use Rattle.laws.proofs.Computed.{true→T}
-use Rattle.text_script.specs.Script.{isLF}
-use Rattle.compare_lines.specs.Lines.{Line, whole, cut, sameText, differFrom}
+use Rattle.text.specs.Script.{isLF}
+use Rattle.text.specs.Same.{sameText}
+use Rattle.compare_lines.specs.Lines.{Line, whole, cut, differFrom}
 use Rattle.compare_lines.specs.Left.{plain, OneLine, leftOf, settled, Hears, Heeds, CutShort, Onward}
 use Rattle.compare_lines.specs.declared.Compared.{Compared}
 use Rattle.compare_lines.specs.declared.Compared.the-variants.{Same, Differs}

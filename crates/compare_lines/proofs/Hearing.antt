@@ -11,7 +11,7 @@ use lib.Dec.{eqb}
 use lib.ListN.{length, getD, take, drop, length-append, length-drop, List·getD-append}
 use lib.Seq.{split-at, take-all, take-append-le, take-length, take-suc, drop-cons, drop-length, getD-at, append-snoc}
 use Rattle.laws.specs.Choice.{pick}
-use Rattle.text_script.specs.Script.{isLF}
+use Rattle.text.specs.Script.{isLF}
 use Rattle.compare_lines.specs.Lines.{cut, isBlank, differFrom}
 use Rattle.compare_lines.specs.Left.{plain, OneLine, clash, spacedFrom, spacedOf, blanksIn, leftOf, Placed, Runs, Hears}
 use Rattle.compare_lines.specs.declared.Compared.{Compared}

@@ -9,8 +9,9 @@ use lib.Dec.{eqb}
 use lib.ListN.{length, getD, take, drop}
 use Rattle.laws.specs.Choice.{pick, both}
 use Rattle.laws.proofs.Computed.{true→T}
-use Rattle.text_script.specs.Script.{isLF, onFirst}
-use Rattle.compare_lines.specs.Lines.{Line, whole, onLine, cut, isBlank, partsOf, full, fullParts, spaced, sameText, sameEnd, sameLine, fieldFrom, fieldOf, differFrom, differenceOf}
+use Rattle.text.specs.Script.{isLF, onFirst}
+use Rattle.text.specs.Same.{sameText}
+use Rattle.compare_lines.specs.Lines.{Line, whole, onLine, cut, isBlank, partsOf, full, fullParts, spaced, sameEnd, sameLine, fieldFrom, fieldOf, differFrom, differenceOf}
 use Rattle.compare_lines.specs.Named.{FieldNamed, FirstDiffers, LineNamed, Named, DifferenceTells}
 use Rattle.compare_lines.specs.declared.Compared.{Compared}
 use Rattle.compare_lines.specs.declared.Compared.the-variants.{Same, Differs}

@@ -10,8 +10,9 @@ use lib.ListN.{length, getD, take, drop}
 use Rattle.laws.specs.Choice.{pick, both, either}
 use Rattle.laws.proofs.Choices.{both-false}
 use Rattle.laws.proofs.Computed.{true→T}
-use Rattle.text_script.specs.Script.{isLF, onFirst}
-use Rattle.compare_lines.specs.Lines.{Line, whole, cut, isBlank, partsOf, spaced, sameText, sameEnd, sameLine, fieldFrom, fieldOf, differFrom}
+use Rattle.text.specs.Script.{isLF, onFirst}
+use Rattle.text.specs.Same.{sameText}
+use Rattle.compare_lines.specs.Lines.{Line, whole, cut, isBlank, partsOf, spaced, sameEnd, sameLine, fieldFrom, fieldOf, differFrom}
 use Rattle.compare_lines.specs.Left.{spacedFrom, plain, blanksIn, clash}
 use Rattle.compare_lines.specs.declared.Compared.{Compared}
 use Rattle.compare_lines.specs.declared.Compared.the-variants.{Same, Differs}

@@ -10,7 +10,7 @@ use lib.ListN.{length, getD, drop}
 use lib.Seq.{drop-cons}
 use Rattle.laws.specs.Choice.{pick, both, either}
 use Rattle.laws.proofs.Choices.{both-false}
-use Rattle.text_script.specs.Script.{isLF, onFirst}
+use Rattle.text.specs.Script.{isLF, onFirst}
 use Rattle.compare_lines.specs.Lines.{Line, onLine, cut, isBlank, partsOf, full, fullParts, spaced}
 use Rattle.compare_lines.specs.Left.{spacedFrom, spacedOf}
 use Rattle.compare_lines.specs.declared.Form.{Form}

@@ -6,7 +6,7 @@ use mathlib.Core.Bool.{Bool, true, false, not}
 use mathlib.Core.List.{List, [], _∷_, _++_}
 use lib.ListN.{length, getD, take, drop}
 use Rattle.laws.specs.Choice.{pick, both, either}
-use Rattle.text_script.specs.Script.{isLF}
+use Rattle.text.specs.Script.{isLF}
 use Rattle.compare_lines.specs.Lines.{isBlank, cut, differFrom}
 use Rattle.compare_lines.specs.declared.Compared.{Compared}
 use Rattle.compare_lines.specs.declared.Compared.the-variants.{Same, Differs}

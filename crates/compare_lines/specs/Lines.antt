@@ -4,8 +4,9 @@ use Prim.Native.Char.{code}
 use mathlib.Core.Bool.{Bool, true, false, not}
 use mathlib.Core.List.{List, [], _∷_}
 use lib.Dec.{eqb}
+use Rattle.text.specs.Same.{sameText}
 use Rattle.laws.specs.Choice.{pick, both}
-use Rattle.text_script.specs.Script.{isLF, onFirst}
+use Rattle.text.specs.Script.{isLF, onFirst}
 use Rattle.compare_lines.specs.declared.Compared.{Compared}
 use Rattle.compare_lines.specs.declared.Compared.the-variants.{ImageOfAnotherSize, NotAFrame, Same, Differs}
 
@@ -56,12 +57,6 @@ fullParts (suc n) (p ∷ ps) = both (full p) (fullParts n ps)
 -- the spacing is right: eight fields with single blanks between, and an LF
 abbrev pub spaced : Line → Bool
 spaced l = both (l .ended) (fullParts 8 (partsOf (l .text)))
-
-abbrev pub sameText : List ℕ → List ℕ → Bool
-sameText [] [] = true
-sameText [] (d ∷ ds) = false
-sameText (c ∷ cs) [] = false
-sameText (c ∷ cs) (d ∷ ds) = both (eqb c d) (sameText cs ds)
 
 abbrev pub sameEnd : Bool → Bool → Bool
 sameEnd true b = b

@@ -3,7 +3,7 @@ use mathlib.Core.Path.{_≡_, sym, _∙_}
 use mathlib.Core.List.{List, [], _++_}
 use Prim.Native.Nat.{ℕ}
 use Rattle.device.specs.declared.Device.{Device}
-use Rattle.text_script.specs.Script.{linesOf}
+use Rattle.text.specs.Script.{linesOf}
 use Rattle.compare_lines.specs.Left.{leftOf}
 use Rattle.compare_lines.specs.declared.Compared.{Compared}
 use Rattle.compare_lines.specs.declared.Phase.{Phase}

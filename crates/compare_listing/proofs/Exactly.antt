@@ -14,12 +14,12 @@ use Rattle.device.specs.declared.Device.{Device}
 use Rattle.frame.specs.Frame.{frameOf}
 use Rattle.frame.specs.declared.Frame.{Frame}
 use Rattle.frame.specs.declared.Frame.the-variants.{Seen, NoFrame}
-use Rattle.machine.specs.declared.Core.{Core}
-use Rattle.machine.specs.declared.Machine.{Machine}
-use Rattle.machine_start.specs.Start.{freshMachine}
-use Rattle.text_digits.specs.Digits.{characters}
-use Rattle.text_runner.specs.Lines.{header, stepLine}
-use Rattle.text_script.specs.Script.{linesOf}
+use Rattle.record.specs.declared.Core.{Core}
+use Rattle.record.specs.declared.Machine.{Machine}
+use Rattle.record.specs.Start.{freshMachine}
+use Rattle.text.specs.Digits.{characters}
+use Rattle.listing.specs.Lines.{header, stepLine}
+use Rattle.text.specs.Script.{linesOf}
 use Rattle.listing.specs.Listing.{Answer, frameAnswer, answerOf, toldOver, listingOf}
 use Rattle.compare_lines.specs.Lines.{whole, cut, spaced, differenceOf}
 use Rattle.compare_lines.specs.Named.{Named}

@@ -8,10 +8,10 @@ use lib.ListN.{getD}
 use Rattle.laws.specs.Choice.{pick, both}
 use Rattle.laws.proofs.Computed.{true→T}
 use Rattle.bits.specs.Bits.{bitOf}
-use Rattle.machine.specs.declared.Core.{Core}
-use Rattle.machine.specs.declared.Registers.{Registers}
-use Rattle.text_digits.specs.Digits.{characters, digit, inBase, hex, decimal, placesWithin, placesOf}
-use Rattle.text_runner.specs.Lines.{column, flagText, flagsText, registersText}
+use Rattle.record.specs.declared.Core.{Core}
+use Rattle.record.specs.declared.Registers.{Registers}
+use Rattle.text.specs.Digits.{characters, digit, inBase, hex, decimal, placesWithin, placesOf}
+use Rattle.listing.specs.Lines.{column, flagText, flagsText, registersText}
 use Rattle.compare_lines.specs.Lines.{isBlank, partsOf, full, fullParts}
 
 -- characters without a blank among them

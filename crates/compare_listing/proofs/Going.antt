@@ -9,10 +9,10 @@ use lib.Seq.{drop-drop, length-take-le}
 use Rattle.laws.specs.Choice.{pick}
 use Rattle.laws.proofs.Computed.{true→T}
 use Rattle.device.specs.declared.Device.{Device}
-use Rattle.machine.specs.declared.Core.{Core}
-use Rattle.machine.specs.With.{assembled}
-use Rattle.text_script.specs.Script.{linesOf, upTo}
-use Rattle.text_script.proofs.Ends.{lines-first, lines-last}
+use Rattle.record.specs.declared.Core.{Core}
+use Rattle.record.specs.With.{assembled}
+use Rattle.text.specs.Script.{linesOf, upTo}
+use Rattle.text.proofs.script.Ends.{lines-first, lines-last}
 use Rattle.listing.specs.Listing.{toldOver}
 use Rattle.compare_lines.specs.Left.{leftOf, settled, Placed, Heeds}
 use Rattle.compare_lines.specs.declared.Compared.{Compared}

@@ -17,8 +17,8 @@ use Rattle.frame.specs.declared.Frame.{Frame}
 use Rattle.frame.specs.declared.Frame.the-variants.{Seen, NoFrame}
 use Rattle.frame.proofs.Characters.{no-frame, not-seen}
 use Rattle.frame.proofs.Sizes.{some}
-use Rattle.machine.specs.declared.Machine.{Machine}
-use Rattle.machine.specs.With.{assembled}
+use Rattle.record.specs.declared.Machine.{Machine}
+use Rattle.record.specs.With.{assembled}
 use Rattle.listing.specs.Listing.{Answer, answerOf, toldOver}
 use Rattle.listing.specs.Tells.{Tells}
 use Rattle.listing.specs.declared.Told.{Told}

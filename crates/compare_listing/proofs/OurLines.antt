@@ -10,12 +10,13 @@ use Rattle.device.specs.declared.Device.{Device}
 use Rattle.frame.specs.Frame.{frameOf}
 use Rattle.frame.specs.declared.Frame.{Frame}
 use Rattle.frame.specs.declared.Frame.the-variants.{Seen, NoFrame}
-use Rattle.machine.specs.declared.Core.{Core}
-use Rattle.machine.specs.declared.Registers.{Registers}
-use Rattle.machine.specs.declared.Machine.{Machine}
-use Rattle.text_digits.specs.Digits.{characters, digit, inBase, hex, binary, decimal, placesOf}
-use Rattle.text_script.specs.Script.{isLF}
-use Rattle.text_runner.specs.Lines.{header, column, flagText, flagsText, registersText, endText, stepLine, refusedLine}
+use Rattle.record.specs.declared.Core.{Core}
+use Rattle.record.specs.declared.Registers.{Registers}
+use Rattle.record.specs.declared.Machine.{Machine}
+use Rattle.text.specs.Digits.{characters, digit, inBase, hex, binary, decimal, placesOf}
+use Rattle.text.specs.Script.{isLF}
+use Rattle.text.specs.Refusal.{refusedLine}
+use Rattle.listing.specs.Lines.{header, column, flagText, flagsText, registersText, endText, stepLine}
 use Rattle.listing.specs.Listing.{answerOf}
 use Rattle.compare_lines.specs.Left.{plain, OneLine}
 use Rattle.compare_lines.proofs.Cutting.{plain-first}

@@ -13,10 +13,10 @@ use Rattle.laws.proofs.Writing.{wrote-front}
 use Rattle.laws.proofs.Computed.{true→T}
 use Rattle.device.specs.Device.{imageSize, romOf}
 use Rattle.device.specs.declared.Device.{Device}
-use Rattle.machine_start.specs.Start.{freshMachine}
-use Rattle.machine_start.proofs.Starting.{fresh-valid}
-use Rattle.text_runner.specs.Lines.{header}
-use Rattle.text_script.specs.Script.{linesOf, upTo}
+use Rattle.record.specs.Start.{freshMachine}
+use Rattle.record.proofs.start.Starting.{fresh-valid}
+use Rattle.listing.specs.Lines.{header}
+use Rattle.text.specs.Script.{linesOf, upTo}
 use Rattle.listing.specs.Listing.{listingOf}
 use Rattle.compare_lines.specs.Lines.{differenceOf}
 use Rattle.compare_lines.specs.Left.{leftOf, OneLine, settled, Placed}

@@ -10,9 +10,9 @@ use Rattle.device.specs.declared.Device.{Device}
 use Rattle.frame.specs.Frame.{frameOf}
 use Rattle.frame.specs.declared.Frame.{Frame}
 use Rattle.frame.specs.declared.Frame.the-variants.{Seen, NoFrame}
-use Rattle.machine_start.specs.Start.{freshMachine}
-use Rattle.machine.specs.declared.Machine.{Machine}
-use Rattle.text_script.specs.Script.{linesOf}
+use Rattle.record.specs.Start.{freshMachine}
+use Rattle.record.specs.declared.Machine.{Machine}
+use Rattle.text.specs.Script.{linesOf}
 use Rattle.listing.specs.Listing.{Answer, answerOf, listingOf}
 use Rattle.compare_lines.specs.Lines.{differenceOf}
 use Rattle.compare_lines.specs.declared.Compared.{Compared}

@@ -6,9 +6,9 @@ use mathlib.Core.List.{List, [], _∷_}
 use lib.ListN.{length}
 use Rattle.device.specs.Device.{imageSize, romOf}
 use Rattle.device.specs.declared.Device.{Device}
-use Rattle.machine_start.specs.Start.{freshMachine}
-use Rattle.text_digits.specs.Digits.{characters}
-use Rattle.text_script.specs.Script.{linesOf}
+use Rattle.record.specs.Start.{freshMachine}
+use Rattle.text.specs.Digits.{characters}
+use Rattle.text.specs.Script.{linesOf}
 use Rattle.listing.specs.Listing.{listingOf}
 use Rattle.compare_lines.specs.Lines.{Line, whole, cut, spaced}
 use Rattle.compare_lines.specs.Named.{Named}

@@ -6,10 +6,10 @@ use mathlib.Core.List.{List, [], _∷_, _++_}
 use lib.ListN.{length, take, drop}
 use Rattle.laws.specs.Choice.{pick}
 use Rattle.device.specs.declared.Device.{Device}
-use Rattle.machine.specs.Valid.{Valid}
-use Rattle.machine.specs.declared.Core.{Core}
-use Rattle.machine.specs.With.{assembled}
-use Rattle.text_script.specs.Script.{linesOf, upTo}
+use Rattle.record.specs.Valid.{Valid}
+use Rattle.record.specs.declared.Core.{Core}
+use Rattle.record.specs.With.{assembled}
+use Rattle.text.specs.Script.{linesOf, upTo}
 use Rattle.listing.specs.Listing.{toldOver}
 use Rattle.compare_lines.specs.Left.{leftOf, OneLine, settled, Placed}
 use Rattle.compare_lines.specs.declared.Compared.{Compared}

@@ -7,9 +7,9 @@ use lib.ListN.{length, take, drop}
 use Rattle.laws.specs.Writing.{Wrote}
 use Rattle.device.specs.Device.{imageSize, romOf}
 use Rattle.device.specs.declared.Device.{Device}
-use Rattle.machine_start.specs.Start.{freshMachine}
-use Rattle.text_runner.specs.Lines.{header}
-use Rattle.text_script.specs.Script.{upTo}
+use Rattle.record.specs.Start.{freshMachine}
+use Rattle.listing.specs.Lines.{header}
+use Rattle.text.specs.Script.{upTo}
 use Rattle.compare_lines.specs.Left.{leftOf, Hears}
 use Rattle.compare_lines.specs.declared.Compared.{Compared}
 use Rattle.compare_lines.specs.declared.Compared.the-variants.{NotAFrame}

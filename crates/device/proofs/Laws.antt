@@ -13,7 +13,7 @@ use Rattle.laws.proofs.Decided.{less, equal, negated, _and_}
 use Rattle.bits.proofs.Laws.{with-lt}
 use Rattle.device.specs.declared.Device.{Device}
 use Rattle.device.specs.declared.Device.the-variants.{Em73862, Em73P982}
-use Rattle.device.specs.Device.{imageSize, limitOf, alsoWritable, alsoBelow, p4Pins, inImage, isBanked, Banked}
+use Rattle.device.specs.Device.{imageSize, limitOf, alsoWritable, alsoBelow, p4Pins, inImage, isBanked, Banked, windowEnd}
 
 pub either-none : (a : Bool) → a ≡ either a false
 either-none true = refl
@@ -45,14 +45,14 @@ pub banked : (d : Device) (p3 : ℕ) → Decides (isBanked d p3) ((p3 < alsoBelo
 banked d p3 = (less p3 (alsoBelow d 3) and negated (equal (p3 % 4) 3)) .decides
 
 -- the window's end, which is the image's or before it
-fits : (d : Device) (p3 : ℕ) → p3 < alsoBelow d 3 → (p3 % 4 ≡ 3 → ⊥) → 8192 + 4096 * (p3 % 4) ≤ imageSize d
+fits : (d : Device) (p3 : ℕ) → p3 < alsoBelow d 3 → (p3 % 4 ≡ 3 → ⊥) → windowEnd p3 ≤ imageSize d
 fits Em73862 p3 h n = omega arith
 fits Em73P982 p3 h n = omega arith
 
-pub window-fits : (d : Device) (p3 : ℕ) → Banked d p3 → 8192 + 4096 * (p3 % 4) ≤ imageSize d
+pub window-fits : (d : Device) (p3 : ℕ) → Banked d p3 → windowEnd p3 ≤ imageSize d
 window-fits d p3 b = fits d p3 (banked d p3 .sound b .0) (banked d p3 .sound b .1)
 
-pub before-end : (p3 at n : ℕ) → 8192 + 4096 * (p3 % 4) ≤ n → at < 8192 → inImage p3 at < n
+pub before-end : (p3 at n : ℕ) → windowEnd p3 ≤ n → at < 8192 → inImage p3 at < n
 before-end p3 at n w h = picked (λ (i : ℕ). i < n) (ltb at 4096) at (at + 4096 * (p3 % 4)) (omega arith) (omega arith)
 
 pub in-image-lt : (d : Device) (p3 at : ℕ) → Banked d p3 → at < 8192 → inImage p3 at < imageSize d

@@ -1,5 +1,5 @@
 -- What differs between the devices of the family. Each definition by cases has a line for each device; everything else is over the device.
-use Prim.Native.Nat.{ℕ, _+_, _*_, _/_, _%_}
+use Prim.Native.Nat.{ℕ, _+_, _*_, _/_, _%_, _<_}
 use mathlib.Core.Bool.{Bool, true, false, not}
 use mathlib.Core.List.{List, [], _∷_}
 use lib.Dec.{T, eqb, ltb}
@@ -72,8 +72,16 @@ guarded Em73P982 = 16 ∷ 3 ∷ []
 abbrev pub inImage : ℕ → ℕ → ℕ
 inImage p3 at = pick (ltb at 0x1000) at (at + 0x1000 * (p3 % 4))
 
+-- the bytes of an image that P3's window reaches to: of one that is at least as long every address has its byte
+abbrev pub windowEnd : ℕ → ℕ
+windowEnd p3 = 0x2000 + 0x1000 * (p3 % 4)
+
 abbrev pub romOf : List ℕ → ℕ → ℕ → ℕ
 romOf image p3 at = getD image (inImage p3 at) 0
+
+-- the image is of bytes
+abbrev pub OfBytes : List ℕ → Type 0
+OfBytes image = (p3 at : ℕ) → romOf image p3 at < 256
 
 -- the P3 that a record or an input may have; Q-6: "2 for such a P3", bits 1..0 being 3, "or one over 15, in record or input"
 abbrev pub isBanked : Device → ℕ → Bool

@@ -10,9 +10,9 @@ use borrow.Author.Tests.{not-true, not-false}
 use Rattle.laws.specs.Decides.{Decides}
 use Rattle.laws.proofs.Computed.{true→T}
 use Rattle.device.specs.declared.Device.{Device}
-use Rattle.machine.specs.Valid.{Valid}
-use Rattle.machine.specs.declared.Machine.{Machine}
-use Rattle.machine_valid.proofs.Validity.{valid?}
+use Rattle.record.specs.Valid.{Valid}
+use Rattle.record.specs.declared.Machine.{Machine}
+use Rattle.record.proofs.valid.Validity.{valid?}
 use Rattle.numbers.specs.ComesBack.{record-outside-the-ranges, display-buffer-under-40-bytes}
 use Rattle.display.specs.Display.{Shows, Refused, DisplayOf}
 use Rattle.display.proofs.Shows.{one-buffer}

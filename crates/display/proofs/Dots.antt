@@ -11,7 +11,7 @@ use lib.ListN.{getD}
 use Rattle.laws.specs.Choice.{pick, both}
 use Rattle.laws.proofs.Computed.{below, at}
 use Rattle.bits.specs.Bits.{hasBit}
-use Rattle.machine.specs.Valid.{Nibbles}
+use Rattle.record.specs.Valid.{Nibbles}
 use Rattle.display.specs.Display.{isLit}
 use Rattle.display.specs.Bytes.{pairAt}
 use Rattle.display.proofs.Bytes.{bytesIn, bytes-at}

@@ -10,8 +10,8 @@ use lib.ListN.{length, getD, drop, length-append, length-drop, List·getD-append
 use lib.Seq.{ext-getD, getD-drop, drop-at}
 use Rattle.laws.proofs.Computed.{below, at}
 use Rattle.bits.specs.Bits.{hasBit, bitOf}
-use Rattle.machine.specs.Valid.{Nibbles}
-use Rattle.machine.specs.declared.Machine.{Machine}
+use Rattle.record.specs.Valid.{Nibbles}
+use Rattle.record.specs.declared.Machine.{Machine}
 use Rattle.display.specs.Bytes.{byteIn}
 use Rattle.display.specs.Display.{isOn, Shows}
 use Rattle.display.proofs.Bytes.{bytesIn, bytes-at, bytes-length}

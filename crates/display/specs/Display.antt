@@ -9,8 +9,8 @@ use Rattle.laws.specs.Choice.{both}
 use Rattle.bits.specs.Bits.{hasBit}
 use Rattle.numbers.specs.ComesBack.{record-outside-the-ranges, display-buffer-under-40-bytes}
 use Rattle.device.specs.declared.Device.{Device}
-use Rattle.machine.specs.Valid.{Valid}
-use Rattle.machine.specs.declared.Machine.{Machine}
+use Rattle.record.specs.Valid.{Valid}
+use Rattle.record.specs.declared.Machine.{Machine}
 
 -- "all zero unless P27 is 11xx"
 abbrev pub isOn : Machine → Bool

@@ -1,15 +1,15 @@
 // Document 01, "Display": the forty bytes that say which dots are on.
 use device::Device;
-use machine::Machine;
-use machine::Ram;
-use machine::ram::peek;
-use machine_valid::is_valid;
 use numbers::DISPLAY_BUFFER_UNDER_40_BYTES;
 use numbers::RECORD_OUTSIDE_THE_RANGES;
+use record::Machine;
+use record::Ram;
+use record::ram::peek;
+use record::valid::is_valid;
 ghost use mathlib.Core.Path.{_≡_};
 ghost use Prim.Native.Nat.{_<_, _≤_};
 ghost use lib.ListN.{length};
-ghost use Rattle.machine.specs.Valid.{Nibbles};
+ghost use Rattle.record.specs.Valid.{Nibbles};
 ghost use Rattle.display.specs.Bytes.{pairAt, byteIn};
 ghost use Rattle.display.specs.Display.{Shows, DisplayOf};
 

@@ -7,7 +7,7 @@ use lib.Dec.{T, eqb, eqb→eq, ltb, ltb→lt}
 use lib.Bits.{bitAnd, bitOr}
 use Rattle.laws.proofs.Computed.{below, at}
 use Rattle.bits.specs.Bits.{highestBit}
-use Rattle.due.specs.Due.{dueSource, dueNumber, numberOf, latchOf}
+use Rattle.due.specs.Due.{dueSource, dueNumber, numberOf, latchOfSource}
 
 -- a test of each set of latches and each mask
 abbrev each : (ℕ → ℕ → Bool) → Bool
@@ -72,6 +72,6 @@ unfolding dueSource dueNumber
 number-lt il mask = ltb→lt (dueNumber il mask) 6 (tested (λ s. ltb (numberOf s) 6) tt il mask)
 
 -- the number tells the latch
-pub number-tells : (il mask : ℕ) → latchOf (dueNumber il mask) ≡ dueSource il mask
+pub number-tells : (il mask : ℕ) → latchOfSource (dueNumber il mask) ≡ dueSource il mask
 unfolding dueSource dueNumber
-number-tells il mask = eqb→eq (latchOf (dueNumber il mask)) (dueSource il mask) (tested (λ s. eqb (latchOf (numberOf s)) s) tt il mask)
+number-tells il mask = eqb→eq (latchOfSource (dueNumber il mask)) (dueSource il mask) (tested (λ s. eqb (latchOfSource (numberOf s)) s) tt il mask)

@@ -32,8 +32,8 @@ dueSource il mask =
 abbrev pub numberOf : ℕ → ℕ
 numberOf latch = getD (5 ∷ 4 ∷ 3 ∷ 2 ∷ 0 ∷ 1 ∷ 0 ∷ []) latch 0
 
-abbrev pub latchOf : ℕ → ℕ
-latchOf due = getD (6 ∷ 5 ∷ 3 ∷ 2 ∷ 1 ∷ 0 ∷ []) due 0
+abbrev pub latchOfSource : ℕ → ℕ
+latchOfSource due = getD (6 ∷ 5 ∷ 3 ∷ 2 ∷ 1 ∷ 0 ∷ []) due 0
 
 -- "the source that would be accepted were EI set, or none" (Q-11)
 unfoldable pub dueNumber : ℕ → ℕ → ℕ

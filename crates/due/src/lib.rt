@@ -1,7 +1,7 @@
 // The source that is due, by its latch and by the number that the record keeps.
 ghost use mathlib.Core.Path.{_≡_};
 ghost use Prim.Native.Nat.{_<_};
-ghost use Rattle.due.specs.Due.{dueSource, dueNumber, numberOf, latchOf};
+ghost use Rattle.due.specs.Due.{dueSource, dueNumber, numberOf, latchOfSource};
 
 // By its latch: a source's number in the record, 0 for 6, that none is due.
 const NUMBERS: [u8; 7] = [5, 4, 3, 2, 0, 1, 0];
@@ -30,7 +30,7 @@ pub fn due_number(il: u8, mask: u8) -> u8
 // The latch of a source by its number, 6 for none.
 pub fn latch_of(due: u8) -> u8
     requires { ⌜ due < 6 ⌝ }
-    ensures { λ r. ⌜ r ≡ latchOf due ⌝ }
+    ensures { λ r. ⌜ r ≡ latchOfSource due ⌝ }
 {
     let at = due as usize;
     LATCHES[at]

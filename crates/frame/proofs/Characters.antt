@@ -13,7 +13,7 @@ use borrow.Author.Tests.{ltb-true}
 use Rattle.laws.specs.Choice.{both}
 use Rattle.laws.proofs.Choices.{both-false}
 use Rattle.laws.proofs.Computed.{true→T}
-use Rattle.hexadecimal.specs.Hexadecimal.{digitOf}
+use Rattle.text.specs.Hexadecimal.{digitOf}
 use Rattle.device.specs.Device.{digitsOf}
 use Rattle.device.specs.declared.Device.{Device}
 use Rattle.device.proofs.Laws.{p0-nibble, p8-nibble}

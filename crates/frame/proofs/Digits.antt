@@ -7,7 +7,7 @@ use lib.Dec.{T, eqb, eqb→eq, leb, ltb, lt→ltb}
 use lib.ListN.{length, getD}
 use Rattle.laws.specs.Choice.{both, either}
 use Rattle.laws.proofs.Computed.{at, where-at}
-use Rattle.hexadecimal.specs.Hexadecimal.{digitOf}
+use Rattle.text.specs.Hexadecimal.{digitOf}
 use Rattle.frame.specs.Frame.{isFrame, digitAt, charsAt}
 use Rattle.frame.proofs.Characters.{chars-three, chars-four, below-limit}
 use Rattle.frame.specs.Judged.{byte}

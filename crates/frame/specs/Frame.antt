@@ -6,7 +6,7 @@ use mathlib.Core.List.{List, [], _∷_, map}
 use lib.Dec.{ltb}
 use lib.ListN.{length, getD, take, drop}
 use Rattle.laws.specs.Choice.{pick, both}
-use Rattle.hexadecimal.specs.Hexadecimal.{digitOf}
+use Rattle.text.specs.Hexadecimal.{digitOf}
 use Rattle.device.specs.Device.{digitsOf, frameSize, limitOf}
 use Rattle.device.specs.declared.Device.{Device}
 use Rattle.frame.specs.declared.Pins.{Pins}

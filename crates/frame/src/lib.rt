@@ -9,7 +9,7 @@ ghost use mathlib.Core.List.{[], _∷_};
 ghost use Prim.Native.Nat.{_+_, _-_, _%_, _<_, _≤_};
 ghost use lib.Dec.{ltb};
 ghost use lib.ListN.{length};
-ghost use Rattle.hexadecimal.specs.Hexadecimal.{digitOf};
+ghost use Rattle.text.specs.Hexadecimal.{digitOf};
 ghost use Rattle.device.specs.Device.{frameSize};
 ghost use Rattle.frame.specs.Judged.{Wide, Four, Again, AfterFrame, Between};
 ghost use Rattle.frame.specs.Frame.{isFrame, pinsOf, charsAt, isFrameAt, frameOf, frameAt, areFrames};

@@ -1,5 +1,4 @@
 // fromhex: the image of the Intel HEX on standard input, which is read in parts; of the text one line is held.
-use file_part::read_behind;
 use hex_chunks::HexChunks;
 use hex_chunks::Told;
 use hex_chunks::feed;
@@ -7,10 +6,11 @@ use hex_chunks::finish;
 use hex_chunks::start;
 use libc::STDERR_FILENO;
 use libc::STDIN_FILENO;
-use streams::Ending;
-use streams::ending_of;
-use streams::say;
-use streams::show;
+use program::part::read_behind;
+use program::streams::Ending;
+use program::streams::ending_of;
+use program::streams::say;
+use program::streams::show;
 ghost use Prim.Native.Nat.{_<_};
 ghost use lib.ListN.{length};
 

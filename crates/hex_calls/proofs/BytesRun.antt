@@ -6,7 +6,7 @@ use Prim.Native.Nat.{ℕ, _+_}
 use native.Mathlib.Omega.{arith}
 use borrow.Author.Tests.{eq-eqb}
 use lib.ListN.{length}
-use Rattle.hex_progress.specs.Progress.{Reading, good, refused, readOf}
+use Rattle.hex_reader.specs.Progress.{Reading, good, refused, readOf}
 use Rattle.hex_reader.specs.Reader.{Result, resultOf, readInto}
 use Rattle.hex_chunks.specs.Cut.{Session, fed, told, afterChunk, imageOfReading, joined}
 use Rattle.hex_chunks.specs.Carries.{Carries, Tells}
@@ -14,8 +14,8 @@ use Rattle.hex_chunks.specs.Run as runs
 use Rattle.hex_chunks.specs.declared.Told.{Told}
 use Rattle.hex_chunks.proofs.Sessions.{in-ranges}
 use Rattle.hex_chunks.proofs.RunAsWhole.{FitsAll, fits-one, run-as-whole}
-use Rattle.hex_state.specs.Layout.{stateOf, isState}
-use Rattle.hex_state.proofs.Ranges.{is-state}
+use Rattle.hex_calls.specs.Layout.{stateOf, isState}
+use Rattle.hex_calls.proofs.state.Ranges.{is-state}
 use Rattle.hex_calls.specs.Chunks.{numberOf, lineOf, BytesRun, ends, feeds, BytesRunAsWhole}
 
 -- the run on states that a run on bytes is, and the last answer

@@ -11,8 +11,8 @@ use Rattle.hex_chunks.specs.Carries.{Carries, Sized, FeedCall, EndCall}
 use Rattle.hex_chunks.specs.declared.HexChunks.{HexChunks}
 use Rattle.hex_chunks.specs.declared.Fed.{Fed}
 use Rattle.hex_chunks.proofs.Sessions.{in-ranges}
-use Rattle.hex_state.specs.Layout.{packed, stateOf, isState}
-use Rattle.hex_state.proofs.Ranges.{is-state}
+use Rattle.hex_calls.specs.Layout.{packed, stateOf, isState}
+use Rattle.hex_calls.proofs.state.Ranges.{is-state}
 use Rattle.hex_calls.specs.Chunks.{numberOf, lineOf, StartCall, Unchanged, FeedBytes, EndBytes}
 
 pub start-2 : (before : List ℕ) → (length before ≡ 550 → ⊥) → StartCall before before 2

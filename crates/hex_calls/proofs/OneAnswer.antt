@@ -12,7 +12,7 @@ use Rattle.hex_chunks.specs.Cut.{Session}
 use Rattle.hex_chunks.specs.Carries.{Carries, Fits}
 use Rattle.hex_chunks.specs.declared.Told.{Told}
 use Rattle.hex_chunks.proofs.OneAnswer.{one-feed, one-end}
-use Rattle.hex_state.specs.Layout.{stateOf, isState}
+use Rattle.hex_calls.specs.Layout.{stateOf, isState}
 use Rattle.hex_calls.specs.Calls.{ReadCall, WriteCall}
 use Rattle.hex_calls.specs.Chunks.{numberOf, lineOf, StartCall, Unchanged, Given, FeedBytes, EndBytes}
 

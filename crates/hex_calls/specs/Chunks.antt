@@ -4,17 +4,16 @@ use mathlib.Core.Path.{_≡_}
 use mathlib.Core.Bool.{true}
 use mathlib.Core.List.{List, [], _∷_}
 use lib.ListN.{length}
-use Rattle.numbers.specs.ComesBack.{image-of-another-size, record-outside-the-ranges}
-use Rattle.hex_line.specs.Refusals.{work-buffer-is-not-9216-bytes}
-use Rattle.hex_work.specs.Given.{imageSize}
-use Rattle.hex_work.specs.Work.{workSize}
+use Rattle.numbers.specs.ComesBack.{image-of-another-size, record-outside-the-ranges, work-buffer-is-not-9216-bytes}
+use Rattle.hex_reader.specs.Given.{imageSize}
+use Rattle.hex_reader.specs.Work.{workSize}
 use Rattle.hex_chunks.specs.Cut.{fed, joined}
 use Rattle.hex_chunks.specs.Carries.{Carries, FeedCall, EndCall}
 use Rattle.hex_chunks.specs.declared.Told.{Told}
 use Rattle.hex_chunks.specs.declared.Told.the-variants.{More, Good, Refused}
 use Rattle.hex_chunks.specs.declared.Fed.{Fed}
 use Rattle.hex_calls.specs.Calls.{ReadCall}
-use Rattle.hex_state.specs.Layout.{packed, stateOf, stateSize, isState}
+use Rattle.hex_calls.specs.Layout.{packed, stateOf, stateSize, isState}
 
 -- the number of an answer: nothing is told yet, the whole text is good, or the refusal
 abbrev pub numberOf : Told → ℕ

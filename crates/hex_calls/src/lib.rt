@@ -1,15 +1,17 @@
 // Intel HEX on numbers and byte buffers, for C and for whatever calls C: include/em73862_hex.h declares the calls.
 // Two answers of a call to the same inputs are equal: proofs/OneAnswer.antt.
+pub mod state;
+
+use crate::state::STATE_SIZE;
+use crate::state::is_state;
+use crate::state::pack;
+use crate::state::unpack;
 use hex_chunks::Told;
 use hex_chunks::feed;
 use hex_chunks::finish;
 use hex_chunks::refusal_of;
 use hex_chunks::start;
 use hex_reader::read_hex;
-use hex_state::STATE_SIZE;
-use hex_state::is_state;
-use hex_state::pack;
-use hex_state::unpack;
 use hex_writer::write_hex;
 ghost use mathlib.Core.Path.{_≡_};
 ghost use Rattle.hex_calls.specs.Chunks.{numberOf, lineOf, StartCall, FeedBytes, EndBytes};

@@ -7,15 +7,15 @@ use native.Mathlib.Omega.{arith}
 use lib.ListN.{length, take, drop, length-append, length-drop, take-append-drop}
 use lib.Seq.{take-add, take-all, take-at, length-take-le}
 use Rattle.laws.specs.Choice.{pick}
-use Rattle.text_script.specs.Script.{upTo}
-use Rattle.hex_lines.specs.Lines.{isCR, withoutCR}
-use Rattle.hex_lines.proofs.Splits.{clear, split-LF}
-use Rattle.hex_progress.specs.Progress.{Progress, going, afterLine, afterLines}
-use Rattle.hex_progress.specs.Reached.{Reached, isStopped}
-use Rattle.hex_progress.specs.declared.Stage.{Stage}
-use Rattle.hex_progress.specs.declared.Stage.the-variants.{Going, Ended, Stopped}
-use Rattle.hex_progress.proofs.Stops.{lines-then, stays}
-use Rattle.hex_held.specs.Kept.{Kept, Completes}
+use Rattle.text.specs.Script.{upTo}
+use Rattle.hex_reader.specs.Lines.{isCR, withoutCR}
+use Rattle.hex_reader.proofs.lines.Splits.{clear, split-LF}
+use Rattle.hex_reader.specs.Progress.{Progress, going, afterLine, afterLines}
+use Rattle.hex_reader.specs.Reached.{Reached, isStopped}
+use Rattle.hex_reader.specs.declared.progress.Stage.{Stage}
+use Rattle.hex_reader.specs.declared.progress.Stage.the-variants.{Going, Ended, Stopped}
+use Rattle.hex_reader.proofs.progress.Stops.{lines-then, stays}
+use Rattle.hex_chunks.specs.Kept.{Kept, Completes}
 use Rattle.hex_chunks.specs.Cut.{completed, begunAfter}
 use Rattle.hex_chunks.specs.Carries.{Along, Chunked}
 use Rattle.hex_chunks.proofs.Cuts.{completed-then, begun-then, completed-none, begun-more}

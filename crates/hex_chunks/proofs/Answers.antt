@@ -7,12 +7,12 @@ use native.Mathlib.Decide.{ℕ-discrete}
 use native.Mathlib.Omega.{arith}
 use lib.ListN.{length, take, length-append}
 use Rattle.laws.specs.Choice.{either}
-use Rattle.hex_work.proofs.Fills.{held-image}
-use Rattle.hex_progress.specs.Progress.{Reading, good, refused, readOf}
-use Rattle.hex_progress.specs.Reached.{Held, IsFault, isStopped}
-use Rattle.hex_progress.specs.declared.Stage.the-variants.{Ended, Stopped}
+use Rattle.hex_reader.proofs.work.Fills.{held-image}
+use Rattle.hex_reader.specs.Progress.{Reading, good, refused, readOf}
+use Rattle.hex_reader.specs.Reached.{Held, IsFault, isStopped}
+use Rattle.hex_reader.specs.declared.progress.Stage.the-variants.{Ended, Stopped}
 use Rattle.hex_chunks.specs.Cut.{Session, fed, told, afterChunk, afterEnd, imageAtEnd}
-use Rattle.hex_progress.proofs.Numbers.{read-in}
+use Rattle.hex_reader.proofs.progress.Numbers.{read-in}
 use Rattle.hex_chunks.specs.Carries.{InRanges, Along, Chunked, Readied, Carries, Fits, Sized, Stays, TakesTo, Repeats, FeedCall, EndCall, toldOf}
 use Rattle.hex_chunks.specs.declared.HexChunks.{HexChunks}
 use Rattle.hex_chunks.specs.declared.Told.the-variants.{Good, Refused}

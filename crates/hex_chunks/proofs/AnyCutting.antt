@@ -2,9 +2,9 @@
 use mathlib.Core.Path.{_≡_, refl, _∙_}
 use mathlib.Core.List.{List, [], _∷_, _++_, append-assoc, append-nil}
 use Prim.Native.Nat.{ℕ, _+_}
-use Rattle.hex_progress.specs.Progress.{Progress, going, ended, stopped, Reading, refused, afterLines, readOf}
-use Rattle.hex_progress.proofs.Stops.{lines-then, stays}
-use Rattle.hex_lines.specs.Lines.{hexLines}
+use Rattle.hex_reader.specs.Progress.{Progress, going, ended, stopped, Reading, refused, afterLines, readOf}
+use Rattle.hex_reader.proofs.progress.Stops.{lines-then, stays}
+use Rattle.hex_reader.specs.Lines.{hexLines}
 use Rattle.hex_chunks.specs.Cut.{fed, told, completed, begunAfter, byProgress, fedTo, afterEnd, afterChunks, joined, AnyCutting}
 use Rattle.hex_chunks.proofs.Cuts.{completed-then, lastLine, lines-of}
 

@@ -5,9 +5,9 @@ use mathlib.Core.List.{List, [], _∷_, _++_, append-assoc, append-nil}
 use Prim.Native.Nat.{ℕ, suc, _+_}
 use borrow.Author.Tests.{eqb-true}
 use lib.ListN.{length}
-use Rattle.text_script.specs.Script.{isLF, upTo}
-use Rattle.hex_lines.specs.Lines.{hexLines, withoutCR}
-use Rattle.hex_lines.proofs.Splits.{no-LF, ended, unended}
+use Rattle.text.specs.Script.{isLF, upTo}
+use Rattle.hex_reader.specs.Lines.{hexLines, withoutCR}
+use Rattle.hex_reader.proofs.lines.Splits.{no-LF, ended, unended}
 use Rattle.hex_chunks.specs.Cut.{completed, begunAfter}
 
 -- a part after a part

@@ -5,13 +5,13 @@ use Prim.Native.Nat.{ℕ, _+_, _<_, _≤_}
 use native.Mathlib.Decide.{decLt}
 use native.Mathlib.Omega.{arith}
 use lib.ListN.{length, length-append}
-use Rattle.hex_lines.specs.Lines.{hexLines}
-use Rattle.hex_progress.specs.Progress.{Progress, going, afterLine, afterLines, atEnd, readLines, readOf}
-use Rattle.hex_progress.specs.Reached.{Reached, Concluded}
-use Rattle.hex_progress.specs.declared.Stage.{Stage}
-use Rattle.hex_progress.specs.declared.Outcome.{Outcome}
-use Rattle.hex_progress.proofs.Stops.{lines-then}
-use Rattle.hex_held.specs.Kept.{Completes}
+use Rattle.hex_reader.specs.Lines.{hexLines}
+use Rattle.hex_reader.specs.Progress.{Progress, going, afterLine, afterLines, atEnd, readLines, readOf}
+use Rattle.hex_reader.specs.Reached.{Reached, Concluded}
+use Rattle.hex_reader.specs.declared.progress.Stage.{Stage}
+use Rattle.hex_reader.specs.declared.progress.Outcome.{Outcome}
+use Rattle.hex_reader.proofs.progress.Stops.{lines-then}
+use Rattle.hex_chunks.specs.Kept.{Completes}
 use Rattle.hex_chunks.specs.Cut.{completed, begunAfter}
 use Rattle.hex_chunks.specs.Carries.{Along}
 use Rattle.hex_chunks.proofs.Cuts.{lastLine, lines-of}

@@ -4,7 +4,7 @@ use mathlib.Core.List.{List}
 use Prim.Native.Nat.{ℕ}
 use native.Mathlib.Decide.{ℕ-discrete}
 use lib.ListN.{length}
-use Rattle.hex_progress.specs.Progress.{good, refused}
+use Rattle.hex_reader.specs.Progress.{good, refused}
 use Rattle.hex_chunks.specs.Cut.{Session, fed, told, afterChunk, afterEnd}
 use Rattle.hex_chunks.specs.Carries.{Carries, Tells, Fits, Stays, FeedCall, EndCall}
 use Rattle.hex_chunks.specs.declared.HexChunks.{HexChunks}

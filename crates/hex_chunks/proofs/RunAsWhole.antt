@@ -4,7 +4,7 @@ use mathlib.Core.List.{List, [], _∷_, _++_}
 use Prim.Native.Nat.{ℕ, _+_, _^_, _<_}
 use native.Mathlib.Omega.{arith}
 use lib.ListN.{length, length-append}
-use Rattle.hex_progress.specs.Progress.{Progress, going, ended, stopped, Reading, good, refused, afterLines, readOf}
+use Rattle.hex_reader.specs.Progress.{Progress, going, ended, stopped, Reading, good, refused, afterLines, readOf}
 use Rattle.hex_chunks.specs.Cut.{Session, fed, told, completed, byProgress, fedTo, afterChunk, afterEnd, afterChunks, imageOfReading, imageAtEnd, joined}
 use Rattle.hex_chunks.specs.Carries.{Carries, Tells, Fits}
 use Rattle.hex_chunks.specs.Run.{Run, ends, feeds, RunAsWhole}

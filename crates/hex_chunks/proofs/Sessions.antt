@@ -6,13 +6,13 @@ use Prim.Native.Nat.{ℕ, _+_, _^_, _<_, _≤_}
 use native.Mathlib.Omega.{arith}
 use lib.ListN.{length}
 use Rattle.laws.specs.Choice.{either}
-use Rattle.hex_work.specs.Work.{Holds}
-use Rattle.hex_progress.specs.Progress.{Progress, going, Reading, good, refused, afterLines}
-use Rattle.hex_progress.specs.Reached.{Reached, IsFault, isStopped}
-use Rattle.hex_progress.specs.declared.Stage.{Stage}
-use Rattle.hex_progress.specs.declared.Stage.the-variants.{Going, Ended, Stopped}
+use Rattle.hex_reader.specs.Work.{Holds}
+use Rattle.hex_reader.specs.Progress.{Progress, going, Reading, good, refused, afterLines}
+use Rattle.hex_reader.specs.Reached.{Reached, IsFault, isStopped}
+use Rattle.hex_reader.specs.declared.progress.Stage.{Stage}
+use Rattle.hex_reader.specs.declared.progress.Stage.the-variants.{Going, Ended, Stopped}
 use Rattle.hex_chunks.specs.Cut.{Session, fed, told, completed, byProgress, fedTo}
-use Rattle.hex_progress.proofs.Numbers.{ProgressIn, lines-in}
+use Rattle.hex_reader.proofs.progress.Numbers.{ProgressIn, lines-in}
 use Rattle.hex_chunks.specs.Carries.{TellsFault, InRanges, Along, Chunked, Readied, CarriesText, Carries, Tells, toldOf}
 use Rattle.hex_chunks.specs.declared.HexChunks.{HexChunks}
 use Rattle.hex_chunks.proofs.Along.{kept-none}

@@ -4,15 +4,14 @@ use mathlib.Core.Path.{_≡_}
 use mathlib.Core.Bool.{Bool, true, false}
 use mathlib.Core.List.{List, []}
 use lib.ListN.{length}
-use Rattle.numbers.specs.ComesBack.{image-of-another-size}
-use Rattle.hex_line.specs.Refusals.{work-buffer-is-not-9216-bytes}
-use Rattle.hex_work.specs.Given.{imageSize}
-use Rattle.hex_work.specs.Work.{workSize, Holds}
-use Rattle.hex_progress.specs.Progress.{going, Reading, good, refused, afterLines}
-use Rattle.hex_held.specs.Kept.{heldSize, Kept}
-use Rattle.hex_progress.specs.Reached.{Reached, IsFault, isStopped}
-use Rattle.hex_progress.specs.declared.Stage.{Stage}
-use Rattle.hex_progress.specs.declared.Stage.the-variants.{Going, Ended, Stopped}
+use Rattle.numbers.specs.ComesBack.{image-of-another-size, work-buffer-is-not-9216-bytes}
+use Rattle.hex_reader.specs.Given.{imageSize}
+use Rattle.hex_reader.specs.Work.{workSize, Holds}
+use Rattle.hex_reader.specs.Progress.{going, Reading, good, refused, afterLines}
+use Rattle.hex_chunks.specs.Kept.{heldSize, Kept}
+use Rattle.hex_reader.specs.Reached.{Reached, IsFault, isStopped}
+use Rattle.hex_reader.specs.declared.progress.Stage.{Stage}
+use Rattle.hex_reader.specs.declared.progress.Stage.the-variants.{Going, Ended, Stopped}
 use Rattle.hex_chunks.specs.Cut.{Session, fed, told, completed, begunAfter, afterChunk, afterEnd, imageAtEnd}
 use Rattle.hex_chunks.specs.declared.HexChunks.{HexChunks}
 use Rattle.hex_chunks.specs.declared.Told.{Told}

@@ -3,10 +3,10 @@ use Prim.Native.Nat.{ℕ}
 use mathlib.Core.Path.{_≡_}
 use mathlib.Core.List.{List, [], _∷_, _++_}
 use Rattle.laws.specs.Choice.{pick}
-use Rattle.text_script.specs.Script.{isLF}
-use Rattle.hex_lines.specs.Lines.{withoutCR}
-use Rattle.hex_work.specs.Given.{imageOf}
-use Rattle.hex_progress.specs.Progress.{Progress, going, ended, stopped, Reading, good, refused, afterLines, readOf}
+use Rattle.text.specs.Script.{isLF}
+use Rattle.hex_reader.specs.Lines.{withoutCR}
+use Rattle.hex_reader.specs.Given.{imageOf}
+use Rattle.hex_reader.specs.Progress.{Progress, going, ended, stopped, Reading, good, refused, afterLines, readOf}
 
 -- the lines that a text completes with their LF, where a line was begun before it
 abbrev pub completed : List ℕ → List ℕ → List (List ℕ)

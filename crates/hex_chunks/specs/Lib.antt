@@ -1,3 +1,4 @@
 pub mod Cut
 pub mod Carries
 pub mod Run
+pub mod Kept

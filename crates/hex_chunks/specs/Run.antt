@@ -3,9 +3,9 @@ use Prim.Native.Nat.{ℕ, _^_, _<_}
 use mathlib.Core.Path.{_≡_}
 use mathlib.Core.List.{List, [], _∷_}
 use lib.ListN.{length}
-use Rattle.hex_work.specs.Given.{imageSize}
-use Rattle.hex_work.specs.Work.{workSize}
-use Rattle.hex_progress.specs.Progress.{readOf}
+use Rattle.hex_reader.specs.Given.{imageSize}
+use Rattle.hex_reader.specs.Work.{workSize}
+use Rattle.hex_reader.specs.Progress.{readOf}
 use Rattle.hex_chunks.specs.Cut.{fed, told, imageOfReading, joined}
 use Rattle.hex_chunks.specs.Carries.{Carries, Tells, FeedCall, EndCall}
 use Rattle.hex_chunks.specs.declared.HexChunks.{HexChunks}

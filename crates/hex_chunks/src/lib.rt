@@ -1,30 +1,30 @@
 // Document 02, Q-10: Intel HEX that comes in chunks. A state by value and a lent work buffer carry what was fed; the image is written at the end, where the whole text is good.
-use hex_held::complete_last;
-use hex_held::complete_line;
-use hex_held::hold;
-use hex_progress::Outcome;
-use hex_progress::Stage;
-use hex_progress::conclude;
-use hex_progress::is_stopped;
-use hex_work::IMAGE_SIZE;
-use hex_work::WORK_SIZE;
-use hex_work::clear;
-use hex_work::copy_image;
-use text_script::line_end;
+pub mod held;
+
+use crate::held::complete_last;
+use crate::held::complete_line;
+use crate::held::hold;
+use hex_reader::progress::Outcome;
+use hex_reader::progress::Stage;
+use hex_reader::progress::conclude;
+use hex_reader::progress::is_stopped;
+use hex_reader::work::IMAGE_SIZE;
+use hex_reader::work::WORK_SIZE;
+use hex_reader::work::clear;
+use hex_reader::work::copy_image;
+use numbers::IMAGE_OF_ANOTHER_SIZE;
+use numbers::WORK_BUFFER_IS_NOT_9216_BYTES;
+use text::script::line_end;
 ghost use mathlib.Core.Path.{_≡_};
 ghost use mathlib.Core.Bool.{true, false};
 ghost use mathlib.Core.List.{List, [], _++_};
 ghost use Prim.Native.Nat.{ℕ, _+_, _-_, _^_, _<_};
 ghost use lib.ListN.{length};
 ghost use Rattle.laws.specs.Choice.{either};
-ghost use Rattle.hex_progress.specs.Progress.{readOf};
-ghost use Rattle.hex_progress.specs.Reached.{Concluded, isStopped};
+ghost use Rattle.hex_reader.specs.Progress.{readOf};
+ghost use Rattle.hex_reader.specs.Reached.{Concluded, isStopped};
 ghost use Rattle.hex_chunks.specs.Cut.{fed};
 ghost use Rattle.hex_chunks.specs.Carries.{Along, Chunked, Carries, Readied, Sized, FeedCall, EndCall, moreOrGood, toldOf};
-
-pub const WORK_BUFFER_IS_NOT_9216_BYTES: u8 = 47;
-
-pub const IMAGE_OF_ANOTHER_SIZE: u8 = 1;
 
 // The line that is begun and how many characters it has, its number, what the lines before it came to, whether the work buffer is in use, and whether the end was declared of a good text.
 pub struct HexChunks {

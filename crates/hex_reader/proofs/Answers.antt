@@ -4,9 +4,9 @@ use mathlib.Core.List.{List}
 use Prim.Native.Nat.{ℕ}
 use borrow.Author.Tests.{eq-eqb, ne-eqb}
 use lib.ListN.{length, take}
-use Rattle.hex_work.proofs.Fills.{held-image}
-use Rattle.hex_progress.specs.Progress.{good, refused, readOf}
-use Rattle.hex_progress.specs.Reached.{Held}
+use Rattle.hex_reader.proofs.work.Fills.{held-image}
+use Rattle.hex_reader.specs.Progress.{good, refused, readOf}
+use Rattle.hex_reader.specs.Reached.{Held}
 use Rattle.hex_reader.specs.Reader.{Result, readInto, ReadHex}
 use Rattle.hex_reader.specs.declared.HexRead.{HexRead}
 

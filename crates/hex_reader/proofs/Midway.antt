@@ -5,16 +5,16 @@ use mathlib.Core.List.{List, [], _∷_}
 use Prim.Native.Nat.{ℕ, suc, _+_, _-_, _*_, _≤_}
 use native.Mathlib.Omega.{arith}
 use lib.ListN.{length, drop, drop-of-length-le}
-use Rattle.hex_line.specs.declared.Line.{Line}
-use Rattle.hex_lines.specs.Lines.{hexLines}
-use Rattle.hex_text.specs.Found.{RecordAt}
-use Rattle.hex_work.specs.Work.{Holds}
-use Rattle.hex_progress.specs.Progress.{Progress, going, afterLine, afterLines, atEnd, readLines, readOf}
-use Rattle.hex_progress.specs.Reached.{Reached, Concluded, Advances, isStopped}
-use Rattle.hex_progress.specs.declared.Stage.{Stage}
-use Rattle.hex_progress.specs.declared.Stage.the-variants.{Going}
-use Rattle.hex_progress.specs.declared.Outcome.{Outcome}
-use Rattle.hex_progress.proofs.Stops.{stopped-reads, good-long}
+use Rattle.hex_reader.specs.declared.line.Line.{Line}
+use Rattle.hex_reader.specs.Lines.{hexLines}
+use Rattle.hex_reader.specs.Found.{RecordAt}
+use Rattle.hex_reader.specs.Work.{Holds}
+use Rattle.hex_reader.specs.Progress.{Progress, going, afterLine, afterLines, atEnd, readLines, readOf}
+use Rattle.hex_reader.specs.Reached.{Reached, Concluded, Advances, isStopped}
+use Rattle.hex_reader.specs.declared.progress.Stage.{Stage}
+use Rattle.hex_reader.specs.declared.progress.Stage.the-variants.{Going}
+use Rattle.hex_reader.specs.declared.progress.Outcome.{Outcome}
+use Rattle.hex_reader.proofs.progress.Stops.{stopped-reads, good-long}
 
 -- before line n, which begins at a place; each line before it has eleven characters at least
 pub record Midway (text work : List ℕ) (stage : Stage) (at n : ℕ) : Type 0 where

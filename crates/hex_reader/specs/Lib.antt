@@ -1,1 +1,11 @@
 pub mod Reader
+pub mod Record
+pub mod Reads
+pub mod Lines
+pub mod Found
+pub mod Shifted
+pub mod Given
+pub mod Work
+pub mod Takes
+pub mod Progress
+pub mod Reached

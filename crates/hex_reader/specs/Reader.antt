@@ -6,8 +6,8 @@ use lib.Dec.{eqb}
 use lib.ListN.{length}
 use Rattle.laws.specs.Choice.{pick}
 use Rattle.numbers.specs.ComesBack.{image-of-another-size}
-use Rattle.hex_work.specs.Given.{imageSize, imageOf}
-use Rattle.hex_progress.specs.Progress.{Reading, good, refused, readOf}
+use Rattle.hex_reader.specs.Given.{imageSize, imageOf}
+use Rattle.hex_reader.specs.Progress.{Reading, good, refused, readOf}
 use Rattle.hex_reader.specs.declared.HexRead.{HexRead}
 
 -- the answer's number, the line of the first fault, and the image buffer; no line is 0

@@ -1,23 +1,28 @@
 // Intel HEX read into an image, a whole text at once.
-use hex_progress::Outcome;
-use hex_progress::Stage;
-use hex_progress::after_line;
-use hex_progress::conclude;
-use hex_progress::is_stopped;
-use hex_text::Found;
-use hex_text::record_at;
-use hex_work::IMAGE_SIZE;
-use hex_work::WORK_SIZE;
-use hex_work::clear;
-use hex_work::copy_image;
+pub mod data;
+pub mod lent_text;
+pub mod line;
+pub mod lines;
+pub mod progress;
+pub mod work;
+
+use crate::lent_text::Found;
+use crate::lent_text::record_at;
+use crate::progress::Outcome;
+use crate::progress::Stage;
+use crate::progress::after_line;
+use crate::progress::conclude;
+use crate::progress::is_stopped;
+use crate::work::IMAGE_SIZE;
+use crate::work::WORK_SIZE;
+use crate::work::clear;
+use crate::work::copy_image;
+use numbers::IMAGE_OF_ANOTHER_SIZE;
 ghost use mathlib.Core.Path.{_≡_};
 ghost use lib.ListN.{length};
-ghost use Rattle.hex_progress.specs.Progress.{readOf};
-ghost use Rattle.hex_progress.specs.Reached.{Concluded};
+ghost use Rattle.hex_reader.specs.Progress.{readOf};
+ghost use Rattle.hex_reader.specs.Reached.{Concluded};
 ghost use Rattle.hex_reader.specs.Reader.{ReadHex};
-
-// Document 01's refusal of an image buffer.
-pub const IMAGE_OF_ANOTHER_SIZE: u8 = 1;
 
 // 0, or a refusal with the line of the first fault; a refusal of a buffer has line 0.
 pub struct HexRead {

@@ -8,9 +8,9 @@ use lib.ListN.{length, getD, take, drop, length-append, length-take, length-drop
 use lib.Seq.{drop-cons, sets-eq}
 use Rattle.laws.specs.Writing.{Wrote, Writing}
 use Rattle.laws.proofs.Writing.{wrote-then, writing-more, writing-none}
-use Rattle.text_digits.specs.Digits.{hex}
-use Rattle.text_digits.proofs.Numbers.{digits-length}
-use Rattle.hex_line.specs.Record.{total}
+use Rattle.text.specs.Digits.{hex}
+use Rattle.text.proofs.digits.Numbers.{digits-length}
+use Rattle.hex_reader.specs.Record.{total}
 use Rattle.hex_writer.specs.Writer.{hexBytes, chksum, recordText, dataFields, endFields, sixteenAt, recordsFrom, textOf}
 
 pub hex-append : (a b : List ℕ) → hexBytes (a ++ b) ≡ hexBytes a ++ hexBytes b

@@ -6,11 +6,10 @@ use mathlib.Core.List.{List, [], _∷_, _++_}
 use lib.Dec.{eqb, ltb}
 use lib.ListN.{length, take, drop}
 use Rattle.laws.specs.Choice.{pick}
-use Rattle.numbers.specs.ComesBack.{image-of-another-size}
-use Rattle.text_digits.specs.Digits.{hex}
-use Rattle.hex_line.specs.Refusals.{output-buffer-under-22540-bytes}
-use Rattle.hex_line.specs.Record.{total}
-use Rattle.hex_work.specs.Given.{imageSize}
+use Rattle.numbers.specs.ComesBack.{image-of-another-size, output-buffer-under-22540-bytes}
+use Rattle.text.specs.Digits.{hex}
+use Rattle.hex_reader.specs.Record.{total}
+use Rattle.hex_reader.specs.Given.{imageSize}
 
 -- bytes in pairs of digits, "upper case"
 abbrev pub hexBytes : List ℕ → List ℕ

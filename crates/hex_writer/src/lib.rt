@@ -1,18 +1,18 @@
 // An image written as Intel HEX.
-use hex_work::IMAGE_SIZE;
-use text_digits::number;
-use text_digits::put;
+pub mod round_trip;
+
+use hex_reader::work::IMAGE_SIZE;
+use numbers::IMAGE_OF_ANOTHER_SIZE;
+use numbers::OUTPUT_BUFFER_UNDER_22540_BYTES;
+use text::digits::number;
+use text::digits::put;
 ghost use mathlib.Core.Path.{_≡_};
 ghost use mathlib.Core.List.{_∷_, _++_};
 ghost use Prim.Native.Nat.{_+_, _*_, _<_, _≤_, _%_, _/_};
 ghost use lib.ListN.{length, drop};
 ghost use Rattle.laws.specs.Writing.{Wrote};
-ghost use Rattle.hex_line.specs.Record.{total};
+ghost use Rattle.hex_reader.specs.Record.{total};
 ghost use Rattle.hex_writer.specs.Writer.{hexBytes, recordText, textOf, WriteHex};
-
-pub const OUTPUT_BUFFER_UNDER_22540_BYTES: u8 = 46;
-
-pub const IMAGE_OF_ANOTHER_SIZE: u8 = 1;
 
 pub const TEXT_SIZE: usize = 22540;
 

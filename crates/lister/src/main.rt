@@ -2,21 +2,22 @@
 // The words are judged from the left: the device and P3, the image, whether P3 may stand, the address, the number of lines, and that there are no more.
 use device::image_size;
 use device::is_banked;
-use device_words::Choice;
-use device_words::Chosen;
-use image_file::chosen_window;
-use image_file::read_image;
 use libc::STDERR_FILENO;
-use streams::ending_of;
-use streams::say;
-use streams::show;
-use streams::show_part;
-use text_words::Address;
-use text_words::Number;
+use program::image::chosen_window;
+use program::image::read_image;
+use program::streams::ending_of;
+use program::streams::say;
+use program::streams::show;
+use program::streams::show_part;
+use program::words::Choice;
+use program::words::Chosen;
+use text::words::Address;
+use text::words::Number;
 ghost use mathlib.Core.Path.{_≡_};
 ghost use Prim.Native.Nat.{_+_, _*_, _%_, _≤_};
 ghost use lib.ListN.{length};
 ghost use Rattle.numbers.specs.Sizes.{addresses};
+ghost use Rattle.device.specs.Device.{windowEnd};
 
 fn usage() {
     io::write_all(
@@ -34,7 +35,7 @@ fn room() -> [u8; 303107]
 
 // Whether all of it was written, as each function here answers of what it writes.
 fn list(image: &[u8], p3: u8, at: u16, count: u32) -> bool
-    requires { ⌜ (8192 + 4096 * (p3 % 4) ≤ length (now image)) × (count ≤ addresses) ⌝ }
+    requires { ⌜ (windowEnd p3 ≤ length (now image)) × (count ≤ addresses) ⌝ }
 {
     let mut out = room();
     let n = text_lister::line::listing(&mut out, image, p3, at, count);
@@ -42,7 +43,7 @@ fn list(image: &[u8], p3: u8, at: u16, count: u32) -> bool
 }
 
 fn list_from(image: &[u8], p3: u8, before: u8, at: u16) -> bool
-    requires { ⌜ 8192 + 4096 * (p3 % 4) ≤ length (now image) ⌝ }
+    requires { ⌜ windowEnd p3 ≤ length (now image) ⌝ }
 {
     let word_at = before as usize + 3;
     if os::arg_count() <= word_at {
@@ -50,7 +51,7 @@ fn list_from(image: &[u8], p3: u8, before: u8, at: u16) -> bool
     }
     let mut word = io::buffer();
     let n = os::arg(word_at, &mut word);
-    let Number::Value(count) = text_words::read_number(&word[..n], 10) else {
+    let Number::Value(count) = text::words::read_number(&word[..n], 10) else {
         usage();
         return true;
     };
@@ -62,7 +63,7 @@ fn list_from(image: &[u8], p3: u8, before: u8, at: u16) -> bool
 }
 
 fn list_image(image: &[u8], p3: u8, before: u8) -> bool
-    requires { ⌜ 8192 + 4096 * (p3 % 4) ≤ length (now image) ⌝ }
+    requires { ⌜ windowEnd p3 ≤ length (now image) ⌝ }
 {
     let word_at = before as usize + 2;
     if os::arg_count() <= word_at {
@@ -70,7 +71,7 @@ fn list_image(image: &[u8], p3: u8, before: u8) -> bool
     }
     let mut word = io::buffer();
     let n = os::arg(word_at, &mut word);
-    let Address::At(at) = text_words::read_address(&word[..n]) else {
+    let Address::At(at) = text::words::read_address(&word[..n]) else {
         return show(b"refused 20\n");
     };
     list_from(image, p3, before, at)

@@ -16,8 +16,8 @@ use Rattle.frame.specs.Frame.{frameOf}
 use Rattle.frame.specs.declared.Frame.{Frame}
 use Rattle.frame.specs.declared.Frame.the-variants.{Seen, NoFrame}
 use Rattle.frame.specs.declared.Pins.{Pins}
-use Rattle.machine.specs.declared.Machine.{Machine}
-use Rattle.machine_start.specs.Start.{freshMachine}
+use Rattle.record.specs.declared.Machine.{Machine}
+use Rattle.record.specs.Start.{freshMachine}
 use Rattle.row.specs.Rows.{Done, stops}
 use Rattle.step_look.specs.Look.{isRunning, looked}
 use Rattle.step_act.specs.Act.{actOf}
@@ -26,8 +26,9 @@ use Rattle.step.specs.Before.{undone, stepBefore}
 use Rattle.step.proofs.AsBefore.{step-as-before}
 use Rattle.step.proofs.StepValid.{stop-leaves, step-unmarked}
 use Rattle.step.proofs.Stepping.{sighted, look-runs, step-runs, step-waits}
-use Rattle.text_runner.specs.Lines.{header, stepLine, refusedLine}
-use Rattle.text_script.specs.Script.{linesOf}
+use Rattle.text.specs.Refusal.{refusedLine}
+use Rattle.listing.specs.Lines.{header, stepLine}
+use Rattle.text.specs.Script.{linesOf}
 use Rattle.listing.specs.Listing.{options, Answer, stepAnswer, frameAnswer, answerOf, toldOver, listingOf}
 use Rattle.listing.specs.Before.{frameAnswerBefore, toldBefore, listingBefore, ListingAsBefore}
 

@@ -6,21 +6,21 @@ use Rattle.sheet.specs.Reading.{rowNumber, rowWith}
 use Rattle.sheet.specs.Table.{lines, lineAt}
 use Rattle.device.specs.Device.{romOf}
 use Rattle.device.specs.declared.Device.the-variants.{Em73862, Em73P982}
-use Rattle.hexadecimal.specs.Hexadecimal.{digitOf}
+use Rattle.text.specs.Hexadecimal.{digitOf}
 use Rattle.frame.specs.Frame.{frameOf}
 use Rattle.clock.specs.Clock.{met, tick, passed, eventCount}
 use Rattle.alu.specs.Flags.{flagAfter}
 use Rattle.alu.specs.Making.{made}
 use Rattle.due.specs.Due.{dueSource}
-use Rattle.machine_start.specs.Start.{freshMachine}
+use Rattle.record.specs.Start.{freshMachine}
 use Rattle.row.specs.Rows.{workOf, branchOf}
 use Rattle.row.specs.Steps.{putStep}
 use Rattle.step_look.specs.Look.{edgesCounted, looked}
 use Rattle.step_act.specs.Act.{sourceOf, runOne, acceptOrRun, coreAfter, actOf}
 use Rattle.step.specs.Step.{lookStep, actStep, stepOf}
-use Rattle.text_digits.specs.Digits.{characters, digit, inBase, placesOf}
-use Rattle.text_runner.specs.Lines.{header, stepLine}
-use Rattle.text_script.specs.Script.{linesOf}
+use Rattle.text.specs.Digits.{characters, digit, inBase, placesOf}
+use Rattle.listing.specs.Lines.{header, stepLine}
+use Rattle.text.specs.Script.{linesOf}
 use Rattle.listing.specs.Listing.{answerOf, toldOver}
 
 -- "D0 D3 6E 55 6E 5D 6E 5E 08, zeros after"

@@ -11,15 +11,15 @@ use Rattle.laws.specs.Writing.{Wrote}
 use Rattle.laws.proofs.Writing.{wrote-none, wrote-then}
 use Rattle.laws.proofs.Computed.{true→T}
 use Rattle.device.specs.declared.Device.{Device}
-use Rattle.machine.specs.Valid.{Valid}
-use Rattle.machine.specs.declared.Core.{Core}
-use Rattle.machine.specs.declared.Machine.{Machine}
-use Rattle.machine.specs.With.{assembled}
-use Rattle.text_script.specs.Script.{linesOf, upTo}
+use Rattle.record.specs.Valid.{Valid}
+use Rattle.record.specs.declared.Core.{Core}
+use Rattle.record.specs.declared.Machine.{Machine}
+use Rattle.record.specs.With.{assembled}
+use Rattle.text.specs.Script.{linesOf, upTo}
 use Rattle.listing.specs.Listing.{answerOf, toldOver}
 use Rattle.listing.specs.Tells.{Tells, Feeds}
 use Rattle.listing.specs.declared.Told.{Told}
-use Rattle.text_script.proofs.Ends.{lines-first}
+use Rattle.text.proofs.script.Ends.{lines-first}
 
 -- so many characters are used, and no line was the last
 pub record Feeding (d : Device) (rom : ℕ → ℕ → ℕ) (m : Machine) (part before after : List ℕ) (from at : ℕ) (now : Machine) (used : ℕ) : Type 0 where

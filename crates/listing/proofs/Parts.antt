@@ -12,15 +12,16 @@ use Rattle.device.specs.declared.Device.{Device}
 use Rattle.frame.specs.Frame.{frameOf}
 use Rattle.frame.specs.declared.Frame.the-variants.{NoFrame}
 use Rattle.frame.proofs.Characters.{no-frame, not-seen}
-use Rattle.machine_start.specs.Start.{freshMachine}
-use Rattle.machine.specs.declared.Machine.{Machine}
-use Rattle.machine.specs.With.{assembled}
-use Rattle.text_runner.specs.Lines.{header, refusedLine}
-use Rattle.text_script.specs.Script.{linesOf, upTo}
+use Rattle.record.specs.Start.{freshMachine}
+use Rattle.record.specs.declared.Machine.{Machine}
+use Rattle.record.specs.With.{assembled}
+use Rattle.text.specs.Refusal.{refusedLine}
+use Rattle.listing.specs.Lines.{header}
+use Rattle.text.specs.Script.{linesOf, upTo}
 use Rattle.listing.specs.Listing.{answerOf, toldOver, listingOf}
 use Rattle.listing.specs.Tells.{Feeds}
 use Rattle.listing.specs.declared.Fed.{Fed}
-use Rattle.text_script.proofs.Ends.{lines-last, begins}
+use Rattle.text.proofs.script.Ends.{lines-last, begins}
 
 -- "A bad or unreadable image .. prints "refused 01""
 pub image-refused : (d : Device) (image script : List ℕ) → (length image ≡ imageSize d → ⊥) → listingOf d image script ≡ refusedLine 1

@@ -11,11 +11,12 @@ use Rattle.device.specs.declared.Device.{Device}
 use Rattle.frame.specs.Frame.{frameOf}
 use Rattle.frame.specs.declared.Frame.{Frame}
 use Rattle.frame.specs.declared.Frame.the-variants.{Seen, NoFrame}
-use Rattle.machine_start.specs.Start.{freshMachine}
-use Rattle.machine.specs.declared.Machine.{Machine}
+use Rattle.record.specs.Start.{freshMachine}
+use Rattle.record.specs.declared.Machine.{Machine}
 use Rattle.step.specs.Before.{stepBefore}
-use Rattle.text_runner.specs.Lines.{header, refusedLine}
-use Rattle.text_script.specs.Script.{linesOf}
+use Rattle.text.specs.Refusal.{refusedLine}
+use Rattle.listing.specs.Lines.{header}
+use Rattle.text.specs.Script.{linesOf}
 use Rattle.listing.specs.Listing.{options, Answer, stepAnswer, badAnswer, listingOf}
 
 abbrev pub frameAnswerBefore : Device → (ℕ → ℕ → ℕ) → Machine → Frame → Answer

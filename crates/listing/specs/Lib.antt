@@ -1,3 +1,4 @@
 pub mod Listing
 pub mod Tells
 pub mod Before
+pub mod Lines

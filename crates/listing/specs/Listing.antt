@@ -12,12 +12,13 @@ use Rattle.device.specs.declared.Options.{Options}
 use Rattle.frame.specs.Frame.{frameOf}
 use Rattle.frame.specs.declared.Frame.{Frame}
 use Rattle.frame.specs.declared.Frame.the-variants.{Seen, NoFrame}
-use Rattle.machine_start.specs.Start.{freshMachine}
-use Rattle.machine.specs.declared.Machine.{Machine}
+use Rattle.record.specs.Start.{freshMachine}
+use Rattle.record.specs.declared.Machine.{Machine}
 use Rattle.row.specs.Rows.{Done}
 use Rattle.step.specs.Step.{stepOf}
-use Rattle.text_runner.specs.Lines.{header, stepLine, refusedLine}
-use Rattle.text_script.specs.Script.{linesOf}
+use Rattle.text.specs.Refusal.{refusedLine}
+use Rattle.listing.specs.Lines.{header, stepLine}
+use Rattle.text.specs.Script.{linesOf}
 
 -- "all wake pins enabled, SOUND off"
 abbrev pub options : Device → Options

@@ -7,10 +7,10 @@ use lib.ListN.{length, drop}
 use Rattle.laws.specs.Choice.{pick}
 use Rattle.laws.specs.Writing.{Wrote}
 use Rattle.device.specs.declared.Device.{Device}
-use Rattle.machine.specs.Valid.{Valid}
-use Rattle.machine.specs.declared.Machine.{Machine}
-use Rattle.machine.specs.With.{assembled}
-use Rattle.text_script.specs.Script.{linesOf, upTo}
+use Rattle.record.specs.Valid.{Valid}
+use Rattle.record.specs.declared.Machine.{Machine}
+use Rattle.record.specs.With.{assembled}
+use Rattle.text.specs.Script.{linesOf, upTo}
 use Rattle.listing.specs.Listing.{Answer, toldOver}
 use Rattle.listing.specs.declared.Told.{Told}
 use Rattle.listing.specs.declared.Fed.{Fed}

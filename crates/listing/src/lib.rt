@@ -1,17 +1,21 @@
 // The runner's listing: one line of a script answered, and the lines of a part of a script.
+pub mod line;
+
 use device::Device;
 use device::Options;
 use frame::Frame;
 use frame::frame_of;
-use machine::Core;
-use machine::Ram;
+use numbers::NO_FRAME;
+use record::Core;
+use record::Ram;
 use step::advance;
-use text_script::line_end;
+use text::refusal::refused_line;
+use text::script::line_end;
 ghost use mathlib.Core.Path.{_≡_};
 ghost use Prim.Native.Nat.{_+_, _≤_};
 ghost use lib.ListN.{length};
 ghost use Rattle.device.specs.Device.{imageSize, romOf};
-ghost use Rattle.machine.specs.Valid.{ValidCore, Nibbles};
+ghost use Rattle.record.specs.Valid.{ValidCore, Nibbles};
 ghost use Rattle.listing.specs.Listing.{answerOf};
 ghost use Rattle.listing.specs.Tells.{Tells, Feeds};
 
@@ -44,7 +48,7 @@ pub fn tell(
     ensures { λ r. ⌜ Tells d (answerOf d (romOf (now (image .entry))) (record { core = m; ram = now (ram .entry) }) (now (text .entry))) (now (out .entry)) (now (out .exit)) from (now (ram .exit)) r ⌝ }
 {
     let Frame::Seen(pins) = frame_of(d, text) else {
-        let end = text_runner::refused(out, from, 3);
+        let end = refused_line(out, from, NO_FRAME);
         return Told {
             core: m,
             ended: true,
@@ -58,7 +62,7 @@ pub fn tell(
     };
     let x = advance(image, options, m, ram, pins);
     let core = x.core;
-    let end = text_runner::line(out, from, core, x.cycles, x.stop);
+    let end = crate::line::line(out, from, core, x.cycles, x.stop);
     Told {
         core: core,
         ended: x.stop != 0,

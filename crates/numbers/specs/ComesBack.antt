@@ -79,3 +79,42 @@ reserved-value = 34
 -- Q-8: "Refusals: 35, a stop in a step", of "an instruction whose bytes pass the end of the image"
 abbrev pub past-end : ℕ
 past-end = 35
+
+-- Q-3: "40 malformed line or end record with bytes"
+abbrev pub malformed-line-or-end-with-bytes : ℕ
+malformed-line-or-end-with-bytes = 40
+
+-- "41 record sum"
+abbrev pub record-sum : ℕ
+record-sum = 41
+
+-- "42 record type"
+abbrev pub record-type : ℕ
+record-type = 42
+
+-- "43 data byte past 1FFFh"
+abbrev pub data-byte-past-1FFFh : ℕ
+data-byte-past-1FFFh = 43
+
+-- "44 byte given twice"
+abbrev pub byte-given-twice : ℕ
+byte-given-twice = 44
+
+-- "45 end record missing .. or any text after it"
+abbrev pub end-missing-or-text-after-it : ℕ
+end-missing-or-text-after-it = 45
+
+-- "46 output buffer under 22,540 bytes"
+abbrev pub output-buffer-under-22540-bytes : ℕ
+output-buffer-under-22540-bytes = 46
+
+-- Q-10: "47 work buffer not 9,216 bytes"
+abbrev pub work-buffer-is-not-9216-bytes : ℕ
+work-buffer-is-not-9216-bytes = 47
+
+-- Q-12: "48 pulses over the limit, 49 TF of zero while tone or random is on"
+abbrev pub pulses-over-the-limit : ℕ
+pulses-over-the-limit = 48
+
+abbrev pub tf-of-zero-while-on : ℕ
+tf-of-zero-while-on = 49

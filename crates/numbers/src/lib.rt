@@ -49,3 +49,25 @@ pub const RESERVED_VALUE: u8 = 34;
 
 // "35, a stop in a step": Q-8
 pub const PAST_END: u8 = 35;
+
+// Intel HEX: Q-3 and Q-10
+pub const MALFORMED_OR_END_WITH_BYTES: u8 = 40;
+
+pub const RECORD_SUM: u8 = 41;
+
+pub const RECORD_TYPE: u8 = 42;
+
+pub const PAST_1FFF: u8 = 43;
+
+pub const GIVEN_TWICE: u8 = 44;
+
+pub const END_MISSING_OR_TEXT_AFTER: u8 = 45;
+
+pub const OUTPUT_BUFFER_UNDER_22540_BYTES: u8 = 46;
+
+pub const WORK_BUFFER_IS_NOT_9216_BYTES: u8 = 47;
+
+// The sound pin: Q-12
+pub const PULSES_OVER_THE_LIMIT: u8 = 48;
+
+pub const TF_OF_ZERO_WHILE_ON: u8 = 49;

@@ -1,4 +1,7 @@
 // The reader: what a code is, by its bytes and by an image, P3 and an address.
+pub mod row_number;
+
+use crate::row_number::found;
 use device::Device;
 use device::image_size;
 use device::in_image;
@@ -8,13 +11,12 @@ use numbers::PAST_END;
 use numbers::UNASSIGNED_CODE;
 use sheet::Insn;
 use sheet::Read;
-use sheet_rows::found;
 ghost use mathlib.Core.Path.{_≡_};
 ghost use mathlib.Core.List.{[], _∷_};
 ghost use lib.ListN.{length};
 ghost use Prim.Native.Nat.{_+_, _*_, _%_, _<_, _≤_};
 ghost use Rattle.numbers.specs.Sizes.{addresses};
-ghost use Rattle.device.specs.Device.{romOf};
+ghost use Rattle.device.specs.Device.{romOf, windowEnd};
 ghost use Rattle.sheet.specs.Reading.{readBytes, readLeft, readAt};
 ghost use Rattle.reader.specs.Answer.{stopOf, paperOf, p3Given, readPaper};
 
@@ -72,7 +74,7 @@ fn last_two(b0: u8, b1: u8) -> Read
 
 // What stands at an address that has two behind it, wherever the window begins: a code may begin in bank 0 and go on in it.
 fn across(image: &[u8], p3: u8, at: u16) -> Read
-    requires { ⌜ (8192 + 4096 * (p3 % 4) ≤ length (now image)) × (at < 8190) ⌝ }
+    requires { ⌜ (windowEnd p3 ≤ length (now image)) × (at < 8190) ⌝ }
     ensures { λ r. ⌜ r ≡ readAt (romOf (now (image .entry)) p3) at ⌝ }
 {
     let i = in_image(p3, at);
@@ -83,7 +85,7 @@ fn across(image: &[u8], p3: u8, at: u16) -> Read
 
 // What stands at an address of the window; before the last two there are always three bytes.
 fn in_window(image: &[u8], p3: u8, at: u16) -> Read
-    requires { ⌜ (8192 + 4096 * (p3 % 4) ≤ length (now image)) × (4096 ≤ at) × (at < addresses) ⌝ }
+    requires { ⌜ (windowEnd p3 ≤ length (now image)) × (4096 ≤ at) × (at < addresses) ⌝ }
     ensures { λ r. ⌜ r ≡ readAt (romOf (now (image .entry)) p3) at ⌝ }
 {
     let i = in_image(p3, at);
@@ -98,7 +100,7 @@ fn in_window(image: &[u8], p3: u8, at: u16) -> Read
 
 // What stands at an address of an image, seen through the window of P3.
 pub fn read_at(image: &[u8], p3: u8, at: u16) -> Read
-    requires { ⌜ (8192 + 4096 * (p3 % 4) ≤ length (now image)) × (at < addresses) ⌝ }
+    requires { ⌜ (windowEnd p3 ≤ length (now image)) × (at < addresses) ⌝ }
     ensures { λ r. ⌜ r ≡ readAt (romOf (now (image .entry)) p3) at ⌝ }
 {
     if at < 4094 {

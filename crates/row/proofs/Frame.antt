@@ -11,7 +11,7 @@ use Rattle.sheet.specs.Table.{Line, Mark, set}
 use Rattle.alu.specs.Making.{valueAndCarry}
 use Rattle.alu.specs.Flags.{flagAfter}
 use Rattle.alu.specs.declared.Made.{Made}
-use Rattle.machine.specs.declared.Machine.{Machine}
+use Rattle.record.specs.declared.Machine.{Machine}
 use Rattle.row.specs.Places.{Around, withPc}
 use Rattle.row.specs.Steps.{Did}
 use Rattle.row.specs.Rows.{Done, spent, stops, withMarks, workOf, branchOf, callOf, worked, ended, latchesOf, performed, pcPast}

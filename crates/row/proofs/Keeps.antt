@@ -7,11 +7,11 @@ use lib.Dec.{eqb}
 use Rattle.laws.proofs.Choices.{picked, neither-left, neither-right}
 use Rattle.sheet.specs.Operation.{Port, Pointer, Place, Step, After}
 use Rattle.sheet.specs.Table.{Line}
-use Rattle.machine.specs.declared.Registers.{Registers}
-use Rattle.machine.specs.declared.Pointers.{Pointers}
-use Rattle.machine.specs.declared.Interrupts.{Interrupts}
-use Rattle.machine.specs.declared.Timers.{Timers}
-use Rattle.machine.specs.declared.Machine.{Machine}
+use Rattle.record.specs.declared.Registers.{Registers}
+use Rattle.record.specs.declared.Pointers.{Pointers}
+use Rattle.record.specs.declared.Interrupts.{Interrupts}
+use Rattle.record.specs.declared.Timers.{Timers}
+use Rattle.record.specs.declared.Machine.{Machine}
 use Rattle.row.specs.Places.{Around, withRegisters, withPc, withPointers, withInterrupts, withTimers, withPorts, withRam, portOf, portRead, portWritten, getOf, afterReading, putOf}
 use Rattle.row.specs.Steps.{putStep, exchangeStep, operationStep}
 use Rattle.row.specs.Rows.{Done, worked, workOf}

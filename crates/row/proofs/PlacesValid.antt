@@ -18,8 +18,8 @@ use Rattle.sheet.specs.declared.Insn.{Insn}
 use Rattle.ports.specs.Ports.{latchOf, portPins, readPort, isReadable}
 use Rattle.ports.specs.declared.Ports.{Ports}
 use Rattle.ports.specs.declared.PortRead.{PortRead}
-use Rattle.machine.specs.Valid.{ValidPorts, Valid}
-use Rattle.machine.specs.declared.Machine.{Machine}
+use Rattle.record.specs.Valid.{ValidPorts, Valid}
+use Rattle.record.specs.declared.Machine.{Machine}
 use Rattle.row.specs.Places.{Around, found, gotStop, weightOf, givenOf, partOf, partPut, halfOf, cellOf, getOf}
 use Rattle.row.proofs.PortsValid.{chosen-lt}
 

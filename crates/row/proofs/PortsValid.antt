@@ -15,7 +15,7 @@ use Rattle.ports.specs.Ports.{withLatch, readPort, writeStop, p27After, withP27
 use Rattle.ports.specs.declared.Ports.{Ports}
 use Rattle.ports.specs.declared.PortRead.{PortRead}
 use Rattle.ports.specs.declared.PortWrite.{PortWrite}
-use Rattle.machine.specs.Valid.{ValidAlso, ValidPorts}
+use Rattle.record.specs.Valid.{ValidAlso, ValidPorts}
 
 -- a choice of two numbers below a limit is below it
 pub chosen-lt : {n : ℕ} (t : Bool) (a b : ℕ) → a < n → b < n → pick t a b < n

@@ -14,14 +14,14 @@ use Rattle.ports.specs.Ports.{writePort, writeStop, withLatch, enters, modeAfte
 use Rattle.ports.specs.declared.Ports.{Ports}
 use Rattle.ports.specs.declared.Mode.{Mode}
 use Rattle.ports.specs.declared.Mode.the-variants.{Running, Sleep, Hold}
-use Rattle.machine.specs.Valid.{ValidRegisters, ValidPointers, ValidTimers, ModeFits, Valid}
-use Rattle.machine.specs.declared.Registers.{Registers}
-use Rattle.machine.specs.declared.Pointers.{Pointers}
-use Rattle.machine.specs.declared.Timers.{Timers}
-use Rattle.machine.specs.declared.Machine.{Machine}
-use Rattle.machine.proofs.Interrupting.{made-valid}
-use Rattle.machine.proofs.Places.{set-nibble}
-use Rattle.machine.proofs.WithValid.{with-regs, with-pc, with-ptrs, with-ints, with-timers, with-ports-and-mode}
+use Rattle.record.specs.Valid.{ValidRegisters, ValidPointers, ValidTimers, ModeFits, Valid}
+use Rattle.record.specs.declared.Registers.{Registers}
+use Rattle.record.specs.declared.Pointers.{Pointers}
+use Rattle.record.specs.declared.Timers.{Timers}
+use Rattle.record.specs.declared.Machine.{Machine}
+use Rattle.record.proofs.Interrupting.{made-valid}
+use Rattle.record.proofs.Places.{set-nibble}
+use Rattle.record.proofs.WithValid.{with-regs, with-pc, with-ptrs, with-ints, with-timers, with-ports-and-mode}
 use Rattle.row.specs.Places.{Around, withRegisters, withPc, withPointers, withTimers, cellOf, portOf, portWritten, putOf}
 use Rattle.row.specs.Columns.{isPort}
 use Rattle.row.proofs.PortsValid.{chosen-lt, written-valid}

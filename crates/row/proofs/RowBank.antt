@@ -20,8 +20,8 @@ use Rattle.ports.specs.Ports.{withLatch, isReadable, readPort, isWritable, writ
 use Rattle.ports.specs.declared.Ports.{Ports}
 use Rattle.ports.specs.declared.PortRead.{PortRead}
 use Rattle.ports.specs.declared.PortWrite.{PortWrite}
-use Rattle.machine.specs.declared.Registers.{Registers}
-use Rattle.machine.specs.declared.Machine.{Machine}
+use Rattle.record.specs.declared.Registers.{Registers}
+use Rattle.record.specs.declared.Machine.{Machine}
 use Rattle.row.specs.Places.{Around, withPorts, portOf, portRead, portWritten}
 use Rattle.row.specs.Rows.{workOf}
 use Rattle.row.specs.Columns.{isPort, workPuts}

@@ -5,8 +5,8 @@ use Rattle.numbers.specs.ComesBack.{stack-level}
 use Rattle.sheet.specs.Operation.{Step, After, Operation}
 use Rattle.sheet.specs.Flow.{callEntry}
 use Rattle.sheet.specs.Table.{Line}
-use Rattle.machine.specs.Stack.{canPush, canPop, called, popped, flagsReturned}
-use Rattle.machine.specs.declared.Machine.{Machine}
+use Rattle.record.specs.Stack.{canPush, canPop, called, popped, flagsReturned}
+use Rattle.record.specs.declared.Machine.{Machine}
 use Rattle.row.specs.Places.{Around}
 use Rattle.row.specs.Rows.{Done, spent, stops, workOf, branchOf, callOf, latchesOf, performed, pcPast}
 use Rattle.row.proofs.Keeps.{putting, work-keeps-always}

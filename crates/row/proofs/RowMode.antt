@@ -11,8 +11,8 @@ use Rattle.laws.proofs.Choices.{refuted, either-left, not-left, not-right}
 use Rattle.sheet.specs.Operation.{Port, Place, Step, After}
 use Rattle.sheet.specs.Table.{Line}
 use Rattle.sheet.specs.declared.Insn.{Insn}
-use Rattle.machine.specs.declared.Registers.{Registers}
-use Rattle.machine.specs.declared.Machine.{Machine}
+use Rattle.record.specs.declared.Registers.{Registers}
+use Rattle.record.specs.declared.Machine.{Machine}
 use Rattle.row.specs.Places.{Around, portOf, portWritten}
 use Rattle.row.specs.Rows.{workOf}
 use Rattle.row.specs.Columns.{isPort}

@@ -17,8 +17,8 @@ use Rattle.ports.specs.Ports.{isReadable, readPort, isWritable, writeStop, writ
 use Rattle.ports.specs.declared.Ports.{Ports}
 use Rattle.ports.specs.declared.PortRead.{PortRead}
 use Rattle.ports.specs.declared.PortWrite.{PortWrite}
-use Rattle.machine.specs.Ram.{bankOf}
-use Rattle.machine.specs.declared.Machine.{Machine}
+use Rattle.record.specs.Ram.{bankOf}
+use Rattle.record.specs.declared.Machine.{Machine}
 use Rattle.row.specs.Places.{Around, Got, cellOf, portOf, getOf, afterReading, putOf}
 use Rattle.row.specs.Steps.{firstOf, made-of, putStep, exchangeStep, operationStep}
 use Rattle.row.specs.Rows.{Done, worked, workOf, branchOf, callOf, latchesOf, performed}

@@ -17,11 +17,11 @@ use Rattle.sheet.specs.Flow.{targetOf, callEntry}
 use Rattle.alu.specs.Making.{valueAndCarry}
 use Rattle.alu.specs.declared.Made.{Made}
 use Rattle.ports.specs.declared.Mode.the-variants.{Running}
-use Rattle.machine.specs.Valid.{Valid}
-use Rattle.machine.specs.Stack.{CanPop, popped, flagsReturned}
-use Rattle.machine.specs.declared.Machine.{Machine}
-use Rattle.machine.proofs.Interrupting.{made-valid}
-use Rattle.machine.proofs.StackValid.{called-valid, popped-valid, flags-returned-valid}
+use Rattle.record.specs.Valid.{Valid}
+use Rattle.record.specs.Stack.{CanPop, popped, flagsReturned}
+use Rattle.record.specs.declared.Machine.{Machine}
+use Rattle.record.proofs.Interrupting.{made-valid}
+use Rattle.record.proofs.StackValid.{called-valid, popped-valid, flags-returned-valid}
 use Rattle.row.specs.Places.{Around, withPc}
 use Rattle.row.specs.Rows.{spent, stops, pcPast, withMarks, worked, workOf, branchOf, callOf, returned, latchesOf, performed, executed}
 use Rattle.row.proofs.PortsValid.{chosen-lt}

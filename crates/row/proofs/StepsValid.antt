@@ -12,9 +12,9 @@ use Rattle.sheet.specs.Operation.Op.{Move, Plus, PlusCF, Minus, MinusCF', And, 
 use Rattle.sheet.specs.declared.Insn.{Insn}
 use Rattle.alu.proofs.Low.{isWeight, Second, made-low}
 use Rattle.ports.specs.declared.Mode.the-variants.{Running}
-use Rattle.machine.specs.Valid.{Valid}
-use Rattle.machine.specs.declared.Machine.{Machine}
-use Rattle.machine.proofs.WithValid.{with-ports-and-mode}
+use Rattle.record.specs.Valid.{Valid}
+use Rattle.record.specs.declared.Machine.{Machine}
+use Rattle.record.proofs.WithValid.{with-ports-and-mode}
 use Rattle.row.specs.Places.{Around, getOf, afterReading, putOf, withPorts, portRead, portOf}
 use Rattle.row.specs.Steps.{putStep, exchangeStep, operationStep}
 use Rattle.row.specs.Rows.{worked}

@@ -4,7 +4,7 @@ use mathlib.Core.Path.{_≡_}
 use Rattle.laws.specs.Choice.{either}
 use Rattle.sheet.specs.Operation.{Place, Step, After, Enable, Operation}
 use Rattle.sheet.specs.Table.{Line, set}
-use Rattle.machine.specs.declared.Machine.{Machine}
+use Rattle.record.specs.declared.Machine.{Machine}
 use Rattle.row.specs.Rows.{Done, pcPast}
 
 -- whether a place is a port

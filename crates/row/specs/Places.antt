@@ -14,14 +14,14 @@ use Rattle.bits.specs.Bits.{bitOf}
 use Rattle.ports.specs.Ports.{latchOf, readPort, writePort, enters, modeAfter}
 use Rattle.ports.specs.declared.Ports.{Ports}
 use Rattle.ports.specs.declared.PortRead.{PortRead}
-use Rattle.machine.specs.With.{assembled, coreWithRegs, coreWithPc, coreWithPtrs, coreWithInts, coreWithTimers, coreWithPorts, coreWithMode, interruptsOf}
-use Rattle.machine.specs.Ram.{bankOf, atHL, atX, besideX, atY}
-use Rattle.machine.specs.declared.Registers.{Registers}
-use Rattle.machine.specs.declared.Pointers.{Pointers}
-use Rattle.machine.specs.declared.Interrupts.{Interrupts}
-use Rattle.machine.specs.declared.Timers.{Timers}
-use Rattle.machine.specs.declared.Core.{Core}
-use Rattle.machine.specs.declared.Machine.{Machine}
+use Rattle.record.specs.With.{assembled, coreWithRegs, coreWithPc, coreWithPtrs, coreWithInts, coreWithTimers, coreWithPorts, coreWithMode, interruptsOf}
+use Rattle.record.specs.Ram.{bankOf, atHL, atX, besideX, atY}
+use Rattle.record.specs.declared.Registers.{Registers}
+use Rattle.record.specs.declared.Pointers.{Pointers}
+use Rattle.record.specs.declared.Interrupts.{Interrupts}
+use Rattle.record.specs.declared.Timers.{Timers}
+use Rattle.record.specs.declared.Core.{Core}
+use Rattle.record.specs.declared.Machine.{Machine}
 
 -- the record with one part anew
 abbrev pub withRegisters : Machine → Registers → Machine

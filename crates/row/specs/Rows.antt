@@ -12,10 +12,10 @@ use Rattle.sheet.specs.Flow.{targetOf, callEntry}
 use Rattle.alu.specs.Making.{valueAndCarry}
 use Rattle.alu.specs.Flags.{flagAfter}
 use Rattle.alu.specs.declared.Made.{Made}
-use Rattle.machine.specs.With.{interruptsOf}
-use Rattle.machine.specs.Stack.{canPush, canPop, called, popped, flagsReturned}
-use Rattle.machine.specs.declared.Registers.{Registers}
-use Rattle.machine.specs.declared.Machine.{Machine}
+use Rattle.record.specs.With.{interruptsOf}
+use Rattle.record.specs.Stack.{canPush, canPop, called, popped, flagsReturned}
+use Rattle.record.specs.declared.Registers.{Registers}
+use Rattle.record.specs.declared.Machine.{Machine}
 use Rattle.row.specs.Places.{Around, withRegisters, withPc, withInterrupts}
 use Rattle.row.specs.Steps.{Did, firstOf, operationStep}
 

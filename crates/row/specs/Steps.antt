@@ -6,7 +6,7 @@ use Rattle.laws.specs.Choice.{pick}
 use Rattle.sheet.specs.Operation.{Op, Place, Step}
 use Rattle.alu.specs.Making.{made, valueAndCarry}
 use Rattle.alu.specs.declared.Made.{Made}
-use Rattle.machine.specs.declared.Machine.{Machine}
+use Rattle.record.specs.declared.Machine.{Machine}
 use Rattle.row.specs.Places.{Around, getOf, afterReading, putOf, withPointers}
 
 -- a stop or 0, what the flags speak of, and the record, which a stop leaves unsaid

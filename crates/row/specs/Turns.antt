@@ -2,8 +2,8 @@
 use Prim.Native.Nat.{ℕ}
 use mathlib.Core.List.{List}
 use mathlib.Core.Path.{_≡_}
-use Rattle.machine.specs.With.{assembled}
-use Rattle.machine.specs.declared.Core.{Core}
+use Rattle.record.specs.With.{assembled}
+use Rattle.record.specs.declared.Core.{Core}
 use Rattle.row.specs.Rows.{Done}
 use Rattle.row.specs.declared.Turn.{Turn}
 

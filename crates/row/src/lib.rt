@@ -1,7 +1,7 @@
 // What any row does to the record, by definition; and what executing one leaves where RAM is lent.
-use machine::Core;
-use machine::Machine;
-use machine::Ram;
+use record::Core;
+use record::Machine;
+use record::Ram;
 ghost use mathlib.Core.Path.{_≡_};
 ghost use Rattle.row.specs.Rows.{spent};
 ghost use Rattle.row.specs.Turns.{stoppedTurn, Gives};

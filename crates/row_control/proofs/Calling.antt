@@ -8,9 +8,9 @@ use Rattle.numbers.specs.ComesBack.{stack-level}
 use Rattle.sheet.specs.Flow.{callEntry}
 use Rattle.sheet.specs.Operation.Entry.{short}
 use Rattle.sheet.specs.Table.{lines, lineAt}
-use Rattle.machine.specs.With.{assembled}
-use Rattle.machine.specs.Stack.{canPush, called}
-use Rattle.machine.specs.declared.Core.{Core}
+use Rattle.record.specs.With.{assembled}
+use Rattle.record.specs.Stack.{canPush, called}
+use Rattle.record.specs.declared.Core.{Core}
 use Rattle.row.specs.Rows.{spent, callOf}
 use Rattle.row.specs.Turns.{stoppedTurn, Gives}
 use Rattle.row.specs.declared.Turn.{Turn}

@@ -4,7 +4,7 @@ use mathlib.Core.Bool.{true, false}
 use Prim.Native.Nat.{ℕ}
 use Rattle.sheet.specs.Table.{lines, lineAt}
 use Rattle.alu.specs.Flags.{flagAfter}
-use Rattle.machine.specs.declared.Core.{Core}
+use Rattle.record.specs.declared.Core.{Core}
 use Rattle.row.specs.Steps.{exchangeStep}
 use Rattle.row.specs.Rows.{workOf, latchesOf}
 use Rattle.row_control.specs.Latches.{latchesLeft, exchanged}

@@ -6,9 +6,9 @@ use Prim.Native.Nat.{ℕ}
 use Rattle.laws.specs.Among.{among}
 use Rattle.numbers.specs.ComesBack.{stack-level}
 use Rattle.sheet.specs.Table.{lines, lineAt}
-use Rattle.machine.specs.With.{assembled}
-use Rattle.machine.specs.Stack.{canPop, popped, flagsReturned}
-use Rattle.machine.specs.declared.Core.{Core}
+use Rattle.record.specs.With.{assembled}
+use Rattle.record.specs.Stack.{canPop, popped, flagsReturned}
+use Rattle.record.specs.declared.Core.{Core}
 use Rattle.row.specs.Rows.{spent}
 use Rattle.row.specs.Turns.{stoppedTurn, Gives}
 use Rattle.row.specs.declared.Turn.{Turn}

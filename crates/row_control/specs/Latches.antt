@@ -3,10 +3,10 @@ use Prim.Native.Nat.{ℕ, _+_, _%_}
 use mathlib.Core.Bool.{Bool, true}
 use lib.Bits.{bitAnd}
 use Rattle.numbers.specs.Sizes.{addresses}
-use Rattle.machine.specs.With.{coreWithRegs, coreWithPc, coreWithInts, interruptsOf}
-use Rattle.machine.specs.declared.Registers.{Registers}
-use Rattle.machine.specs.declared.Interrupts.{Interrupts}
-use Rattle.machine.specs.declared.Core.{Core}
+use Rattle.record.specs.With.{coreWithRegs, coreWithPc, coreWithInts, interruptsOf}
+use Rattle.record.specs.declared.Registers.{Registers}
+use Rattle.record.specs.declared.Interrupts.{Interrupts}
+use Rattle.record.specs.declared.Core.{Core}
 use Rattle.row.specs.declared.Turn.{Turn}
 
 -- - - 1, past a row of n bytes

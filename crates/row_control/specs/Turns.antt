@@ -4,10 +4,10 @@ use mathlib.Core.List.{List}
 use mathlib.Core.Path.{_≡_}
 use Rattle.device.specs.declared.Options.{Options}
 use Rattle.sheet.specs.Reading.{insn}
-use Rattle.machine.specs.declared.Core.{Core}
+use Rattle.record.specs.declared.Core.{Core}
 use Rattle.row.specs.Rows.{executed}
 use Rattle.row.specs.Turns.{doneAs}
-use Rattle.machine.specs.With.{assembled}
+use Rattle.record.specs.With.{assembled}
 use Rattle.row.specs.declared.Turn.{Turn}
 
 -- the row with its operand takes RAM from l to k and gives what x says, whatever ROM, the options and the other operand are

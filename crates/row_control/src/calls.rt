@@ -1,9 +1,9 @@
 // LCALL and SCALL: the return address into the level of the stack below SP.
-use machine::Core;
-use machine::Ram;
-use machine::stack::can_push;
 use numbers::ADDRESSES;
 use numbers::STACK_LEVEL;
+use record::Core;
+use record::Ram;
+use record::stack::can_push;
 use row::Turn;
 use row::held;
 use row::moved_on;
@@ -16,8 +16,8 @@ ghost use Rattle.laws.specs.Among.{among};
 ghost use Rattle.numbers.specs.Sizes.{addresses};
 ghost use Rattle.sheet.specs.Operation.Entry.{short};
 ghost use Rattle.sheet.specs.Flow.{callEntry};
-ghost use Rattle.machine.specs.Stack.{CanPush, called};
-ghost use Rattle.machine.specs.Valid.{Nibbles};
+ghost use Rattle.record.specs.Stack.{CanPush, called};
+ghost use Rattle.record.specs.Valid.{Nibbles};
 ghost use Rattle.row.specs.Rows.{spent};
 ghost use Rattle.row.specs.Turns.{Gives};
 ghost use Rattle.row_control.specs.Groups.{calls};

@@ -1,7 +1,7 @@
 // CIL, DICIL, EICIL and EXAE: the latches IL, EI, and the mask.
-use machine::Core;
-use machine::interrupts_of;
 use numbers::ADDRESSES;
+use record::Core;
+use record::interrupts_of;
 use row::Turn;
 use sheet::rows;
 ghost use mathlib.Core.Path.{_≡_};

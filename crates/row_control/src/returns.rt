@@ -1,8 +1,8 @@
 // RET and RTI: PC, and of RTI the flags and EI, from the level of the stack at SP.
-use machine::Core;
-use machine::Ram;
-use machine::stack::can_pop;
 use numbers::STACK_LEVEL;
+use record::Core;
+use record::Ram;
+use record::stack::can_pop;
 use row::Turn;
 use row::held;
 use row::moved_on;
@@ -11,7 +11,7 @@ use sheet::rows;
 ghost use mathlib.Core.Path.{_≡_};
 ghost use mathlib.Core.Bool.{true};
 ghost use Rattle.laws.specs.Among.{among};
-ghost use Rattle.machine.specs.Valid.{Nibbles};
+ghost use Rattle.record.specs.Valid.{Nibbles};
 ghost use Rattle.row_control.specs.Groups.{returns};
 ghost use Rattle.row_control.specs.Turns.{Comes};
 

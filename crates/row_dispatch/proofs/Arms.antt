@@ -7,8 +7,8 @@ use Rattle.laws.specs.Among.{among}
 use Rattle.device.specs.declared.Device.{Device}
 use Rattle.device.specs.declared.Options.{Options}
 use Rattle.sheet.specs.declared.Insn.{Insn}
-use Rattle.machine.specs.Valid.{ValidCore, Nibbles}
-use Rattle.machine.specs.declared.Core.{Core}
+use Rattle.record.specs.Valid.{ValidCore, Nibbles}
+use Rattle.record.specs.declared.Core.{Core}
 use Rattle.row_registers.specs.Quiet.{Quiet, Low}
 use Rattle.row_ends.specs.declared.Act.{Act}
 use Rattle.row_ram.specs.Cells.{Does, Fits}

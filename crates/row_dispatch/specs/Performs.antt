@@ -6,11 +6,11 @@ use Rattle.device.specs.declared.Device.{Device}
 use Rattle.device.specs.declared.Options.{Options}
 use Rattle.sheet.specs.Fields.{InFields}
 use Rattle.sheet.specs.declared.Insn.{Insn}
-use Rattle.machine.specs.Valid.{ValidCore, Nibbles}
-use Rattle.machine.specs.declared.Core.{Core}
+use Rattle.record.specs.Valid.{ValidCore, Nibbles}
+use Rattle.record.specs.declared.Core.{Core}
 use Rattle.row.specs.Rows.{executed}
 use Rattle.row_registers.specs.Quiet.{afterAct}
-use Rattle.machine.specs.With.{assembled}
+use Rattle.record.specs.With.{assembled}
 use Rattle.row_ends.specs.declared.Act.{Act}
 use Rattle.row_ram.specs.Cells.{Does}
 use Rattle.row_pointers.specs.Pointed.{afterPointer}

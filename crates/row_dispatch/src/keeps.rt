@@ -1,6 +1,6 @@
 // The groups that leave RAM as it was and do not read it.
 use device::in_image;
-use machine::Core;
+use record::Core;
 use row_ends::Act;
 use row_pointers::Pointed;
 use row_pointers::loads::load_pointer;
@@ -17,7 +17,7 @@ use sheet::Insn;
 ghost use mathlib.Core.Path.{_≡_};
 ghost use Prim.Native.Nat.{_+_, _*_, _%_, _<_, _≤_};
 ghost use lib.ListN.{length};
-ghost use Rattle.device.specs.Device.{romOf};
+ghost use Rattle.device.specs.Device.{romOf, windowEnd};
 ghost use Rattle.row_dispatch.specs.Groups.{InGroup};
 ghost use Rattle.row_dispatch.specs.Performs.{InRanges, Settles, Points};
 
@@ -38,7 +38,7 @@ pub fn quiet(m: Core, i: Insn, group: u8) -> Act
 
 // The byte at 1000h + DP, in the bank that P3 shows.
 fn rom_byte(image: &[u8], m: Core) -> u8
-    requires { ⌜ (8192 + 4096 * (m .ports .p3 % 4) ≤ length (now image)) × (m .ptrs .dp < 4096) ⌝ }
+    requires { ⌜ (windowEnd (m .ports .p3) ≤ length (now image)) × (m .ptrs .dp < 4096) ⌝ }
     ensures { λ r. ⌜ r ≡ romOf (now (image .entry)) (m .ports .p3) (0x1000 + m .ptrs .dp) ⌝ }
 {
     let at = in_image(m.ports.p3, 0x1000 + m.ptrs.dp);
@@ -47,7 +47,7 @@ fn rom_byte(image: &[u8], m: Core) -> u8
 
 // The rows that leave another pointer or timer.
 pub fn from_pointer(image: &[u8], m: Core, i: Insn, group: u8) -> Pointed
-    requires { ⌜ (InRanges m) × (InGroup group i) × (8192 + 4096 * (m .ports .p3 % 4) ≤ length (now image)) × (14 ≤ group) × (group < 18) ⌝ }
+    requires { ⌜ (InRanges m) × (InGroup group i) × (windowEnd (m .ports .p3) ≤ length (now image)) × (14 ≤ group) × (group < 18) ⌝ }
     ensures { λ x. ⌜ Points (romOf (now (image .entry)) (m .ports .p3)) m i x ⌝ }
 {
     match group {

@@ -1,7 +1,7 @@
 // The groups that read or write RAM, which is lent, and those that change more of the scalars.
 use device::Options;
-use machine::Core;
-use machine::Ram;
+use record::Core;
+use record::Ram;
 use row::Turn;
 use row_control::calls::call;
 use row_control::latches::latch;
@@ -21,7 +21,7 @@ use row_ram_pair::exchange_pair;
 use row_ram_pair::load_pair;
 use sheet::Insn;
 ghost use Prim.Native.Nat.{_<_, _≤_};
-ghost use Rattle.machine.specs.Valid.{ValidCore, Nibbles};
+ghost use Rattle.record.specs.Valid.{ValidCore, Nibbles};
 ghost use Rattle.row_ram.specs.Cells.{Does};
 ghost use Rattle.row_dispatch.specs.Groups.{InGroup};
 ghost use Rattle.row_dispatch.specs.Performs.{InRanges, Shifts};

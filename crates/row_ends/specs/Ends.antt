@@ -4,8 +4,8 @@ use mathlib.Core.Bool.{Bool, true, not}
 use lib.Dec.{eqb}
 use Rattle.numbers.specs.Sizes.{addresses}
 use Rattle.alu.specs.declared.Made.{Made}
-use Rattle.machine.specs.declared.Registers.{Registers}
-use Rattle.machine.specs.declared.Core.{Core}
+use Rattle.record.specs.declared.Registers.{Registers}
+use Rattle.record.specs.declared.Core.{Core}
 use Rattle.row_ends.specs.declared.Act.{Act}
 
 abbrev pub goesPast : Core → Registers → ℕ → ℕ → Act

@@ -1,8 +1,8 @@
 // The ends of rows by what they change: a register or none, and the flags by the marks C Z S, which each name's comment has. n and t are the row's bytes and cycles.
 use alu::Made;
-use machine::Core;
-use machine::Registers;
 use numbers::ADDRESSES;
+use record::Core;
+use record::Registers;
 ghost use mathlib.Core.Path.{_≡_};
 ghost use Prim.Native.Nat.{_<_};
 ghost use Rattle.numbers.specs.Sizes.{addresses};

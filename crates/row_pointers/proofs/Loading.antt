@@ -6,8 +6,8 @@ use lib.Dec.{eqb}
 use Rattle.sheet.specs.Table.{lines, lineAt}
 use Rattle.alu.specs.Making.{made}
 use Rattle.alu.specs.Flags.{flagAfter}
-use Rattle.machine.specs.Ram.{bankOf}
-use Rattle.machine.specs.declared.Core.{Core}
+use Rattle.record.specs.Ram.{bankOf}
+use Rattle.record.specs.declared.Core.{Core}
 use Rattle.row.specs.Steps.{putStep}
 use Rattle.row.specs.Rows.{workOf}
 use Rattle.row_ends.specs.Ends.{accLoaded, stopped}

@@ -4,7 +4,7 @@ use mathlib.Core.List.{List}
 use mathlib.Core.Path.{_≡_}
 use Rattle.device.specs.declared.Options.{Options}
 use Rattle.sheet.specs.Reading.{insn}
-use Rattle.machine.specs.declared.Core.{Core}
+use Rattle.record.specs.declared.Core.{Core}
 use Rattle.row.specs.Rows.{executed}
 use Rattle.row_pointers.specs.Pointed.{afterPointer}
 use Rattle.row_pointers.specs.declared.Pointed.{Pointed}

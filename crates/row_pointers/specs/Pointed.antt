@@ -6,11 +6,11 @@ use mathlib.Core.Path.{_≡_}
 use Rattle.numbers.specs.Sizes.{addresses}
 use Rattle.device.specs.declared.Options.{Options}
 use Rattle.sheet.specs.Reading.{insn}
-use Rattle.machine.specs.Valid.{ValidRegisters, ValidPointers, ValidTimers}
-use Rattle.machine.specs.declared.Core.{Core}
-use Rattle.machine.specs.With.{coreWithRegs, coreWithPc, coreWithPtrs, coreWithTimers}
-use Rattle.machine.specs.declared.Pointers.{Pointers}
-use Rattle.machine.specs.declared.Timers.{Timers}
+use Rattle.record.specs.Valid.{ValidRegisters, ValidPointers, ValidTimers}
+use Rattle.record.specs.declared.Core.{Core}
+use Rattle.record.specs.With.{coreWithRegs, coreWithPc, coreWithPtrs, coreWithTimers}
+use Rattle.record.specs.declared.Pointers.{Pointers}
+use Rattle.record.specs.declared.Timers.{Timers}
 use Rattle.row.specs.Rows.{executed}
 use Rattle.row_ends.specs.declared.Act.{Act}
 use Rattle.row_ends.specs.Ends.{stopped}

@@ -3,8 +3,8 @@ pub mod loads;
 pub mod rom;
 pub mod stores;
 
-use machine::Pointers;
-use machine::Timers;
+use record::Pointers;
+use record::Timers;
 use row_ends::Act;
 
 // What a row that changes a pointer or a timer leaves.

@@ -1,14 +1,14 @@
 // The rows that load ACC from DP, SP, TA or TB. "Timer, DP and SP rows need P9.3 = 0, else 31."
 use bits::nibble_at;
-use machine::Core;
-use machine::ram::bank_of;
 use numbers::ABSENT_RAM_ADDRESS;
+use record::Core;
+use record::ram::bank_of;
 use row_ends::Act;
 use row_ends::acc_loaded;
 use row_ends::stopped;
 use sheet::rows;
 ghost use mathlib.Core.Path.{_≡_};
-ghost use Rattle.machine.specs.Ram.{bankOf};
+ghost use Rattle.record.specs.Ram.{bankOf};
 ghost use Rattle.row_pointers.specs.Groups.{loadPointer, loadTimer};
 ghost use Rattle.row_pointers.specs.Pointed.{Leaves, Asks};
 

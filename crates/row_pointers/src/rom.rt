@@ -1,6 +1,6 @@
 // LDAX and LDAXI: "LDAX reads ROM at 1000h + DP". The byte there is handed in.
 use crate::Pointed;
-use machine::Core;
+use record::Core;
 use row_ends::acc_loaded;
 ghost use Prim.Native.Nat.{_<_};
 ghost use Rattle.numbers.specs.Sizes.{addresses};

@@ -1,17 +1,17 @@
 // The rows that store ACC in DP, SP, TA or TB. "Timer, DP and SP rows need P9.3 = 0, else 31."
 use crate::Pointed;
-use machine::Core;
-use machine::Pointers;
-use machine::Timers;
-use machine::ram::bank_of;
 use numbers::ABSENT_RAM_ADDRESS;
+use record::Core;
+use record::Pointers;
+use record::Timers;
+use record::ram::bank_of;
 use row_ends::stopped;
 use row_ends::went_on;
 use sheet::rows;
 ghost use mathlib.Core.Path.{_≡_};
 ghost use Prim.Native.Nat.{_<_};
 ghost use Rattle.sheet.specs.Operation.Part.{low, middle, high};
-ghost use Rattle.machine.specs.Ram.{bankOf};
+ghost use Rattle.record.specs.Ram.{bankOf};
 ghost use Rattle.row.specs.Places.{partPut};
 ghost use Rattle.row_ends.specs.Ends.{wentOn};
 ghost use Rattle.row_pointers.specs.Groups.{storePointer, storeTimer};

@@ -10,12 +10,12 @@ use Rattle.sheet.specs.Table.{lines, lineAt}
 use Rattle.alu.specs.Making.{made}
 use Rattle.alu.specs.Flags.{flagAfter}
 use Rattle.ports.specs.declared.PortRead.{PortRead}
-use Rattle.machine.specs.declared.Core.{Core}
+use Rattle.record.specs.declared.Core.{Core}
 use Rattle.row.specs.Places.{weightOf}
 use Rattle.row.specs.Steps.{firstOf, putStep}
 use Rattle.row.specs.Rows.{stops, workOf}
 use Rattle.row_ends.specs.declared.Act.{Act}
-use Rattle.machine.specs.With.{assembled}
+use Rattle.record.specs.With.{assembled}
 use Rattle.row.specs.Turns.{doneAs}
 use Rattle.row_ports.specs.Ends.{left, afterRead, portTested, portLoaded}
 use Rattle.row_ports.specs.Ported.{Reads}

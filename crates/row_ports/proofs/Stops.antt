@@ -14,10 +14,10 @@ use Rattle.ports.specs.Ports.{withLatch, isReadable, readPort, isWritable, writ
 use Rattle.ports.specs.declared.Ports.{Ports}
 use Rattle.ports.specs.declared.PortRead.{PortRead}
 use Rattle.ports.specs.declared.PortWrite.{PortWrite}
-use Rattle.machine.specs.declared.Core.{Core}
+use Rattle.record.specs.declared.Core.{Core}
 use Rattle.row.specs.Steps.{firstOf}
 use Rattle.row.specs.Rows.{stops}
-use Rattle.machine.specs.With.{assembled}
+use Rattle.record.specs.With.{assembled}
 use Rattle.row.specs.Turns.{doneAs, stoppedTurn}
 use Rattle.row.specs.declared.Turn.{Turn}
 

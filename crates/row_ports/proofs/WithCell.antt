@@ -9,8 +9,8 @@ use Rattle.device.specs.declared.Options.{Options}
 use Rattle.sheet.specs.Table.{lines, lineAt}
 use Rattle.alu.specs.Making.{made}
 use Rattle.alu.specs.Flags.{flagAfter}
-use Rattle.machine.specs.Ram.{atHL}
-use Rattle.machine.specs.declared.Core.{Core}
+use Rattle.record.specs.Ram.{atHL}
+use Rattle.record.specs.declared.Core.{Core}
 use Rattle.row.specs.Steps.{putStep}
 use Rattle.row.specs.Rows.{workOf}
 use Rattle.row_ends.specs.Ends.{tested}

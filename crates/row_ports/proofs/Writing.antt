@@ -10,11 +10,11 @@ use Rattle.sheet.specs.Table.{lines, lineAt}
 use Rattle.alu.specs.Making.{made}
 use Rattle.alu.specs.Flags.{flagAfter}
 use Rattle.ports.specs.Ports.{writePort}
-use Rattle.machine.specs.declared.Core.{Core}
+use Rattle.record.specs.declared.Core.{Core}
 use Rattle.row.specs.Places.{weightOf}
 use Rattle.row.specs.Steps.{putStep}
 use Rattle.row.specs.Rows.{spent, stops, workOf}
-use Rattle.machine.specs.With.{assembled}
+use Rattle.record.specs.With.{assembled}
 use Rattle.row.specs.Turns.{doneAs}
 use Rattle.row_ports.specs.Ends.{wrote, written, bitSet, bitCleared}
 use Rattle.row_ports.specs.Ported.{Writes}

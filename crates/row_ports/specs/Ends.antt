@@ -11,9 +11,9 @@ use Rattle.alu.specs.Making.{valueAndCarry}
 use Rattle.ports.specs.Ports.{latchOf, readPort, writePort, modeAfter}
 use Rattle.ports.specs.declared.Ports.{Ports}
 use Rattle.ports.specs.declared.PortRead.{PortRead}
-use Rattle.machine.specs.With.{coreWithRegs, coreWithPc, coreWithTimers, coreWithPorts, coreWithMode}
-use Rattle.machine.specs.declared.Registers.{Registers}
-use Rattle.machine.specs.declared.Core.{Core}
+use Rattle.record.specs.With.{coreWithRegs, coreWithPc, coreWithTimers, coreWithPorts, coreWithMode}
+use Rattle.record.specs.declared.Registers.{Registers}
+use Rattle.record.specs.declared.Core.{Core}
 use Rattle.row.specs.Places.{timersAfter}
 use Rattle.row.specs.Turns.{stoppedTurn}
 use Rattle.row_registers.specs.Quiet.{afterAct}

@@ -11,10 +11,10 @@ use Rattle.device.specs.declared.Options.{Options}
 use Rattle.sheet.specs.Reading.{insn}
 use Rattle.ports.specs.Ports.{latchOf}
 use Rattle.ports.specs.declared.Ports.{Ports}
-use Rattle.machine.specs.Valid.{ValidRegisters, Nibbles}
-use Rattle.machine.specs.declared.Core.{Core}
+use Rattle.record.specs.Valid.{ValidRegisters, Nibbles}
+use Rattle.record.specs.declared.Core.{Core}
 use Rattle.row.specs.Rows.{executed}
-use Rattle.machine.specs.With.{assembled}
+use Rattle.record.specs.With.{assembled}
 use Rattle.row.specs.Turns.{doneAs}
 use Rattle.row.specs.declared.Turn.{Turn}
 use Rattle.row_ports.specs.Groups.{writing, reading}

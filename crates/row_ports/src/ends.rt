@@ -1,12 +1,12 @@
 // The ends of the rows of ports: a stop, a port written, a port read.
 use device::Device;
-use machine::Core;
 use numbers::ADDRESSES;
 use ports::PortRead;
 use ports::Ports;
 use ports::enters;
 use ports::mode_after;
 use ports::write_port;
+use record::Core;
 use row::Turn;
 use row::stopped;
 use row_ends::Act;

@@ -6,8 +6,8 @@ use Prim.Native.Nat.{ℕ}
 use lib.Dec.{ltb}
 use Rattle.sheet.specs.Table.{lines, lineAt}
 use Rattle.alu.specs.Making.{made}
-use Rattle.machine.specs.Ram.{atHL, atX, atY}
-use Rattle.machine.specs.declared.Core.{Core}
+use Rattle.record.specs.Ram.{atHL, atX, atY}
+use Rattle.record.specs.declared.Core.{Core}
 use Rattle.row.specs.Steps.{putStep, exchangeStep}
 use Rattle.row.specs.Rows.{workOf}
 use Rattle.row_ends.specs.Ends.{stopped}

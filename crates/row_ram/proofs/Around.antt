@@ -7,8 +7,8 @@ use lib.Dec.{ltb}
 use lib.ListN.{set}
 use borrow.Author.Tests.{lt-ltb, le-ltb}
 use Rattle.sheet.specs.Operation.{Cell}
-use Rattle.machine.specs.Ram.{Peeked}
-use Rattle.machine.specs.declared.Core.{Core}
+use Rattle.record.specs.Ram.{Peeked}
+use Rattle.record.specs.declared.Core.{Core}
 use Rattle.row_ends.specs.declared.Act.{Act}
 use Rattle.row_ends.specs.Ends.{stopped}
 use Rattle.laws.specs.Among.{among}

@@ -10,13 +10,13 @@ use Rattle.device.specs.declared.Options.{Options}
 use Rattle.sheet.specs.Operation.{Cell}
 use Rattle.sheet.specs.Reading.{insn}
 use Rattle.sheet.specs.declared.Insn.{Insn}
-use Rattle.machine.specs.Valid.{ValidRegisters, Nibbles}
-use Rattle.machine.specs.declared.Core.{Core}
+use Rattle.record.specs.Valid.{ValidRegisters, Nibbles}
+use Rattle.record.specs.declared.Core.{Core}
 use Rattle.row.specs.Places.{cellOf}
 use Rattle.row.specs.Rows.{Done, executed}
 use Rattle.row_ends.specs.declared.Act.{Act}
 use Rattle.row_registers.specs.Quiet.{doneBy}
-use Rattle.machine.specs.With.{assembled}
+use Rattle.record.specs.With.{assembled}
 use Rattle.row_ram.specs.declared.Stored.{Stored}
 use Rattle.laws.specs.Among.{among}
 

@@ -1,11 +1,11 @@
 // The rows that read the nibble by x.
 use alu::minus;
-use machine::Core;
-use machine::Ram;
-use machine::ram::at_x;
-use machine::ram::peek;
 use numbers::ABSENT_RAM_ADDRESS;
 use numbers::RAM_NIBBLES;
+use record::Core;
+use record::Ram;
+use record::ram::at_x;
+use record::ram::peek;
 use row_ends::Act;
 use row_ends::acc_loaded;
 use row_ends::compared;

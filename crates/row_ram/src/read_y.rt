@@ -1,12 +1,12 @@
 // The rows that read the nibble by y.
 use alu::minus;
 use bits::has_bit;
-use machine::Core;
-use machine::Ram;
-use machine::ram::at_y;
-use machine::ram::peek;
 use numbers::ABSENT_RAM_ADDRESS;
 use numbers::RAM_NIBBLES;
+use record::Core;
+use record::Ram;
+use record::ram::at_y;
+use record::ram::peek;
 use row_ends::Act;
 use row_ends::compared;
 use row_ends::stopped;

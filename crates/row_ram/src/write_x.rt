@@ -1,12 +1,12 @@
 // The rows that write the nibble by x.
 use crate::Stored;
-use machine::Core;
-use machine::Ram;
-use machine::ram::at_x;
-use machine::ram::peek;
-use machine::ram::poke;
 use numbers::ABSENT_RAM_ADDRESS;
 use numbers::RAM_NIBBLES;
+use record::Core;
+use record::Ram;
+use record::ram::at_x;
+use record::ram::peek;
+use record::ram::poke;
 use row_ends::Act;
 use row_ends::acc_loaded;
 use row_ends::stopped;

@@ -6,8 +6,8 @@ use Prim.Native.Nat.{ℕ, _<_}
 use lib.Dec.{ltb}
 use lib.ListN.{set}
 use borrow.Author.Tests.{lt-ltb}
-use Rattle.machine.specs.Ram.{Peeked, atX, besideX}
-use Rattle.machine.specs.declared.Core.{Core}
+use Rattle.record.specs.Ram.{Peeked, atX, besideX}
+use Rattle.record.specs.declared.Core.{Core}
 use Rattle.row_ends.specs.declared.Act.{Act}
 use Rattle.laws.specs.Among.{among}
 use Rattle.laws.proofs.Among.{first}

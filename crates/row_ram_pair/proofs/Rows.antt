@@ -8,8 +8,8 @@ use lib.ListN.{getD, set}
 use Rattle.sheet.specs.Table.{lines, lineAt}
 use Rattle.alu.specs.Making.{made}
 use Rattle.alu.specs.Flags.{flagAfter}
-use Rattle.machine.specs.Ram.{atX, besideX}
-use Rattle.machine.specs.declared.Core.{Core}
+use Rattle.record.specs.Ram.{atX, besideX}
+use Rattle.record.specs.declared.Core.{Core}
 use Rattle.row.specs.Steps.{putStep, exchangeStep}
 use Rattle.row.specs.Rows.{workOf}
 use Rattle.row_ram.specs.Cells.{Does}

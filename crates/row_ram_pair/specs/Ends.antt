@@ -1,7 +1,7 @@
 -- The end of both rows: HL anew, and the flags by the three marks. Each has two bytes and two cycles.
 use Prim.Native.Nat.{ℕ}
 use mathlib.Core.Bool.{true}
-use Rattle.machine.specs.declared.Core.{Core}
+use Rattle.record.specs.declared.Core.{Core}
 use Rattle.row_ends.specs.declared.Act.{Act}
 use Rattle.row_ends.specs.Ends.{goesPast}
 

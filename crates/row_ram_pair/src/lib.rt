@@ -1,12 +1,12 @@
 // LDHL and EXHL: LR and the nibble by x, HR and the nibble beside it. "Direct x: same bank."
-use machine::Core;
-use machine::Ram;
-use machine::ram::at_x;
-use machine::ram::peek;
-use machine::ram::poke;
 use numbers::ABSENT_RAM_ADDRESS;
 use numbers::ADDRESSES;
 use numbers::RAM_NIBBLES;
+use record::Core;
+use record::Ram;
+use record::ram::at_x;
+use record::ram::peek;
+use record::ram::poke;
 use row_ends::Act;
 use row_ends::stopped;
 use sheet::Insn;

@@ -5,7 +5,7 @@ use Prim.Native.Nat.{ℕ, _+_, _*_, _/_, _%_}
 use Rattle.laws.specs.Choice.{pick}
 use Rattle.sheet.specs.Table.{lines, lineAt}
 use Rattle.alu.specs.Flags.{flagAfter}
-use Rattle.machine.specs.declared.Core.{Core}
+use Rattle.record.specs.declared.Core.{Core}
 use Rattle.row.specs.Rows.{branchOf}
 use Rattle.row_registers.specs.Quiet.{Quiet}
 use Rattle.row_ends.specs.Ends.{jumped, wentOn}

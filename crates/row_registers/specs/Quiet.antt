@@ -5,8 +5,8 @@ use mathlib.Core.Path.{_≡_}
 use Rattle.numbers.specs.Sizes.{addresses}
 use Rattle.device.specs.declared.Options.{Options}
 use Rattle.sheet.specs.Reading.{insn}
-use Rattle.machine.specs.With.{assembled, coreWithRegs, coreWithPc}
-use Rattle.machine.specs.declared.Core.{Core}
+use Rattle.record.specs.With.{assembled, coreWithRegs, coreWithPc}
+use Rattle.record.specs.declared.Core.{Core}
 use Rattle.row.specs.Rows.{Done, executed}
 use Rattle.row_ends.specs.declared.Act.{Act}
 

@@ -1,6 +1,6 @@
 // Rows that compare or test registers, and NOP: CMPH, CMPIA, CMPL, TFA, TFCFC, TTCFS, TZS, NOP.
 use crate::weight;
-use machine::Core;
+use record::Core;
 use row_ends::Act;
 use sheet::rows;
 ghost use mathlib.Core.Path.{_≡_};

@@ -1,5 +1,5 @@
 // The branches SBR, LBR, SLBR: taken where SF is set; SF is set after, taken or not.
-use machine::Core;
+use record::Core;
 use row_ends::Act;
 use sheet::rows;
 ghost use mathlib.Core.Path.{_≡_};

@@ -1,5 +1,5 @@
 // Rows that make a sum, a difference, logic or a rotation of registers and the operand: RLCA, RRCA, ADDA, ADDH, ADDL, DECA, DECL, INCA, INCL, SUBA, ANDA, ORA.
-use machine::Core;
+use record::Core;
 use row_ends::Act;
 use sheet::rows;
 ghost use mathlib.Core.Path.{_≡_};

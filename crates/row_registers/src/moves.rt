@@ -1,5 +1,5 @@
 // Rows that move or exchange registers: LDH, LDIA, LDL, THA, TLA, EXAH, EXAL.
-use machine::Core;
+use record::Core;
 use row_ends::Act;
 use sheet::rows;
 ghost use mathlib.Core.Path.{_≡_};

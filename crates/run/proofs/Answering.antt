@@ -9,9 +9,9 @@ use lib.ListN.{length}
 use Rattle.laws.proofs.Computed.{true→T}
 use Rattle.device.specs.Device.{imageSize, frameSize, romOf}
 use Rattle.frame.specs.Frame.{areFrames, framesOf}
-use Rattle.machine.specs.Valid.{Valid}
-use Rattle.machine.specs.declared.Machine.{Machine}
-use Rattle.machine_valid.proofs.Validity.{valid?}
+use Rattle.record.specs.Valid.{Valid}
+use Rattle.record.specs.declared.Machine.{Machine}
+use Rattle.record.proofs.valid.Validity.{valid?}
 use Rattle.device.specs.declared.Options.{Options}
 use Rattle.run.specs.Run.{runOf}
 use Rattle.run.specs.Answers.{runRefused, RunOf}

@@ -6,7 +6,7 @@ use Prim.Native.Nat.{ℕ, suc, _+_}
 use native.Mathlib.Decide.{ℕ-discrete}
 use borrow.Author.Tests.{eq-eqb}
 use Rattle.frame.specs.declared.Pins.{Pins}
-use Rattle.machine.specs.declared.Machine.{Machine}
+use Rattle.record.specs.declared.Machine.{Machine}
 use Rattle.step.specs.Step.{stepOf}
 use Rattle.device.specs.declared.Options.{Options}
 use Rattle.step.proofs.StepValid.{step-unmarked}

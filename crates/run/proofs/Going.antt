@@ -11,11 +11,11 @@ use Rattle.frame.specs.Frame.{PinsInRange, areFrames, charsAt, framesOf, isFram
 use Rattle.frame.specs.declared.Pins.{Pins}
 use Rattle.frame.proofs.Characters.{both-first, both-second, in-range}
 use Rattle.frame.proofs.Sequence.{are-next, frames-rest, frames-next, frames-end}
-use Rattle.machine.specs.Valid.{Valid}
-use Rattle.machine.specs.declared.Core.{Core}
-use Rattle.machine.specs.declared.Machine.{Machine}
+use Rattle.record.specs.Valid.{Valid}
+use Rattle.record.specs.declared.Core.{Core}
+use Rattle.record.specs.declared.Machine.{Machine}
 use Rattle.row.specs.Rows.{Done}
-use Rattle.machine.specs.With.{assembled}
+use Rattle.record.specs.With.{assembled}
 use Rattle.row.specs.Turns.{Gives}
 use Rattle.step.specs.Step.{stepOf}
 use Rattle.row.specs.declared.Turn.{Turn}

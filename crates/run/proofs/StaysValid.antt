@@ -9,28 +9,28 @@ use native.Mathlib.Omega.{arith}
 use lib.Dec.{eqb}
 use lib.ListN.{length, getD}
 use Rattle.laws.proofs.Choices.{picked-by}
-use Rattle.device.specs.Device.{imageSize, frameSize, romOf}
+use Rattle.device.specs.Device.{imageSize, frameSize, romOf, OfBytes}
 use Rattle.device.specs.declared.Device.{Device}
 use Rattle.device.specs.declared.Options.{Options}
 use Rattle.frame.specs.Frame.{frameOf, areFrames, framesOf, PinsInRange}
 use Rattle.frame.specs.declared.Frame.{Frame}
 use Rattle.frame.specs.declared.Pins.{Pins}
 use Rattle.frame.proofs.Sequence.{length-frames, number-in-range}
-use Rattle.machine.specs.Valid.{Valid}
-use Rattle.machine.specs.declared.Machine.{Machine}
-use Rattle.machine_valid.proofs.Validity.{valid?}
-use Rattle.machine_start.specs.Start.{ResetOf}
-use Rattle.machine_start.specs.declared.AfterReset.{AfterReset}
-use Rattle.machine_start.proofs.Starting.{fresh-valid, reset-valid}
+use Rattle.record.specs.Valid.{Valid}
+use Rattle.record.specs.declared.Machine.{Machine}
+use Rattle.record.proofs.valid.Validity.{valid?}
+use Rattle.record.specs.Start.{ResetOf}
+use Rattle.record.specs.declared.start.AfterReset.{AfterReset}
+use Rattle.record.proofs.start.Starting.{fresh-valid, reset-valid}
 use Rattle.step.specs.Step.{stepOf}
 use Rattle.step.specs.Answers.{StepOf}
 use Rattle.step.specs.declared.Stepped.{Stepped}
 use Rattle.step.proofs.Answering.{seen-in-range}
 use Rattle.step.proofs.StepValid.{look-valid, act-step-valid, step-valid}
-use Rattle.step_apart.specs.Answers.{LookOf, ActOf}
+use Rattle.step.specs.Apart.{LookOf, ActOf}
 use Rattle.run.specs.Run.{runOver, runOf}
 use Rattle.run.specs.Answers.{RunOf}
-use Rattle.run.specs.StaysValid.{NoRefusal, OfBytes, StaysValid}
+use Rattle.run.specs.StaysValid.{NoRefusal, StaysValid}
 use Rattle.run.specs.declared.Ran.{Ran}
 
 -- a number of the table's refusals

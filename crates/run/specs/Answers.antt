@@ -7,8 +7,8 @@ use lib.ListN.{length}
 use Rattle.numbers.specs.ComesBack.{image-of-another-size, record-outside-the-ranges, no-frame, more-than-65536-frames}
 use Rattle.device.specs.Device.{imageSize, frameSize, romOf}
 use Rattle.frame.specs.Frame.{areFrames, framesOf}
-use Rattle.machine.specs.Valid.{Valid}
-use Rattle.machine.specs.declared.Machine.{Machine}
+use Rattle.record.specs.Valid.{Valid}
+use Rattle.record.specs.declared.Machine.{Machine}
 use Rattle.device.specs.declared.Options.{Options}
 use Rattle.run.specs.Run.{runOf}
 use Rattle.run.specs.declared.Ran.{Ran}

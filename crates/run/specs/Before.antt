@@ -6,7 +6,7 @@ use mathlib.Core.Path.{_≡_}
 use lib.Dec.{eqb}
 use Rattle.laws.specs.Choice.{pick}
 use Rattle.frame.specs.declared.Pins.{Pins}
-use Rattle.machine.specs.declared.Machine.{Machine}
+use Rattle.record.specs.declared.Machine.{Machine}
 use Rattle.step.specs.Before.{stepBefore}
 use Rattle.device.specs.declared.Options.{Options}
 use Rattle.run.specs.Run.{runOf}

@@ -1,29 +1,25 @@
--- Request Q-11: "Frames, instructions, acceptance, timers, waking and reset all keep it true, on both devices." The stored source is part of a valid record (machine/specs/Valid.antt, `due`), and
+-- Request Q-11: "Frames, instructions, acceptance, timers, waking and reset all keep it true, on both devices." The stored source is part of a valid record (record/specs/Valid.antt, `due`), and
 -- what every call on a record gives back, where it refuses nothing, is valid.
-use Prim.Native.Nat.{ℕ, _<_, _≤_}
+use Prim.Native.Nat.{ℕ, _≤_}
 use mathlib.Core.List.{List}
 use mathlib.Core.Logic.{_⊎_}
 use mathlib.Core.Path.{_≡_}
-use Rattle.device.specs.Device.{romOf}
+use Rattle.device.specs.Device.{OfBytes}
 use Rattle.device.specs.declared.Device.{Device}
 use Rattle.device.specs.declared.Options.{Options}
-use Rattle.machine.specs.Valid.{Valid}
-use Rattle.machine.specs.declared.Machine.{Machine}
-use Rattle.machine_start.specs.Start.{freshMachine, ResetOf}
-use Rattle.machine_start.specs.declared.AfterReset.{AfterReset}
+use Rattle.record.specs.Valid.{Valid}
+use Rattle.record.specs.declared.Machine.{Machine}
+use Rattle.record.specs.Start.{freshMachine, ResetOf}
+use Rattle.record.specs.declared.start.AfterReset.{AfterReset}
 use Rattle.step.specs.Answers.{StepOf}
 use Rattle.step.specs.declared.Stepped.{Stepped}
-use Rattle.step_apart.specs.Answers.{LookOf, ActOf}
+use Rattle.step.specs.Apart.{LookOf, ActOf}
 use Rattle.run.specs.Answers.{RunOf}
 use Rattle.run.specs.declared.Ran.{Ran}
 
 -- the number is no refusal's: 0, or a stop's, which are 30 and over
 abbrev pub NoRefusal : ℕ → Type 0
 NoRefusal number = (number ≡ 0) ⊎ (30 ≤ number)
-
--- the image is of bytes
-abbrev pub OfBytes : List ℕ → Type 0
-OfBytes image = (p3 at : ℕ) → romOf image p3 at < 256
 
 -- of any answers that conform, on either device
 pub record StaysValid : Type 0 where

@@ -2,7 +2,10 @@
 use Prim.Native.Nat.{ℕ, _+_, _*_, _/_}
 use lib.Dec.{eqb}
 use Rattle.laws.specs.Choice.{pick}
-use Rattle.sheet.specs.Operation.{Target, Entry}
+use Rattle.sheet.specs.Operation.{Operation, Target, Entry}
+use Rattle.sheet.specs.Operation.Operation.{work, branch, call, return, return-FLAG, IL⟵IL-and-r, no-operation}
+use Rattle.sheet.specs.Table.{lineAt}
+use Rattle.sheet.specs.declared.Insn.{Insn}
 use Rattle.sheet.specs.Operation.Target.{page, half, whole}
 use Rattle.sheet.specs.Operation.Entry.{long, short}
 
@@ -16,3 +19,16 @@ targetOf whole at a = a
 abbrev pub callEntry : Entry → ℕ → ℕ
 callEntry long a = a
 callEntry short n = pick (eqb n 0) 0x86 (8 * n + 6)
+
+-- where a row goes by its operation; one that is no branch and no call goes nowhere
+abbrev pub goesBy : Operation → ℕ → ℕ → ℕ
+goesBy (work s t) at a = 0
+goesBy (branch t) at a = targetOf t at a
+goesBy (call e) at a = callEntry e a
+goesBy return at a = 0
+goesBy return-FLAG at a = 0
+goesBy (IL⟵IL-and-r e) at a = 0
+goesBy no-operation at a = 0
+
+unfoldable pub goesTo : ℕ → Insn → ℕ
+goesTo at i = goesBy (lineAt (i .row) .operation) at (i .a)

@@ -1,5 +1,6 @@
 // The instruction table of sheet 000 for the code: an instruction, what reading gives, the rows' numbers by name, and the length and cycles by first byte.
 // The rows themselves are the definition in specs/Table.antt.
+pub mod flow;
 pub mod rows;
 
 ghost use mathlib.Core.Path.{_≡_};

@@ -1,16 +1,16 @@
 // sound: the commands on standard input, each answered by a line.
 // All that it has to say is written before it reads on, so that a person at a terminal sees each answer. No line is held.
-use file_part::read_behind;
 use libc::STDERR_FILENO;
 use libc::STDIN_FILENO;
-use sound_command::nothing_entered;
+use program::part::read_behind;
+use program::streams::Ending;
+use program::streams::ending_of;
+use program::streams::say;
+use program::streams::show_part;
 use sound_generator::start;
+use sound_text::command::nothing_entered;
 use sound_text::feed;
 use sound_text::last;
-use streams::Ending;
-use streams::ending_of;
-use streams::say;
-use streams::show_part;
 ghost use Prim.Native.Nat.{_*_, _<_, _≤_};
 ghost use lib.ListN.{length};
 

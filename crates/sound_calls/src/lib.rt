@@ -3,9 +3,9 @@
 use bits::bit_of;
 use bytes::copy;
 use laws::both;
-use sound_advance::advance;
-use sound_generator::OUTSIDE_THE_RANGES;
+use numbers::RECORD_OUTSIDE_THE_RANGES;
 use sound_generator::Sound;
+use sound_generator::advance::advance;
 use sound_generator::output;
 use sound_generator::sleep;
 use sound_generator::start;
@@ -17,7 +17,7 @@ ghost use mathlib.Core.Path.{_≡_};
 ghost use Prim.Native.Nat.{_<_};
 ghost use lib.ListN.{length};
 ghost use Rattle.sound_generator.specs.Answers.{p30Written, p24Written, p23Written, madeSleep, madeWake};
-ghost use Rattle.sound_advance.specs.Advance.{advancedBy};
+ghost use Rattle.sound_generator.specs.Advance.{advancedBy};
 ghost use Rattle.sound_calls.specs.Layout.{bytesOf, holdsState, stateAt};
 ghost use Rattle.sound_calls.specs.Calls.{changedBy, started, Leaves, levelAt, Shows};
 
@@ -75,7 +75,7 @@ pub extern "C" fn em73862_sound_start(bytes: &mut [u8]) -> u8
     ensures { λ r. ⌜ Leaves (started (now (bytes .entry))) r (now (bytes .exit)) ⌝ }
 {
     if bytes.len() != STATE_BYTES {
-        return OUTSIDE_THE_RANGES;
+        return RECORD_OUTSIDE_THE_RANGES;
     }
     pack(start(), bytes);
     0
@@ -90,7 +90,7 @@ pub extern "C" fn em73862_sound_write_p30(bytes: &mut [u8], value: u8) -> u8
         pack(r.state, bytes);
         return r.number;
     }
-    OUTSIDE_THE_RANGES
+    RECORD_OUTSIDE_THE_RANGES
 }
 
 #[no_mangle]
@@ -102,7 +102,7 @@ pub extern "C" fn em73862_sound_write_p24(bytes: &mut [u8], value: u8) -> u8
         pack(r.state, bytes);
         return r.number;
     }
-    OUTSIDE_THE_RANGES
+    RECORD_OUTSIDE_THE_RANGES
 }
 
 #[no_mangle]
@@ -114,7 +114,7 @@ pub extern "C" fn em73862_sound_write_p23(bytes: &mut [u8], value: u8) -> u8
         pack(r.state, bytes);
         return r.number;
     }
-    OUTSIDE_THE_RANGES
+    RECORD_OUTSIDE_THE_RANGES
 }
 
 #[no_mangle]
@@ -126,7 +126,7 @@ pub extern "C" fn em73862_sound_sleep(bytes: &mut [u8]) -> u8
         pack(r.state, bytes);
         return r.number;
     }
-    OUTSIDE_THE_RANGES
+    RECORD_OUTSIDE_THE_RANGES
 }
 
 #[no_mangle]
@@ -138,7 +138,7 @@ pub extern "C" fn em73862_sound_wake(bytes: &mut [u8]) -> u8
         pack(r.state, bytes);
         return r.number;
     }
-    OUTSIDE_THE_RANGES
+    RECORD_OUTSIDE_THE_RANGES
 }
 
 #[no_mangle]
@@ -150,7 +150,7 @@ pub extern "C" fn em73862_sound_advance(bytes: &mut [u8], pulses: u32) -> u8
         pack(r.state, bytes);
         return r.number;
     }
-    OUTSIDE_THE_RANGES
+    RECORD_OUTSIDE_THE_RANGES
 }
 
 // level: 1 for high.
@@ -164,5 +164,5 @@ pub extern "C" fn em73862_sound_output(bytes: &[u8], level: &mut u8) -> u8
         return r.number;
     }
     *level = 0;
-    OUTSIDE_THE_RANGES
+    RECORD_OUTSIDE_THE_RANGES
 }

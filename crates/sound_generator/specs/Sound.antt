@@ -3,7 +3,7 @@ use Prim.Native.Nat.{ℕ, _+_, _*_, _%_, _<_, _≤_}
 use mathlib.Core.Bool.{Bool, true, false}
 use lib.Dec.{eqb, ltb, leb}
 use Rattle.laws.specs.Choice.{pick, both, either}
-use Rattle.sound_random.specs.Random.{nine-bits, nine-ones, nine-zeros, Random}
+use Rattle.sound_generator.specs.Random.{nine-bits, nine-ones, nine-zeros, Random}
 use Rattle.sound_generator.specs.declared.Sound.{Sound}
 
 -- the sheet, "Sound generator mode": 00 disable, 01 tone, 10 random, 11 tone and random. It is P30 bits 1..0

@@ -1,8 +1,12 @@
 // The sound pin's state: its ranges, its start, the writes of P30, P24 and P23, sleep and waking, and the output.
 // Each public call answers 0 and what comes of it, or a refusal's number and the state as it was; two answers to the same are equal: proofs/Answers.antt.
+pub mod advance;
+pub mod random;
+
+use crate::random::NINE_BITS;
 use laws::both;
 use laws::either;
-use sound_random::NINE_BITS;
+use numbers::RECORD_OUTSIDE_THE_RANGES;
 ghost use mathlib.Core.Path.{_≡_};
 ghost use Rattle.sound_generator.specs.Sound.{inRanges, startState, levelOf};
 ghost use Rattle.sound_generator.specs.Answers.{takes as takesValue, answered, refused, p30Written, p24Written, p23Written, madeSleep, madeWake, outputOf};
@@ -27,8 +31,6 @@ pub struct Shown {
     pub number: u8,
     pub high: bool,
 }
-
-pub const OUTSIDE_THE_RANGES: u8 = 2;
 
 const NIBBLES: u8 = 16;
 
@@ -94,7 +96,7 @@ pub fn write_p30(s: Sound, n: u8) -> Answer
         t.mode = n % MODES;
         return taken(t);
     }
-    refuse(OUTSIDE_THE_RANGES, s)
+    refuse(RECORD_OUTSIDE_THE_RANGES, s)
 }
 
 pub fn write_p24(s: Sound, n: u8) -> Answer
@@ -105,7 +107,7 @@ pub fn write_p24(s: Sound, n: u8) -> Answer
         t.p24 = n;
         return taken(t);
     }
-    refuse(OUTSIDE_THE_RANGES, s)
+    refuse(RECORD_OUTSIDE_THE_RANGES, s)
 }
 
 pub fn write_p23(s: Sound, n: u8) -> Answer
@@ -117,7 +119,7 @@ pub fn write_p23(s: Sound, n: u8) -> Answer
         t.count = 0;
         return taken(t);
     }
-    refuse(OUTSIDE_THE_RANGES, s)
+    refuse(RECORD_OUTSIDE_THE_RANGES, s)
 }
 
 pub fn sleep(s: Sound) -> Answer
@@ -128,7 +130,7 @@ pub fn sleep(s: Sound) -> Answer
         t.asleep = true;
         return taken(t);
     }
-    refuse(OUTSIDE_THE_RANGES, s)
+    refuse(RECORD_OUTSIDE_THE_RANGES, s)
 }
 
 pub fn wake(s: Sound) -> Answer
@@ -139,7 +141,7 @@ pub fn wake(s: Sound) -> Answer
         t.asleep = false;
         return taken(t);
     }
-    refuse(OUTSIDE_THE_RANGES, s)
+    refuse(RECORD_OUTSIDE_THE_RANGES, s)
 }
 
 fn level(s: Sound) -> bool
@@ -169,7 +171,7 @@ pub fn output(s: Sound) -> Shown
         };
     }
     Shown {
-        number: OUTSIDE_THE_RANGES,
+        number: RECORD_OUTSIDE_THE_RANGES,
         high: false,
     }
 }

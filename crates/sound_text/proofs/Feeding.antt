@@ -11,16 +11,16 @@ use Rattle.laws.specs.Choice.{pick, either}
 use Rattle.laws.specs.Writing.{Wrote}
 use Rattle.laws.proofs.Computed.{true→T, both-left, both-right, both-i}
 use Rattle.laws.proofs.Writing.{wrote-then, wrote-none}
-use Rattle.text_script.specs.Script.{isLF, onFirst, linesOf}
+use Rattle.text.specs.Script.{isLF, onFirst, linesOf}
 use Rattle.sound_generator.specs.Sound.{startState}
 use Rattle.sound_generator.specs.declared.Sound.{Sound}
-use Rattle.sound_command.specs.Commands.{commandOf}
-use Rattle.sound_command.specs.Entry.{Entered, Fits, Feeds as Enters}
-use Rattle.sound_command.specs.declared.Entry.{Entry}
-use Rattle.sound_command.specs.declared.Command.{Command}
+use Rattle.sound_text.specs.Commands.{commandOf}
+use Rattle.sound_text.specs.Entry.{Entered, Fits, Feeds as Enters}
+use Rattle.sound_text.specs.declared.command.Entry.{Entry}
+use Rattle.sound_text.specs.declared.command.Command.{Command}
 use Rattle.sound_text.specs.Telling.{performed, textOf, toldOver, soundOf}
 use Rattle.sound_text.specs.Feeding.{unended, Begun, Feeds}
-use Rattle.sound_command.proofs.Entering.{begun}
+use Rattle.sound_text.proofs.command.Entering.{begun}
 use Rattle.sound_text.specs.declared.Performed.{Performed}
 use Rattle.sound_text.specs.declared.Progress.{Progress}
 

@@ -6,10 +6,10 @@ use mathlib.Core.Path.{_≡_}
 use lib.Dec.{T}
 use Rattle.laws.specs.Choice.{both}
 use Rattle.laws.specs.Writing.{Wrote}
-use Rattle.text_script.specs.Script.{isLF, linesOf}
+use Rattle.text.specs.Script.{isLF, linesOf}
 use Rattle.sound_generator.specs.declared.Sound.{Sound}
-use Rattle.sound_command.specs.Entry.{Entered, Fits}
-use Rattle.sound_command.specs.declared.Entry.{Entry}
+use Rattle.sound_text.specs.Entry.{Entered, Fits}
+use Rattle.sound_text.specs.declared.command.Entry.{Entry}
 use Rattle.sound_text.specs.Telling.{toldOver}
 use Rattle.sound_text.specs.declared.Progress.{Progress}
 

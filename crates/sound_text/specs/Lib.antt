@@ -1,2 +1,4 @@
 pub mod Telling
 pub mod Feeding
+pub mod Commands
+pub mod Entry

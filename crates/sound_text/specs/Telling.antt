@@ -5,17 +5,17 @@ use mathlib.Core.List.{List, [], _∷_, _++_}
 use lib.Dec.{eqb}
 use Rattle.laws.specs.Choice.{pick}
 use Rattle.bits.specs.Bits.{bitOf}
-use Rattle.text_digits.specs.Digits.{characters, joined, decimal, hex}
-use Rattle.text_runner.specs.Lines.{refusedLine}
-use Rattle.text_script.specs.Script.{linesOf}
+use Rattle.text.specs.Digits.{characters, joined, decimal, hex}
+use Rattle.text.specs.Refusal.{refusedLine}
+use Rattle.text.specs.Script.{linesOf}
 use Rattle.sound_generator.specs.Sound.{startState}
 use Rattle.sound_generator.specs.Answers.{answered, p30Written, p24Written, p23Written, madeSleep, madeWake, outputOf}
 use Rattle.sound_generator.specs.declared.Sound.{Sound}
 use Rattle.sound_generator.specs.declared.Answer.{Answer}
-use Rattle.sound_advance.specs.Advance.{advancedBy}
-use Rattle.sound_command.specs.Commands.{commandOf}
-use Rattle.sound_command.specs.declared.Command.{Command}
-use Rattle.sound_command.specs.declared.Command.the-variants.{P30, P24, P23, Sleep, Wake, Reset, Advance, Nothing}
+use Rattle.sound_generator.specs.Advance.{advancedBy}
+use Rattle.sound_text.specs.Commands.{commandOf}
+use Rattle.sound_text.specs.declared.command.Command.{Command}
+use Rattle.sound_text.specs.declared.command.Command.the-variants.{P30, P24, P23, Sleep, Wake, Reset, Advance, Nothing}
 use Rattle.sound_text.specs.declared.Performed.{Performed}
 
 -- a field of the line: its name with the blank after it, and a number

@@ -1,14 +1,16 @@
 // What the program sound writes: a line for each command, and the lines for a part of its input.
+pub mod command;
+
+use crate::command::Command;
+use crate::command::Entry;
+use crate::command::command_of;
+use crate::command::enter;
+use crate::command::is_begun;
+use crate::command::nothing_entered;
 use bits::bit_of;
-use sound_advance::advance;
-use sound_command::Command;
-use sound_command::Entry;
-use sound_command::command_of;
-use sound_command::enter;
-use sound_command::is_begun;
-use sound_command::nothing_entered;
 use sound_generator::Answer;
 use sound_generator::Sound;
+use sound_generator::advance::advance;
 use sound_generator::output;
 use sound_generator::sleep;
 use sound_generator::start;
@@ -17,20 +19,20 @@ use sound_generator::wake;
 use sound_generator::write_p23;
 use sound_generator::write_p24;
 use sound_generator::write_p30;
-use text_digits::decimal;
-use text_digits::number;
-use text_digits::put;
-use text_digits::put_text;
-use text_runner::refused;
+use text::digits::decimal;
+use text::digits::number;
+use text::digits::put;
+use text::digits::put_text;
+use text::refusal::refused_line;
 ghost use mathlib.Core.Path.{_≡_};
 ghost use mathlib.Core.Bool.{true};
 ghost use mathlib.Core.List.{[], _∷_, _++_};
 ghost use Prim.Native.Nat.{_+_, _*_, _<_, _≤_};
 ghost use lib.ListN.{length};
 ghost use Rattle.laws.specs.Writing.{Wrote};
-ghost use Rattle.text_digits.specs.Digits.{decimal as decimalOf};
-ghost use Rattle.text_script.specs.Script.{linesOf};
-ghost use Rattle.sound_command.specs.Entry.{Fits};
+ghost use Rattle.text.specs.Digits.{decimal as decimalOf};
+ghost use Rattle.text.specs.Script.{linesOf};
+ghost use Rattle.sound_text.specs.Entry.{Fits};
 ghost use Rattle.sound_text.specs.Telling.{toneFields, outputFields, stateLine, performed, textOf, toldOver};
 ghost use Rattle.sound_text.specs.Feeding.{Begun, Feeds};
 
@@ -129,7 +131,7 @@ pub fn tell(out: &mut [u8], from: usize, p: Performed) -> usize
         if answer.number == 0 {
             return state_line(out, from, answer.state);
         }
-        return refused(out, from, answer.number);
+        return refused_line(out, from, answer.number);
     }
     put_text(out, from, b"not a command\n")
 }

@@ -13,10 +13,10 @@ use Rattle.frame.specs.Frame.{isFrame, frameOf, pinsOf, PinsInRange}
 use Rattle.frame.specs.declared.Pins.{Pins}
 use Rattle.frame.specs.declared.Frame.{Frame}
 use Rattle.frame.proofs.Characters.{in-range}
-use Rattle.machine.specs.Valid.{Valid}
-use Rattle.machine.specs.declared.Machine.{Machine}
-use Rattle.machine_valid.proofs.Validity.{valid?}
-use Rattle.machine.specs.With.{assembled}
+use Rattle.record.specs.Valid.{Valid}
+use Rattle.record.specs.declared.Machine.{Machine}
+use Rattle.record.proofs.valid.Validity.{valid?}
+use Rattle.record.specs.With.{assembled}
 use Rattle.step.specs.Step.{stepOf}
 use Rattle.step.specs.Answers.{stepRefused, stepped, StepOf}
 use Rattle.row.specs.Turns.{Gives}

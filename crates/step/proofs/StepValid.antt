@@ -7,9 +7,9 @@ use Rattle.laws.proofs.Choices.{picked-by}
 use Rattle.laws.proofs.Computed.{T→true, both-left}
 use Rattle.frame.specs.Frame.{PinsInRange}
 use Rattle.frame.specs.declared.Pins.{Pins}
-use Rattle.machine.specs.Valid.{Valid}
-use Rattle.machine.specs.declared.Machine.{Machine}
-use Rattle.machine.proofs.WithValid.{with-mark}
+use Rattle.record.specs.Valid.{Valid}
+use Rattle.record.specs.declared.Machine.{Machine}
+use Rattle.record.proofs.WithValid.{with-mark}
 use Rattle.row.specs.Rows.{Done, spent, stops}
 use Rattle.step_look.specs.Look.{isRunning}
 use Rattle.step_look.proofs.LookValid.{looked-valid, running-is}

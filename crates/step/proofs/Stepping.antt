@@ -7,11 +7,11 @@ use native.Mathlib.Nat.{add-zero, zero-add}
 use Rattle.laws.proofs.Choices.{both-false}
 use Rattle.frame.specs.Frame.{PinsInRange}
 use Rattle.frame.specs.declared.Pins.{Pins}
-use Rattle.machine.specs.Valid.{ValidCore}
-use Rattle.machine.specs.declared.Core.{Core}
-use Rattle.machine.specs.declared.Machine.{Machine}
+use Rattle.record.specs.Valid.{ValidCore}
+use Rattle.record.specs.declared.Core.{Core}
+use Rattle.record.specs.declared.Machine.{Machine}
 use Rattle.row.specs.Rows.{spent}
-use Rattle.machine.specs.With.{assembled, coreWithMark}
+use Rattle.record.specs.With.{assembled, coreWithMark}
 use Rattle.row.specs.declared.Turn.{Turn}
 use Rattle.step_look.specs.Look.{seen, isRunning, waited, looked}
 use Rattle.step_look.specs.declared.Looked.{Looked}

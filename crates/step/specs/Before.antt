@@ -5,8 +5,8 @@ use mathlib.Core.Path.{_≡_}
 use lib.Dec.{eqb}
 use Rattle.laws.specs.Choice.{pick}
 use Rattle.frame.specs.declared.Pins.{Pins}
-use Rattle.machine.specs.With.{assembled, coreWithMark}
-use Rattle.machine.specs.declared.Machine.{Machine}
+use Rattle.record.specs.With.{assembled, coreWithMark}
+use Rattle.record.specs.declared.Machine.{Machine}
 use Rattle.row.specs.Rows.{Done, spent, stops}
 use Rattle.step_look.specs.Look.{isRunning, looked}
 use Rattle.step_look.specs.declared.Looked.{Looked}

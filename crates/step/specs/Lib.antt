@@ -1,3 +1,4 @@
 pub mod Step
 pub mod Before
 pub mod Answers
+pub mod Apart

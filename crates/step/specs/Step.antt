@@ -3,8 +3,8 @@ use Prim.Native.Nat.{ℕ, _+_}
 use mathlib.Core.Bool.{false, not}
 use Rattle.laws.specs.Choice.{pick, both}
 use Rattle.frame.specs.declared.Pins.{Pins}
-use Rattle.machine.specs.With.{assembled, coreWithMark}
-use Rattle.machine.specs.declared.Machine.{Machine}
+use Rattle.record.specs.With.{assembled, coreWithMark}
+use Rattle.record.specs.declared.Machine.{Machine}
 use Rattle.row.specs.Rows.{Done, spent}
 use Rattle.step_look.specs.Look.{isRunning, looked}
 use Rattle.step_act.specs.Act.{actOf}

@@ -1,16 +1,18 @@
 // One step: for any image, options, record and frame the record, the stop and the cycles that document 01 says, or a refusal by number that changes nothing.
+pub mod apart;
+
 use device::Options;
 use device::image_size;
 use frame::Frame;
 use frame::Pins;
 use frame::frame_of;
-use machine::Core;
-use machine::Machine;
-use machine::Ram;
-use machine_valid::is_valid;
 use numbers::IMAGE_OF_ANOTHER_SIZE;
 use numbers::NO_FRAME;
 use numbers::RECORD_OUTSIDE_THE_RANGES;
+use record::Core;
+use record::Machine;
+use record::Ram;
+use record::valid::is_valid;
 use row::Turn;
 use step_act::act;
 use step_look::is_running;
@@ -20,7 +22,7 @@ ghost use mathlib.Core.Path.{_≡_};
 ghost use lib.ListN.{length};
 ghost use Rattle.device.specs.Device.{imageSize, romOf};
 ghost use Rattle.frame.specs.Frame.{PinsInRange};
-ghost use Rattle.machine.specs.Valid.{ValidCore, Nibbles};
+ghost use Rattle.record.specs.Valid.{ValidCore, Nibbles};
 ghost use Rattle.step.specs.Step.{stepOf};
 ghost use Rattle.row.specs.Turns.{Gives};
 ghost use Rattle.step.specs.Answers.{StepOf, stepRefused};

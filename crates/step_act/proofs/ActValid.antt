@@ -14,12 +14,12 @@ use Rattle.clock.specs.Clock.{InRange}
 use Rattle.clock.proofs.Ranges.{passed-in-range}
 use Rattle.ports.specs.declared.Mode.{Mode}
 use Rattle.ports.specs.declared.Mode.the-variants.{Running}
-use Rattle.machine.specs.Stack.{canPush, accepted}
-use Rattle.machine.specs.Valid.{ValidInterrupts, ValidTimers, ValidCore, Valid}
-use Rattle.machine.specs.declared.Core.{Core}
-use Rattle.machine.specs.declared.Machine.{Machine}
-use Rattle.machine.proofs.Range.{can-push}
-use Rattle.machine.proofs.StackValid.{accepted-valid}
+use Rattle.record.specs.Stack.{canPush, accepted}
+use Rattle.record.specs.Valid.{ValidInterrupts, ValidTimers, ValidCore, Valid}
+use Rattle.record.specs.declared.Core.{Core}
+use Rattle.record.specs.declared.Machine.{Machine}
+use Rattle.record.proofs.Range.{can-push}
+use Rattle.record.proofs.StackValid.{accepted-valid}
 use Rattle.row.specs.Rows.{Done, spent, stops}
 use Rattle.row.proofs.RowsValid.{executed-valid}
 use Rattle.step_look.specs.Look.{timeOf}

@@ -13,11 +13,11 @@ use Rattle.sheet.specs.declared.Read.{Read}
 use Rattle.reader.specs.Answer.{stopOf}
 use Rattle.reader.proofs.NoRow.{NoRow, no-row}
 use Rattle.ports.specs.declared.Mode.{Mode}
-use Rattle.machine.specs.Stack.{canPush, accepted}
-use Rattle.machine.specs.Valid.{Valid}
-use Rattle.machine.specs.declared.Core.{Core}
+use Rattle.record.specs.Stack.{canPush, accepted}
+use Rattle.record.specs.Valid.{Valid}
+use Rattle.record.specs.declared.Core.{Core}
 use Rattle.row.specs.Rows.{Done, spent}
-use Rattle.machine.specs.With.{assembled}
+use Rattle.record.specs.With.{assembled}
 use Rattle.row.specs.declared.Turn.{Turn}
 use Rattle.row_dispatch.specs.Performs.{Performs}
 use Rattle.step_act.specs.Act.{sourceOf, acceptOf, runRead, runOne, acceptOrRun, coreIn, coreAfter, actOf}

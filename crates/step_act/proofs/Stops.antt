@@ -11,9 +11,9 @@ use Rattle.sheet.specs.declared.Read.{Read}
 use Rattle.clock.specs.Clock.{passed}
 use Rattle.ports.specs.declared.Mode.{Mode}
 use Rattle.due.specs.Due.{dueNumber}
-use Rattle.machine.specs.Stack.{canPush, accepted}
-use Rattle.machine.specs.declared.Core.{Core}
-use Rattle.machine.specs.declared.Machine.{Machine}
+use Rattle.record.specs.Stack.{canPush, accepted}
+use Rattle.record.specs.declared.Core.{Core}
+use Rattle.record.specs.declared.Machine.{Machine}
 use Rattle.row.specs.Rows.{Done, spent, stops}
 use Rattle.row.proofs.Frame.{stop-undone}
 use Rattle.row.proofs.RowMark.{performed-mark}

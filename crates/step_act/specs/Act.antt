@@ -12,9 +12,9 @@ use Rattle.clock.specs.Clock.{passed}
 use Rattle.clock.specs.declared.Rates.{Rates}
 use Rattle.ports.specs.declared.Mode.{Mode}
 use Rattle.due.specs.Due.{dueSource}
-use Rattle.machine.specs.Stack.{canPush, accepted}
-use Rattle.machine.specs.declared.Core.{Core}
-use Rattle.machine.specs.declared.Machine.{Machine}
+use Rattle.record.specs.Stack.{canPush, accepted}
+use Rattle.record.specs.declared.Core.{Core}
+use Rattle.record.specs.declared.Machine.{Machine}
 use Rattle.row.specs.Rows.{Done, spent, stops, executed}
 use Rattle.step_look.specs.Look.{timeOf, withTime}
 

@@ -2,8 +2,8 @@
 use mathlib.Core.Path.{_≡_}
 use Rattle.device.specs.declared.Device.{Device}
 use Rattle.ports.specs.declared.Mode.the-variants.{Running}
-use Rattle.machine.specs.Valid.{ValidCore}
-use Rattle.machine.specs.declared.Core.{Core}
+use Rattle.record.specs.Valid.{ValidCore}
+use Rattle.record.specs.declared.Core.{Core}
 
 pub record Runs (d : Device) (m : Core) : Type 0 where
   pub valid : ValidCore d m

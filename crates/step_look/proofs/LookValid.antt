@@ -12,11 +12,11 @@ use Rattle.clock.specs.Clock.{InRange}
 use Rattle.clock.specs.declared.Time.{Time}
 use Rattle.clock.proofs.Ranges.{events-in-range}
 use Rattle.ports.specs.declared.Mode.{Mode}
-use Rattle.machine.specs.Valid.{ModeFits, ValidInterrupts, ValidTimers, ValidCore}
-use Rattle.machine.specs.declared.Core.{Core}
+use Rattle.record.specs.Valid.{ModeFits, ValidInterrupts, ValidTimers, ValidCore}
+use Rattle.record.specs.declared.Core.{Core}
 use Rattle.laws.proofs.Choices.{picked}
-use Rattle.machine.proofs.Interrupting.{made-valid}
-use Rattle.machine.proofs.WithValid.{with-ints, with-timers, with-pins, with-ports-and-mode, with-mark}
+use Rattle.record.proofs.Interrupting.{made-valid}
+use Rattle.record.proofs.WithValid.{with-ints, with-timers, with-pins, with-ports-and-mode, with-mark}
 use Rattle.step_look.specs.declared.Looked.{Looked}
 use Rattle.step_look.specs.Look.{withTime, showing, edgesTimed, edgesCounted, seen, isRunning, releasesByLevel, waited, looked}
 use Rattle.step_look.proofs.Ranges.{is-clear, edges-in-range}

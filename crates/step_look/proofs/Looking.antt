@@ -14,7 +14,7 @@ use Rattle.edges.specs.Edges.{fell}
 use Rattle.edges.proofs.Still.{no-fall, no-rise}
 use Rattle.clock.proofs.Quiet.{no-event}
 use Rattle.ports.specs.declared.Mode.{Mode}
-use Rattle.machine.specs.declared.Core.{Core}
+use Rattle.record.specs.declared.Core.{Core}
 use Rattle.step_look.specs.Look.{timeOf, edgesCounted, wakingCycles}
 
 -- P8 as it was and a fourth digit of 0 raise nothing

@@ -12,8 +12,8 @@ use Rattle.edges.specs.Edges.{fell}
 use Rattle.frame.specs.declared.Pins.{Pins}
 use Rattle.clock.specs.Clock.{latched, InRange}
 use Rattle.clock.proofs.Ranges.{Latches, latched-ok}
-use Rattle.machine.specs.Valid.{ValidInterrupts, ValidTimers}
-use Rattle.machine.specs.declared.Core.{Core}
+use Rattle.record.specs.Valid.{ValidInterrupts, ValidTimers}
+use Rattle.record.specs.declared.Core.{Core}
 use Rattle.step_look.specs.Look.{raisesIL0, edgesLatched, edgesTimed}
 
 -- a latch that is clear, as the record's ranges say it and as the clock's do

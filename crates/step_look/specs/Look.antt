@@ -14,8 +14,8 @@ use Rattle.frame.specs.declared.Pins.{Pins}
 use Rattle.clock.specs.Clock.{latched, eventCount}
 use Rattle.clock.specs.declared.Time.{Time}
 use Rattle.ports.specs.declared.Mode.{Mode}
-use Rattle.machine.specs.With.{coreWithInts, coreWithTimers, coreWithPins, coreWithMode, coreWithMark, interruptsOf}
-use Rattle.machine.specs.declared.Core.{Core}
+use Rattle.record.specs.With.{coreWithInts, coreWithTimers, coreWithPins, coreWithMode, coreWithMark, interruptsOf}
+use Rattle.record.specs.declared.Core.{Core}
 use Rattle.step_look.specs.declared.Looked.{Looked}
 
 -- the time base, the timers and the latches of a record, and a record with others

@@ -9,14 +9,14 @@ use edges::fell;
 use edges::rose;
 use edges::wakes;
 use frame::Pins;
-use machine::Core;
-use machine::with_latches;
 use ports::Mode;
+use record::Core;
+use record::with_latches;
 ghost use mathlib.Core.Path.{_≡_};
 ghost use mathlib.Core.Bool.{true};
 ghost use Prim.Native.Nat.{_<_};
 ghost use Rattle.ports.specs.declared.Mode.{Mode};
-ghost use Rattle.machine.specs.Valid.{ValidInterrupts, ValidTimers};
+ghost use Rattle.record.specs.Valid.{ValidInterrupts, ValidTimers};
 ghost use Rattle.step_look.specs.Look.{edgesCounted, isRunning, raisesIL0, edgesLatched, edgesTimed, showing, seen, wakingCycles, waited, looked};
 
 // The scalars then, and the cycles of a step that only looks.

@@ -18,13 +18,13 @@ use Rattle.device.specs.declared.Options.{Options}
 use Rattle.frame.specs.Frame.{PinsInRange, frameOf}
 use Rattle.frame.specs.declared.Frame.{Frame}
 use Rattle.frame.specs.declared.Pins.{Pins}
-use Rattle.due.specs.Due.{dueSource, latchOf}
+use Rattle.due.specs.Due.{dueSource, latchOfSource}
 use Rattle.due.proofs.Sources.{number-tells}
-use Rattle.machine.specs.Stack.{canPush, CanPush, accepted}
-use Rattle.machine.specs.Valid.{ValidInterrupts, Valid}
-use Rattle.machine.specs.declared.Machine.{Machine}
-use Rattle.machine.proofs.Range.{can-push}
-use Rattle.machine_valid.proofs.Validity.{valid?}
+use Rattle.record.specs.Stack.{canPush, CanPush, accepted}
+use Rattle.record.specs.Valid.{ValidInterrupts, Valid}
+use Rattle.record.specs.declared.Machine.{Machine}
+use Rattle.record.proofs.Range.{can-push}
+use Rattle.record.proofs.valid.Validity.{valid?}
 use Rattle.row.specs.Rows.{Done, spent, stops}
 use Rattle.step_look.specs.Look.{isRunning, looked}
 use Rattle.step_look.proofs.LookValid.{waited-marked}
@@ -127,13 +127,13 @@ module _ (m : Machine) (v : ValidInterrupts (m .core .ints)) where
           on-taken = λ e n p. takes-it e n p;
         })
 
-  stored : latchOf (m .core .ints .due) ≡ highestBit (dueSet il mask)
+  stored : latchOfSource (m .core .ints .due) ≡ highestBit (dueSet il mask)
   stored =
-      ap latchOf (v .due) ∙ (number-tells il mask ∙ sym (first-is-highest il mask (v .il) (v .mask)))
+      ap latchOfSource (v .due) ∙ (number-tells il mask ∙ sym (first-is-highest il mask (v .il) (v .mask)))
 
-  stored-refused : (due : ℕ) → whySeen (m .core) ≡ Reason.Level due → latchOf (m .core .ints .due) ≡ highestBit due
+  stored-refused : (due : ℕ) → whySeen (m .core) ≡ Reason.Level due → latchOfSource (m .core .ints .due) ≡ highestBit due
   stored-refused due =
-      by-reason (m .core) (λ r. r ≡ Reason.Level due → latchOf (m .core .ints .due) ≡ highestBit due)
+      by-reason (m .core) (λ r. r ≡ Reason.Level due → latchOfSource (m .core .ints .due) ≡ highestBit due)
       (record {
         on-disabled = λ _. apart refl;
         on-nothing = λ _. apart refl;
@@ -226,14 +226,14 @@ module _ (o : Options) (m : Machine) (pins : Pins) (valid : Valid (o .device) m)
         by-words = by-words rom;
       }
 
-  refused-first : (due : ℕ) → whyOf o (m .core) pins ≡ Reason.Level due → latchOf (after .core .ints .due) ≡ highestBit due
+  refused-first : (due : ℕ) → whyOf o (m .core) pins ≡ Reason.Level due → latchOfSource (after .core .ints .due) ≡ highestBit due
   refused-first due q =
       let r = running-by (isRunning (m .core .mode)) refl (λ w. apart refl (sym w ∙ q)) in
       stored-refused after ints due (sym (why-runs r) ∙ q)
 
-  accepted-first : (t : Taken) → whyOf o (m .core) pins ≡ Reason.Accepted t → latchOf (after .core .ints .due) ≡ t .source
+  accepted-first : (t : Taken) → whyOf o (m .core) pins ≡ Reason.Accepted t → latchOfSource (after .core .ints .due) ≡ t .source
   accepted-first t q =
-      ap latchOf (ints .due) ∙ (number-tells (after .core .ints .il) (after .core .ints .mask) ∙ only t q .1 .first)
+      ap latchOfSource (ints .due) ∙ (number-tells (after .core .ints .il) (after .core .ints .mask) ∙ only t q .1 .first)
 
 pub answer-tells-step : AnswerTellsStep
 answer-tells-step o m pins valid range =

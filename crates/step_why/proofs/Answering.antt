@@ -12,9 +12,9 @@ use Rattle.device.specs.declared.Options.{Options}
 use Rattle.frame.specs.Frame.{frameOf}
 use Rattle.frame.specs.declared.Pins.{Pins}
 use Rattle.frame.specs.declared.Frame.{Frame}
-use Rattle.machine.specs.Valid.{Valid}
-use Rattle.machine.specs.declared.Machine.{Machine}
-use Rattle.machine_valid.proofs.Validity.{valid?}
+use Rattle.record.specs.Valid.{Valid}
+use Rattle.record.specs.declared.Machine.{Machine}
+use Rattle.record.proofs.valid.Validity.{valid?}
 use Rattle.step.proofs.Answering.{not-both, same-pins}
 use Rattle.step_why.specs.declared.Reason.{Reason}
 use Rattle.step_why.specs.declared.Answer.{Answer}

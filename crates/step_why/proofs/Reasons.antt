@@ -6,9 +6,9 @@ use lib.Dec.{eqb}
 use borrow.Author.Tests.{eqb-true, eqb-false, eq-eqb, ne-eqb}
 use Rattle.bits.specs.Bits.{withoutBit}
 use Rattle.due.specs.Due.{dueSource}
-use Rattle.machine.specs.Stack.{canPush}
-use Rattle.machine.specs.Valid.{ValidInterrupts, ValidCore}
-use Rattle.machine.specs.declared.Core.{Core}
+use Rattle.record.specs.Stack.{canPush}
+use Rattle.record.specs.Valid.{ValidInterrupts, ValidCore}
+use Rattle.record.specs.declared.Core.{Core}
 use Rattle.device.specs.declared.Device.{Device}
 use Rattle.device.specs.declared.Options.{Options}
 use Rattle.frame.specs.Frame.{PinsInRange}

@@ -13,10 +13,10 @@ use Rattle.device.specs.declared.Options.{Options}
 use Rattle.frame.specs.Frame.{PinsInRange, frameOf}
 use Rattle.frame.specs.declared.Frame.{Frame}
 use Rattle.frame.specs.declared.Pins.{Pins}
-use Rattle.due.specs.Due.{dueSource, latchOf}
-use Rattle.machine.specs.Stack.{canPush, CanPush, accepted}
-use Rattle.machine.specs.Valid.{Valid}
-use Rattle.machine.specs.declared.Machine.{Machine}
+use Rattle.due.specs.Due.{dueSource, latchOfSource}
+use Rattle.record.specs.Stack.{canPush, CanPush, accepted}
+use Rattle.record.specs.Valid.{Valid}
+use Rattle.record.specs.declared.Machine.{Machine}
 use Rattle.row.specs.Rows.{Done, spent, stops}
 use Rattle.step_look.specs.Look.{isRunning}
 use Rattle.step_act.specs.Act.{sourceOf, runOne, afterTime}
@@ -79,9 +79,9 @@ module _ (o : Options) (m : Machine) (pins : Pins) where
 
   -- "Store it in the record: the source that would be accepted were EI set" (Q-11): after the first call it is the first of the due ones, which stand in the order of priority from the highest latch down, and so it is of those that the answer names
   pub record StoredIsFirst : Type 0 where
-    pub of-all : latchOf (sighted .core .ints .due) ≡ highestBit (dueSet (sighted .core .ints .il) (sighted .core .ints .mask))
-    pub of-refused : (due : ℕ) → whyOf o (m .core) pins ≡ Reason.Level due → latchOf (sighted .core .ints .due) ≡ highestBit due
-    pub of-accepted : (t : Taken) → whyOf o (m .core) pins ≡ Reason.Accepted t → latchOf (sighted .core .ints .due) ≡ t .source
+    pub of-all : latchOfSource (sighted .core .ints .due) ≡ highestBit (dueSet (sighted .core .ints .il) (sighted .core .ints .mask))
+    pub of-refused : (due : ℕ) → whyOf o (m .core) pins ≡ Reason.Level due → latchOfSource (sighted .core .ints .due) ≡ highestBit due
+    pub of-accepted : (t : Taken) → whyOf o (m .core) pins ≡ Reason.Accepted t → latchOfSource (sighted .core .ints .due) ≡ t .source
 
 -- of any valid record and frame, on either device
 pub record WhyTells (o : Options) (m : Machine) (pins : Pins) : Type 0 where

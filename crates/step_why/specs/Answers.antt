@@ -9,8 +9,8 @@ use Rattle.device.specs.declared.Options.{Options}
 use Rattle.frame.specs.Frame.{frameOf}
 use Rattle.frame.specs.declared.Pins.{Pins}
 use Rattle.frame.specs.declared.Frame.{Frame}
-use Rattle.machine.specs.Valid.{Valid}
-use Rattle.machine.specs.declared.Machine.{Machine}
+use Rattle.record.specs.Valid.{Valid}
+use Rattle.record.specs.declared.Machine.{Machine}
 use Rattle.step_why.specs.declared.Reason.{Reason}
 use Rattle.step_why.specs.declared.Answer.{Answer}
 use Rattle.step_why.specs.Why.{whyOf}

@@ -8,8 +8,8 @@ use Rattle.bits.specs.Bits.{withoutBit, bitOf}
 use Rattle.device.specs.declared.Options.{Options}
 use Rattle.frame.specs.declared.Pins.{Pins}
 use Rattle.due.specs.Due.{int0Due, trgaDue, trgbDue, tbiDue, int1Due, dueSource}
-use Rattle.machine.specs.Stack.{canPush}
-use Rattle.machine.specs.declared.Core.{Core}
+use Rattle.record.specs.Stack.{canPush}
+use Rattle.record.specs.declared.Core.{Core}
 use Rattle.step_look.specs.Look.{isRunning, seen}
 use Rattle.step_why.specs.declared.Reason.{Reason}
 

@@ -6,8 +6,8 @@ use native.Mathlib.Omega.{arith}
 use Rattle.laws.specs.Writing.{Wrote}
 use Rattle.laws.proofs.Writing.{wrote-then}
 use Rattle.numbers.specs.ComesBack.{valueAt}
-use Rattle.text_digits.specs.Digits.{placesOf, decimal, blanks}
-use Rattle.text_digits.proofs.Numbers.{digits-length, places-up-to}
+use Rattle.text.specs.Digits.{placesOf, decimal, blanks}
+use Rattle.text.proofs.digits.Numbers.{digits-length, places-up-to}
 use Rattle.bound.specs.Answer.{paperOf}
 use Rattle.bound.specs.declared.Bounded.{Bounded}
 use Rattle.text_bounder.specs.Report.{rightAligned}

@@ -5,14 +5,12 @@ use lib.ListN.{length}
 use Rattle.numbers.specs.ComesBack.{image-of-another-size, record-outside-the-ranges, address-over-8191, excluded-instruction-reachable, repetition-reachable, path-buffer-too-short, recursion-reachable, bound-over-65535}
 use Rattle.sheet.specs.Reading.{readAt, cyclesOf}
 use Rattle.sheet.specs.declared.Read.{Read}
-use Rattle.text_digits.specs.Digits.{characters, hex, inBase, decimal, blanks}
+use Rattle.text.specs.Digits.{characters, hex, decimal, blanks}
+use Rattle.text.specs.Refusal.{refusedText}
 use Rattle.text_lister.specs.Listing.{columnsOf}
 use Rattle.bound.specs.declared.Bounded.{Bounded}
 
--- a refusal by its number, in two digits, and what comes with it
-abbrev pub refusedText : ℕ → List ℕ
-refusedText n = characters "refused " ++ inBase 10 2 n
-
+-- what comes with a refusal
 abbrev pub refusedAt : ℕ → ℕ → List ℕ
 refusedAt n address = refusedText n ++ (characters " " ++ hex 4 address)
 

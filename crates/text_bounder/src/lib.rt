@@ -1,13 +1,22 @@
 // What the bounder says, as characters in a buffer: each function answers the place after what it wrote.
 use bound::Bounded;
+use numbers::ADDRESS_OVER_8191;
+use numbers::BOUND_OVER_65535;
+use numbers::EXCLUDED_INSTRUCTION_REACHABLE;
+use numbers::IMAGE_OF_ANOTHER_SIZE;
+use numbers::PATH_BUFFER_TOO_SHORT;
+use numbers::RECORD_OUTSIDE_THE_RANGES;
+use numbers::RECURSION_REACHABLE;
+use numbers::REPETITION_REACHABLE;
 use reader::read_at;
 use sheet::Read;
-use text_digits::blanks;
-use text_digits::decimal;
-use text_digits::number;
-use text_digits::places;
-use text_digits::put;
-use text_digits::put_text;
+use text::digits::blanks;
+use text::digits::decimal;
+use text::digits::number;
+use text::digits::places;
+use text::digits::put;
+use text::digits::put_text;
+use text::refusal::refused;
 use text_lister::line::byte_at;
 use text_lister::line::columns;
 ghost use mathlib.Core.Path.{_≡_};
@@ -15,23 +24,14 @@ ghost use Prim.Native.Nat.{_+_, _*_, _%_, _<_, _≤_};
 ghost use lib.ListN.{length};
 ghost use Rattle.numbers.specs.Sizes.{addresses};
 ghost use Rattle.numbers.specs.ComesBack.{valueAt};
-ghost use Rattle.device.specs.Device.{romOf};
+ghost use Rattle.device.specs.Device.{romOf, windowEnd};
 ghost use Rattle.laws.specs.Writing.{Wrote};
 ghost use Rattle.routines.specs.Calling as calling;
 ghost use Rattle.bound.specs.Answer.{paperOf};
-ghost use Rattle.text_digits.specs.Digits.{decimal as decimalOf};
-ghost use Rattle.text_bounder.specs.Report.{refusedText, refusedAt, refusedBytes, cyclesText, depthText, summaryOf, pathLineOf, cyclesAt};
+ghost use Rattle.text.specs.Digits.{decimal as decimalOf};
+ghost use Rattle.text_bounder.specs.Report.{refusedAt, refusedBytes, cyclesText, depthText, summaryOf, pathLineOf, cyclesAt};
 
-fn refused(out: &mut [u8], from: usize, n: u32) -> usize
-    requires { ⌜ from + 10 ≤ length (now out) ⌝ }
-    ensures { λ r. ⌜ Wrote (now (out .entry)) (now (out .exit)) from r (refusedText n) ⌝ }
-    ensures { λ r. ⌜ r ≡ from + 10 ⌝ }
-{
-    let end = put_text(out, from, b"refused ");
-    number(out, end, 10, 2, n)
-}
-
-fn refused_at(out: &mut [u8], from: usize, n: u32, address: u32) -> usize
+fn refused_at(out: &mut [u8], from: usize, n: u8, address: u32) -> usize
     requires { ⌜ from + 15 ≤ length (now out) ⌝ }
     ensures { λ r. ⌜ Wrote (now (out .entry)) (now (out .exit)) from r (refusedAt n address) ⌝ }
     ensures { λ r. ⌜ r ≤ from + 15 ⌝ }
@@ -53,7 +53,7 @@ fn up_to_six(out: &mut [u8], from: usize, v: u32) -> usize
     number(out, from, 10, 6, v)
 }
 
-fn refused_bytes(out: &mut [u8], from: usize, n: u32, bytes: u32) -> usize
+fn refused_bytes(out: &mut [u8], from: usize, n: u8, bytes: u32) -> usize
     requires { ⌜ (bytes < 131072) × (from + 17 ≤ length (now out)) ⌝ }
     ensures { λ r. ⌜ Wrote (now (out .entry)) (now (out .exit)) from r (refusedBytes n bytes) ⌝ }
     ensures { λ r. ⌜ r ≤ from + 17 ⌝ }
@@ -89,21 +89,26 @@ pub fn summary(out: &mut [u8], from: usize, answer: Bounded) -> usize
     ensures { λ r. ⌜ r ≤ from + 17 ⌝ }
 {
     match answer {
-        Bounded::ImageSize => refused(out, from, 1),
-        Bounded::P3Range => refused(out, from, 2),
-        Bounded::AddressRange => refused(out, from, 20),
-        Bounded::Recursion(entry) => refused_at(out, from, 24, entry as u32),
-        Bounded::Excluded(address) => refused_at(out, from, 21, address as u32),
-        Bounded::Repeats(address) => refused_at(out, from, 22, address as u32),
-        Bounded::TooLarge => refused(out, from, 25),
-        Bounded::Short(bytes) => refused_bytes(out, from, 23, bytes as u32),
+        Bounded::ImageSize => refused(out, from, IMAGE_OF_ANOTHER_SIZE),
+        Bounded::P3Range => refused(out, from, RECORD_OUTSIDE_THE_RANGES),
+        Bounded::AddressRange => refused(out, from, ADDRESS_OVER_8191),
+        Bounded::Recursion(entry) => refused_at(out, from, RECURSION_REACHABLE, entry as u32),
+        Bounded::Excluded(address) => refused_at(
+            out,
+            from,
+            EXCLUDED_INSTRUCTION_REACHABLE,
+            address as u32,
+        ),
+        Bounded::Repeats(address) => refused_at(out, from, REPETITION_REACHABLE, address as u32),
+        Bounded::TooLarge => refused(out, from, BOUND_OVER_65535),
+        Bounded::Short(bytes) => refused_bytes(out, from, PATH_BUFFER_TOO_SHORT, bytes as u32),
         Bounded::Bounds(greatest) => most_cycles(out, from, greatest.cycles as u32),
     }
 }
 
 // A line of a path, with its end: at most 43 characters. What is counted along N's path is its cycles, along depth's the calls that are open.
 pub fn path_line(out: &mut [u8], from: usize, image: &[u8], p3: u8, at: u16, counted: u32) -> usize
-    requires { ⌜ (8192 + 4096 * (p3 % 4) ≤ length (now image)) × (at < addresses) × (counted < 100000) × (from + 43 ≤ length (now out)) ⌝ }
+    requires { ⌜ (windowEnd p3 ≤ length (now image)) × (at < addresses) × (counted < 100000) × (from + 43 ≤ length (now out)) ⌝ }
     ensures { λ r. ⌜ Wrote (now (out .entry)) (now (out .exit)) from r (pathLineOf (romOf (now (image .entry)) p3) at counted) ⌝ }
     ensures { λ r. ⌜ r ≤ from + 43 ⌝ }
 {
@@ -117,7 +122,7 @@ pub fn path_line(out: &mut [u8], from: usize, image: &[u8], p3: u8, at: u16, cou
 
 // The cycles of the row at an address, 0 where there is none.
 pub fn cycles_at(image: &[u8], p3: u8, at: u16) -> u32
-    requires { ⌜ (8192 + 4096 * (p3 % 4) ≤ length (now image)) × (at < addresses) ⌝ }
+    requires { ⌜ (windowEnd p3 ≤ length (now image)) × (at < addresses) ⌝ }
     ensures { λ r. ⌜ (r ≡ cyclesAt (romOf (now (image .entry)) p3) at) × (r ≤ 3) ⌝ }
 {
     let Read::Row(_) = read_at(image, p3, at) else {

@@ -7,8 +7,9 @@ use Rattle.sheet.specs.Reading.{readBytes, rowNumber, rowWith, beginSome}
 use Rattle.sheet.specs.Table.{lineAt}
 use Rattle.sheet.specs.declared.Read.{Read}
 use Rattle.sheet.specs.declared.Read.the-variants.{Row, Unassigned, PastEnd}
-use Rattle.text_digits.specs.Digits.{characters, digit, inBase, placesOf}
-use Rattle.text_notation.specs.Notation.{goesTo, sign, rowText}
+use Rattle.text.specs.Digits.{characters, digit, inBase, placesOf}
+use Rattle.sheet.specs.Flow.{goesTo}
+use Rattle.notation.specs.Notation.{sign, rowText}
 use Rattle.text_lister.specs.Listing.{lineOf}
 
 abbrev codeText : ℕ → Read → List ℕ

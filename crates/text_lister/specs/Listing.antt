@@ -10,8 +10,8 @@ use Rattle.sheet.specs.declared.Insn.{Insn}
 use Rattle.sheet.specs.declared.Read.{Read}
 use Rattle.sheet.specs.declared.Read.the-variants.{Row, Unassigned, PastEnd}
 use Rattle.reader.specs.Answer.{stopOf}
-use Rattle.text_digits.specs.Digits.{characters, joined, inBase, hex, blanks, padded}
-use Rattle.text_notation.specs.Notation.{rowText}
+use Rattle.text.specs.Digits.{characters, joined, inBase, hex, blanks, padded}
+use Rattle.notation.specs.Notation.{rowText}
 
 -- "the row's bytes in two digits each with one blank between"
 abbrev pub spaced : List ℕ → List ℕ

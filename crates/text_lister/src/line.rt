@@ -1,23 +1,23 @@
 // A line of the listing, and the listing, of an image seen through the window of P3.
 use device::in_image;
+use notation::row;
 use reader::read_at;
 use reader::stop_of;
 use sheet::Insn;
 use sheet::Read;
-use text_digits::blanks;
-use text_digits::number;
-use text_digits::put;
-use text_digits::put_text;
-use text_notation::row;
+use text::digits::blanks;
+use text::digits::number;
+use text::digits::put;
+use text::digits::put_text;
 ghost use mathlib.Core.Path.{_≡_};
 ghost use Prim.Native.Nat.{_+_, _*_, _%_, _<_, _≤_};
 ghost use lib.ListN.{length, take};
 ghost use Rattle.numbers.specs.Sizes.{addresses};
-ghost use Rattle.device.specs.Device.{romOf};
+ghost use Rattle.device.specs.Device.{romOf, windowEnd};
 ghost use Rattle.laws.specs.Writing.{Wrote};
 ghost use Rattle.sheet.specs.Reading.{readAt, fetched};
-ghost use Rattle.text_digits.specs.Digits.{hex, padded};
-ghost use Rattle.text_notation.specs.Notation.{rowText};
+ghost use Rattle.text.specs.Digits.{hex, padded};
+ghost use Rattle.notation.specs.Notation.{rowText};
 ghost use Rattle.text_lister.specs.Listing.{spaced, rowColumns, refusedColumns, columnsOf, lineOf, sweepNext, sweptLines};
 
 // "over 1FFF"
@@ -25,7 +25,7 @@ const LAST: u16 = 8191;
 
 // The byte of an address.
 pub fn byte_at(image: &[u8], p3: u8, at: u16) -> u8
-    requires { ⌜ (8192 + 4096 * (p3 % 4) ≤ length (now image)) × (at < addresses) ⌝ }
+    requires { ⌜ (windowEnd p3 ≤ length (now image)) × (at < addresses) ⌝ }
     ensures { λ r. ⌜ r ≡ romOf (now (image .entry)) p3 at ⌝ }
 {
     let i = in_image(p3, at);
@@ -41,7 +41,7 @@ fn byte(out: &mut [u8], from: usize, b: u8) -> usize
 }
 
 fn bytes(out: &mut [u8], from: usize, image: &[u8], p3: u8, at: u16, n: u8) -> usize
-    requires { ⌜ (8192 + 4096 * (p3 % 4) ≤ length (now image)) × (at + n ≤ addresses) × (from + 8 ≤ length (now out)) ⌝ }
+    requires { ⌜ (windowEnd p3 ≤ length (now image)) × (at + n ≤ addresses) × (from + 8 ≤ length (now out)) ⌝ }
     ensures { λ r. ⌜ Wrote (now (out .entry)) (now (out .exit)) from r (spaced (take n (fetched (romOf (now (image .entry)) p3) at))) ⌝ }
     ensures { λ r. ⌜ r ≤ from + 8 ⌝ }
 {
@@ -62,7 +62,7 @@ fn bytes(out: &mut [u8], from: usize, image: &[u8], p3: u8, at: u16, n: u8) -> u
 }
 
 fn bytes_column(out: &mut [u8], from: usize, image: &[u8], p3: u8, at: u16, n: u8) -> usize
-    requires { ⌜ (8192 + 4096 * (p3 % 4) ≤ length (now image)) × (at + n ≤ addresses) × (from + 8 ≤ length (now out)) ⌝ }
+    requires { ⌜ (windowEnd p3 ≤ length (now image)) × (at + n ≤ addresses) × (from + 8 ≤ length (now out)) ⌝ }
     ensures { λ r. ⌜ Wrote (now (out .entry)) (now (out .exit)) from r (padded 8 (spaced (take n (fetched (romOf (now (image .entry)) p3) at)))) ⌝ }
     ensures { λ r. ⌜ r ≡ from + 8 ⌝ }
 {
@@ -89,7 +89,7 @@ fn shown(
     n: u8,
     t: u8,
 ) -> usize
-    requires { ⌜ (8192 + 4096 * (p3 % 4) ≤ length (now image)) × (at + n ≤ addresses) × (from + 34 ≤ length (now out)) ⌝ }
+    requires { ⌜ (windowEnd p3 ≤ length (now image)) × (at + n ≤ addresses) × (from + 34 ≤ length (now out)) ⌝ }
     ensures { λ r. ⌜ Wrote (now (out .entry)) (now (out .exit)) from r (rowColumns (romOf (now (image .entry)) p3) at insn n t) ⌝ }
     ensures { λ r. ⌜ r ≤ from + 30 ⌝ }
 {
@@ -103,7 +103,7 @@ fn shown(
 }
 
 fn refused(out: &mut [u8], from: usize, image: &[u8], p3: u8, at: u16, refusal: u8) -> usize
-    requires { ⌜ (8192 + 4096 * (p3 % 4) ≤ length (now image)) × (at < addresses) × (from + 34 ≤ length (now out)) ⌝ }
+    requires { ⌜ (windowEnd p3 ≤ length (now image)) × (at < addresses) × (from + 34 ≤ length (now out)) ⌝ }
     ensures { λ r. ⌜ Wrote (now (out .entry)) (now (out .exit)) from r (refusedColumns (romOf (now (image .entry)) p3 at) refusal) ⌝ }
     ensures { λ r. ⌜ r ≤ from + 30 ⌝ }
 {
@@ -115,7 +115,7 @@ fn refused(out: &mut [u8], from: usize, image: &[u8], p3: u8, at: u16, refusal: 
 
 // A line without its end, for a program that has more to say on it: at most 36 characters, with room for 40.
 pub fn columns(out: &mut [u8], from: usize, image: &[u8], p3: u8, at: u16) -> usize
-    requires { ⌜ (8192 + 4096 * (p3 % 4) ≤ length (now image)) × (at < addresses) × (from + 40 ≤ length (now out)) ⌝ }
+    requires { ⌜ (windowEnd p3 ≤ length (now image)) × (at < addresses) × (from + 40 ≤ length (now out)) ⌝ }
     ensures { λ r. ⌜ Wrote (now (out .entry)) (now (out .exit)) from r (columnsOf (romOf (now (image .entry)) p3) at) ⌝ }
     ensures { λ r. ⌜ r ≤ from + 36 ⌝ }
 {
@@ -131,7 +131,7 @@ pub fn columns(out: &mut [u8], from: usize, image: &[u8], p3: u8, at: u16) -> us
 
 // At most 37 characters.
 pub fn line(out: &mut [u8], from: usize, image: &[u8], p3: u8, at: u16) -> usize
-    requires { ⌜ (8192 + 4096 * (p3 % 4) ≤ length (now image)) × (at < addresses) × (from + 40 ≤ length (now out)) ⌝ }
+    requires { ⌜ (windowEnd p3 ≤ length (now image)) × (at < addresses) × (from + 40 ≤ length (now out)) ⌝ }
     ensures { λ r. ⌜ Wrote (now (out .entry)) (now (out .exit)) from r (lineOf (romOf (now (image .entry)) p3) at) ⌝ }
     ensures { λ r. ⌜ r ≤ from + 37 ⌝ }
 {
@@ -141,7 +141,7 @@ pub fn line(out: &mut [u8], from: usize, image: &[u8], p3: u8, at: u16) -> usize
 
 // Where the sweep goes on after the line at an address.
 pub fn after(image: &[u8], p3: u8, at: u16) -> u16
-    requires { ⌜ (8192 + 4096 * (p3 % 4) ≤ length (now image)) × (at < addresses) ⌝ }
+    requires { ⌜ (windowEnd p3 ≤ length (now image)) × (at < addresses) ⌝ }
     ensures { λ r. ⌜ r ≡ sweepNext at (readAt (romOf (now (image .entry)) p3) at) ⌝ }
 {
     let Read::Row(_) = read_at(image, p3, at) else {
@@ -153,7 +153,7 @@ pub fn after(image: &[u8], p3: u8, at: u16) -> u16
 
 // The lines from an address on, as many as asked or to the end of the image.
 pub fn listing(out: &mut [u8], image: &[u8], p3: u8, from: u16, count: u32) -> usize
-    requires { ⌜ (8192 + 4096 * (p3 % 4) ≤ length (now image)) × (37 * count + 3 ≤ length (now out)) ⌝ }
+    requires { ⌜ (windowEnd p3 ≤ length (now image)) × (37 * count + 3 ≤ length (now out)) ⌝ }
     ensures { λ r. ⌜ Wrote (now (out .entry)) (now (out .exit)) 0 r (sweptLines (romOf (now (image .entry)) p3) from count) ⌝ }
 {
     let mut end = 0;

@@ -3,8 +3,8 @@ use mathlib.Core.Path.{_≡_}
 use mathlib.Core.List.{_++_}
 use Prim.Native.Nat.{ℕ, _/_, _%_, _<_, _≤_}
 use native.Mathlib.Nat.{mod-mod}
-use Rattle.text_digits.specs.Digits.{digit, inBase, decimal}
-use Rattle.text_digits.proofs.Numbers.{places-one, places-more}
+use Rattle.text.specs.Digits.{digit, inBase, decimal}
+use Rattle.text.proofs.digits.Numbers.{places-one, places-more}
 
 pub one-digit : (v : ℕ) → v < 10 → inBase 10 1 v ≡ decimal v
 one-digit v h = rw (places-one v h)

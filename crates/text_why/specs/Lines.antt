@@ -5,11 +5,11 @@ use lib.Dec.{eqb}
 use Rattle.laws.specs.Choice.{pick}
 use Rattle.device.specs.declared.Device.{Device}
 use Rattle.ports.specs.declared.Mode.{Mode}
-use Rattle.machine.specs.declared.Core.{Core}
+use Rattle.record.specs.declared.Core.{Core}
 use Rattle.step_why.specs.declared.Reason.{Reason}
 use Rattle.step_why.specs.declared.Taken.{Taken}
-use Rattle.text_digits.specs.Digits.{characters, joined, hex, decimal}
-use Rattle.text_sources.specs.Names.{sourceName, namesOf}
+use Rattle.text.specs.Digits.{characters, joined, hex, decimal}
+use Rattle.notation.specs.Names.{sourceName, namesOf}
 
 -- "sleeping; holding": a running record does not wait
 abbrev pub waitingText : Mode → List ℕ

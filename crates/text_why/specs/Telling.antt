@@ -12,10 +12,10 @@ use Rattle.frame.specs.Frame.{frameOf}
 use Rattle.frame.specs.declared.Frame.{Frame}
 use Rattle.frame.specs.declared.Frame.the-variants.{Seen, NoFrame}
 use Rattle.frame.specs.declared.Pins.{Pins}
-use Rattle.machine.specs.Valid.{Valid}
-use Rattle.machine.specs.With.{assembled}
-use Rattle.machine.specs.declared.Core.{Core}
-use Rattle.machine.specs.declared.Machine.{Machine}
+use Rattle.record.specs.Valid.{Valid}
+use Rattle.record.specs.With.{assembled}
+use Rattle.record.specs.declared.Core.{Core}
+use Rattle.record.specs.declared.Machine.{Machine}
 use Rattle.row.specs.Rows.{Done}
 use Rattle.step.specs.Step.{stepOf}
 use Rattle.step_why.specs.Why.{whyOf}

@@ -2,7 +2,7 @@
 use Prim.Native.Nat.{ℕ, min}
 use mathlib.Core.List.{List}
 use Rattle.laws.specs.Choice.{pick}
-use Rattle.text_words.specs.Words.{isNumber, wordValue}
+use Rattle.text.specs.Words.{isNumber, wordValue}
 
 -- no script has so many lines: it stands for every number above it
 abbrev pub mostSteps : ℕ

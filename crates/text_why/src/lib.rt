@@ -4,23 +4,23 @@ use device::Options;
 use frame::Frame;
 use frame::Pins;
 use frame::frame_of;
-use hexadecimal::digit;
 use laws::either;
 use listing::Told;
-use machine::Core;
-use machine::Ram;
+use notation::sources::names_of;
+use notation::sources::source_name;
 use numbers::NO_FRAME;
 use ports::Mode;
+use record::Core;
+use record::Ram;
 use step::advance;
 use step_why::Reason;
 use step_why::Taken;
 use step_why::why_of;
-use text_digits::number;
-use text_digits::put;
-use text_digits::put_text;
-use text_runner::refused;
-use text_sources::names_of;
-use text_sources::source_name;
+use text::digits::number;
+use text::digits::put;
+use text::digits::put_text;
+use text::hexadecimal::digit;
+use text::refusal::refused_line;
 ghost use mathlib.Core.Path.{_≡_};
 ghost use mathlib.Core.List.{_++_};
 ghost use Prim.Native.Nat.{_+_, _≤_, min};
@@ -28,10 +28,10 @@ ghost use lib.ListN.{length};
 ghost use Rattle.laws.specs.Writing.{Wrote};
 ghost use Rattle.device.specs.Device.{imageSize, romOf};
 ghost use Rattle.frame.specs.Frame.{PinsInRange};
-ghost use Rattle.machine.specs.Valid.{ValidCore, Nibbles};
-ghost use Rattle.hexadecimal.specs.Hexadecimal.{digitOf};
-ghost use Rattle.text_digits.specs.Digits.{decimal, placesOf};
-ghost use Rattle.text_sources.specs.Names.{namesOf};
+ghost use Rattle.record.specs.Valid.{ValidCore, Nibbles};
+ghost use Rattle.text.specs.Hexadecimal.{digitOf};
+ghost use Rattle.text.specs.Digits.{decimal, placesOf};
+ghost use Rattle.notation.specs.Names.{namesOf};
 ghost use Rattle.text_why.specs.Lines.{waitingText, acceptedText, reasonText, openingText, whyLine};
 ghost use Rattle.text_why.specs.Telling.{lineWanted, toldOf, TellsWhy};
 ghost use Rattle.text_why.specs.Words.{mostSteps, stepWord};
@@ -165,7 +165,7 @@ pub fn tell(
     ensures { λ r. ⌜ TellsWhy d (toldOf d (romOf (now (image .entry))) only step (record { core = m; ram = now (ram .entry) }) (now (text .entry))) (now (out .entry)) (now (out .exit)) from (now (ram .exit)) r ⌝ }
 {
     let Frame::Seen(pins) = frame_of(d, text) else {
-        let end = refused(out, from, NO_FRAME);
+        let end = refused_line(out, from, NO_FRAME);
         return Told {
             core: m,
             ended: true,

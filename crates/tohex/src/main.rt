@@ -1,11 +1,11 @@
 // tohex IMAGE: the text of an image as Intel HEX.
-use file_part::fill;
 use hex_writer::TEXT_SIZE;
 use hex_writer::write_hex;
 use libc::STDERR_FILENO;
-use streams::ending_of;
-use streams::say;
-use streams::show;
+use program::part::fill;
+use program::streams::ending_of;
+use program::streams::say;
+use program::streams::show;
 
 fn usage() {
     io::write_all(STDERR_FILENO, b"usage: tohex IMAGE\n");

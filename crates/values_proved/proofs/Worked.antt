@@ -8,8 +8,8 @@ use Rattle.sheet.specs.Table.{lines, lineAt}
 use Rattle.sheet.specs.Reading.{rowNumber, rowWith}
 use Rattle.alu.specs.Making.{made}
 use Rattle.alu.specs.Flags.{flagAfter}
-use Rattle.machine.specs.Ram.{placeOf}
-use Rattle.machine.specs.Stack.{called}
+use Rattle.record.specs.Ram.{placeOf}
+use Rattle.record.specs.Stack.{called}
 use Rattle.row.specs.Steps.{putStep}
 use Rattle.row.specs.Rows.{workOf, callOf}
 use Rattle.step_act.specs.Act.{runOne}

@@ -10,8 +10,8 @@ use Rattle.laws.specs.Choice.{pick}
 use Rattle.bits.specs.Bits.{bitOf}
 use Rattle.device.specs.declared.Device.the-variants.{Em73862}
 use Rattle.device.specs.declared.Options.{Options}
-use Rattle.machine_start.specs.Start.{freshMachine}
-use Rattle.machine.specs.declared.Machine.{Machine}
+use Rattle.record.specs.Start.{freshMachine}
+use Rattle.record.specs.declared.Machine.{Machine}
 use Rattle.row.specs.Places.{withRegisters, withPointers, withRam}
 use Rattle.row.specs.Rows.{Done}
 use Rattle.step_act.specs.Act.{runOne}

@@ -5,7 +5,7 @@ use mathlib.Core.Path.{_≡_}
 use lib.ListN.{length, take}
 use Rattle.numbers.specs.Sizes.{addresses}
 use Rattle.numbers.specs.ComesBack.{answered, refused, past-end}
-use Rattle.device.specs.Device.{imageSize, romOf, Banked}
+use Rattle.device.specs.Device.{imageSize, romOf, Banked, OfBytes}
 use Rattle.device.specs.declared.Device.{Device}
 use Rattle.sheet.specs.Reading.{left, bytesOf}
 use Rattle.sheet.specs.declared.Insn.{Insn}
@@ -13,10 +13,6 @@ use Rattle.sheet.specs.declared.Read.the-variants.{Row}
 use Rattle.reader.specs.Answer.{readPaper, paperOfCode}
 use Rattle.writer.specs.Writing.{paperOf, Writes}
 use Rattle.writer.specs.declared.Written.{Written}
-
--- an image's bytes are bytes
-abbrev pub OfBytes : List ℕ → Type 0
-OfBytes image = (p3 at : ℕ) → romOf image p3 at < 256
 
 -- the bytes that stand in an image from an address on as P3 shows them, n of them; fewer where the addresses end before
 abbrev pub bytesAt : List ℕ → ℕ → ℕ → ℕ → List ℕ

@@ -3,7 +3,7 @@ use mathlib.Core.Path.{sym, _∙_}
 use Prim.Native.Nat.{_-_}
 use denote.Ref.{now}
 use lib.ListN.{length}
-use Rattle.hex_text.specs.Found.{RecordAt}
+use Rattle.hex_reader.specs.Found.{RecordAt}
 use Rattle.hex_reader.proofs.Midway.{Midway, start, over, stops, goes-on}
 use borrow.Author.Needs.{needs}
 use native.Mathlib.Omega.{arith}

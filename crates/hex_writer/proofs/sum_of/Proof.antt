@@ -3,7 +3,7 @@ use mathlib.Core.Path.{_≡_}
 use Prim.Native.Nat.{_+_, _-_, _%_, _<_, _≤_}
 use denote.Ref.{now}
 use lib.ListN.{length, drop}
-use Rattle.hex_line.specs.Record.{total}
+use Rattle.hex_reader.specs.Record.{total}
 use Rattle.hex_writer.proofs.Texts.{total-on, total-past}
 use native.Mathlib.Omega.{arith}
 use Rattle.hex_writer.proofs.sum_of.Statement.{statement}

@@ -1,7 +1,7 @@
 -- `lister::list_from` meets its contract.
 use borrow.Author.Needs.{needs}
 use mathlib.Core.Path.{sym, _∙_}
-use Rattle.text_words.proofs.Values.{number-up-to-8192}
+use Rattle.text.proofs.words.Values.{number-up-to-8192}
 use Rattle.lister.proofs.list_from.Statement.{statement}
 use Rattle.lister.proofs.list_from.Tie as tie
 

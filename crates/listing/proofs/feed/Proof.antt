@@ -5,7 +5,7 @@ use borrow.Author.Needs.{needs}
 use denote.Ref.{now}
 use lib.ListN.{length, length-drop}
 use Rattle.device.specs.Device.{romOf}
-use Rattle.machine.specs.With.{assembled}
+use Rattle.record.specs.With.{assembled}
 use Rattle.listing.proofs.Feeding.{Feeding, feeding-none, feeding-pauses, feeding-next, feeding-ends}
 use Rattle.listing.proofs.feed.Statement.{statement}
 use Rattle.listing.proofs.feed.Tie as tie

@@ -18,8 +18,8 @@ enum-known-pins c = search needs
 enum-told : tie.Need-enum-told
 enum-told c = search needs
 
-refused-requires : tie.Need-refused-requires
-refused-requires c κs = search needs
+refused-line-requires : tie.Need-refused-line-requires
+refused-line-requires c κs = search needs
 
 same-length : tie.Need-same-length
 same-length c = search needs
@@ -29,7 +29,7 @@ returns c =
     let pre = c .before .before .before .before .before .before .before .before .before .before .pre in
     let frame-of = c .before .before .before .before .before .before .frame-of in
     let enum-told = c .before .before .before .before .enum-told in
-    let refused = c .before .before .refused in
+    let refused = c .before .before .refused-line in
     bad-line _ _ _ _ _ (record { core = pre .1; ram = pre .2 }) (sym (frame-of .ensures) ∙ enum-told .given .1) (refused .ensures .0) (refused .ensures .1)
 
 advance-requires : tie.Need-advance-requires
@@ -53,7 +53,7 @@ tell-spec =
     frame-of-requires
     enum-known-pins
     enum-told
-    refused-requires
+    refused-line-requires
     same-length
     returns
     advance-requires

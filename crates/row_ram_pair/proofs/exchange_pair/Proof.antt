@@ -1,7 +1,7 @@
 -- `row_ram_pair::exchange_pair` meets its contract.
 use mathlib.Core.Path.{refl}
 use borrow.Author.Needs.{needs}
-use Rattle.machine.proofs.Places.{set-nibble}
+use Rattle.record.proofs.Places.{set-nibble}
 use Rattle.row_ram.proofs.Around.{stopped-there}
 use Rattle.row_ram_pair.specs.Groups.{exchanges}
 use Rattle.row_ram_pair.proofs.Rows.{absent-exchanged, absent-exchanged-beside}

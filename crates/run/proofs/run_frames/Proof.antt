@@ -5,7 +5,7 @@ use native.Mathlib.Omega.{arith}
 use lib.ListN.{length}
 use Rattle.device.specs.Device.{inImage, romOf}
 use Rattle.frame.specs.Frame.{framesOf}
-use Rattle.machine.specs.With.{assembled}
+use Rattle.record.specs.With.{assembled}
 use Rattle.run.specs.Run.{runOf}
 use Rattle.run.proofs.Going.{Going, few-steps, fewer-steps, in-a-word, nearer, starts, room, is-frame, shows, ended, goes-on, ends-early}
 use Rattle.run.proofs.run_frames.Statement.{statement}

@@ -5,8 +5,8 @@ use native.Mathlib.Omega.{arith}
 use borrow.Author.Needs.{needs}
 use denote.Ref.{now}
 use lib.ListN.{length}
-use Rattle.machine.specs.Valid.{ValidCore, Nibbles}
-use Rattle.file_part.proofs.Lengths.{goes-on}
+use Rattle.record.specs.Valid.{ValidCore, Nibbles}
+use Rattle.program.proofs.part.Lengths.{goes-on}
 use Rattle.runner.proofs.session.Statement.{statement}
 use Rattle.runner.proofs.session.Tie as tie
 

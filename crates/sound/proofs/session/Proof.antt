@@ -4,7 +4,7 @@ use lib.Seq.{length-take-le}
 use native.Mathlib.Omega.{arith}
 use borrow.Author.Needs.{needs}
 use lib.ListN.{length}
-use Rattle.sound_command.specs.Entry.{Fits}
+use Rattle.sound_text.specs.Entry.{Fits}
 use Rattle.sound.proofs.session.Statement.{statement}
 use Rattle.sound.proofs.session.Tie as tie
 

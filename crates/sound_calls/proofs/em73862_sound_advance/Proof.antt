@@ -1,7 +1,7 @@
 -- `sound_calls::em73862_sound_advance` meets its contract.
 use mathlib.Core.Path.{sym, _∙_}
 use borrow.Author.Needs.{needs}
-use Rattle.sound_advance.specs.Advance.{advancedBy}
+use Rattle.sound_generator.specs.Advance.{advancedBy}
 use Rattle.sound_calls.proofs.OneAnswer.{held, changed, not-held}
 use Rattle.sound_calls.proofs.em73862_sound_advance.Statement.{statement}
 use Rattle.sound_calls.proofs.em73862_sound_advance.Tie as tie

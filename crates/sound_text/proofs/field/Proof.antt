@@ -2,7 +2,7 @@
 use native.Mathlib.Omega.{arith}
 use borrow.Author.Needs.{needs}
 use Rattle.laws.proofs.Writing.{wrote-then}
-use Rattle.text_digits.proofs.Numbers.{places-up-to}
+use Rattle.text.proofs.digits.Numbers.{places-up-to}
 use Rattle.sound_text.proofs.field.Statement.{statement}
 use Rattle.sound_text.proofs.field.Tie as tie
 

@@ -16,15 +16,15 @@ returns : tie.Need-returns
 unfolding textOf
 returns c = rw (c .before .before .before .before .before .before .before .if1 .taken, eq-eqb (c .before .before .before .before .before .before .before .before .before .args .p .answer .number) 0 (c .before .before .before .before .if2 .taken)) (c .before .before .state-line .ensures)
 
-refused-requires : tie.Need-refused-requires
-refused-requires c κs = search needs
+refused-line-requires : tie.Need-refused-line-requires
+refused-line-requires c κs = search needs
 
 same-length-2 : tie.Need-same-length-2
 same-length-2 c = search needs
 
 returns-2 : tie.Need-returns-2
 unfolding textOf
-returns-2 c = rw (c .before .before .before .before .before .before .before .if1 .taken, ne-eqb (c .before .before .before .before .before .before .before .before .before .args .p .answer .number) 0 (c .before .before .before .before .if2 .left)) (c .before .before .refused .ensures .0, omega arith)
+returns-2 c = rw (c .before .before .before .before .before .before .before .if1 .taken, ne-eqb (c .before .before .before .before .before .before .before .before .before .args .p .answer .number) 0 (c .before .before .before .before .if2 .left)) (c .before .before .refused-line .ensures .0, omega arith)
 
 slice-aggregate-put-text : tie.Need-slice-aggregate-put-text
 slice-aggregate-put-text c = search needs
@@ -40,4 +40,4 @@ unfolding textOf
 returns-3 c = rw (c .before .before .before .before .before .if1 .left) (c .before .before .put-text .ensures, omega arith)
 
 pub tell-spec : {M : Type 1} → statement M
-tell-spec = tie.close (tie.spec state-line-requires same-length returns refused-requires same-length-2 returns-2 slice-aggregate-put-text put-text-requires same-length-3 returns-3)
+tell-spec = tie.close (tie.spec state-line-requires same-length returns refused-line-requires same-length-2 returns-2 slice-aggregate-put-text put-text-requires same-length-3 returns-3)

@@ -1,6 +1,6 @@
 -- `step_act::accept` meets its contract.
 use borrow.Author.Tests.{not-true, not-false}
-use Rattle.machine.proofs.Range.{can-push}
+use Rattle.record.proofs.Range.{can-push}
 use Rattle.step_act.proofs.Acting.{refuses, accepts}
 use borrow.Author.Needs.{needs}
 use Rattle.step_act.proofs.accept.Statement.{statement}

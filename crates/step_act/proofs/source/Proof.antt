@@ -1,7 +1,7 @@
 -- `step_act::source` meets its contract.
 use Prim.Native.Nat.{ℕ, _<_}
 use mathlib.Core.Path.{subst, sym, ap, _∙_}
-use Rattle.due.specs.Due.{latchOf}
+use Rattle.due.specs.Due.{latchOfSource}
 use Rattle.due.proofs.Sources.{number-lt, number-tells}
 use Rattle.step_act.specs.Act.{sourceOf}
 use Rattle.step_act.proofs.source.Statement.{statement}
@@ -17,7 +17,7 @@ unfolding sourceOf
 returns c =
     let ints = c .before .before .args .m .ints in
     rw (c .before .if1 .taken)
-    (c .latch-of .ensures ∙ (ap latchOf (c .before .before .pre .due) ∙ number-tells (ints .il) (ints .mask)))
+    (c .latch-of .ensures ∙ (ap latchOfSource (c .before .before .pre .due) ∙ number-tells (ints .il) (ints .mask)))
 
 returns-2 : tie.Need-returns-2
 unfolding sourceOf

@@ -1,7 +1,7 @@
 -- `text_bounder::path_line` meets its contract.
 use native.Mathlib.Omega.{arith}
 use Rattle.laws.proofs.Writing.{wrote-then}
-use Rattle.text_digits.proofs.Numbers.{places-up-to}
+use Rattle.text.proofs.digits.Numbers.{places-up-to}
 use Rattle.text_bounder.proofs.Values.{wrote-aligned}
 use borrow.Author.Needs.{needs}
 use Rattle.text_bounder.proofs.path_line.Statement.{statement}

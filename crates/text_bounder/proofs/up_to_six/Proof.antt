@@ -1,6 +1,6 @@
 -- `text_bounder::up_to_six` meets its contract.
 use native.Mathlib.Omega.{arith}
-use Rattle.text_digits.proofs.Numbers.{places-in}
+use Rattle.text.proofs.digits.Numbers.{places-in}
 use Rattle.text_bounder.proofs.Values.{few-places}
 use borrow.Author.Needs.{needs}
 use Rattle.text_bounder.proofs.up_to_six.Statement.{statement}

@@ -7,9 +7,9 @@ use Rattle.text_why.proofs.step_number.Reads as step-number
 use Rattle.text_why.proofs.step_number.Kinds as step-number-kinds
 use Rattle.text_why.proofs.+step_number.Lts-step_number as step-number-lts
 use Rattle.laws.proofs.Writing.{wrote-then}
-use Rattle.text_digits.proofs.Numbers.{places-one, places-more}
-use Rattle.text_digits.proofs.number.Reads as number-reads
-use Rattle.text_digits.proofs.number.Kinds as number-kinds
+use Rattle.text.proofs.digits.Numbers.{places-one, places-more}
+use Rattle.text.proofs.digits.number.Reads as number-reads
+use Rattle.text.proofs.digits.number.Kinds as number-kinds
 use Rattle.text_why.proofs.Steps.{one-digit, last-digit}
 use Rattle.text_why.proofs.+step_number.{statement}
 use Rattle.text_why.proofs.+step_number.Tie.{close}

@@ -1,7 +1,7 @@
 -- `text_why::opening` meets its contract.
 use native.Mathlib.Omega.{arith}
 use Rattle.laws.proofs.Writing.{wrote-then, wrote-last}
-use Rattle.text_digits.proofs.Numbers.{places-up-to}
+use Rattle.text.proofs.digits.Numbers.{places-up-to}
 use borrow.Author.Needs.{needs}
 use Rattle.text_why.proofs.opening.Statement.{statement}
 use Rattle.text_why.proofs.opening.Tie as tie

@@ -6,7 +6,7 @@ use borrow.Author.Tests.{lt-ltb, le-ltb}
 use lib.Dec.{lit<}
 use lib.ListN.{length}
 use denote.Ref.{now}
-use Rattle.text_words.proofs.Values.{Parsed, parsed-none, parsed-more, parsed-bad, parsed-digits, parsed-value}
+use Rattle.text.proofs.words.Values.{Parsed, parsed-none, parsed-more, parsed-bad, parsed-digits, parsed-value}
 use Rattle.text_why.specs.Words.{mostSteps, stepWord}
 use Rattle.text_why.proofs.step_word.Statement.{statement}
 use Rattle.text_why.proofs.step_word.Tie as tie

@@ -18,15 +18,15 @@ enum-known-pins c = search needs
 enum-told : tie.Need-enum-told
 enum-told c = search needs
 
-refused-requires : tie.Need-refused-requires
-refused-requires c κs = search needs
+refused-line-requires : tie.Need-refused-line-requires
+refused-line-requires c κs = search needs
 
 same-length : tie.Need-same-length
 same-length c = search needs
 
 returns : tie.Need-returns
 returns c =
-    bad-line _ _ _ _ _ _ _ (record { core = c .before .before .before .before .before .before .before .before .before .before .pre .1; ram = c .before .before .before .before .before .before .before .before .before .before .pre .2 }) (sym (c .before .before .before .before .before .before .frame-of .ensures) ∙ c .before .before .before .before .enum-told .given .1) (c .before .before .refused .ensures .0)
+    bad-line _ _ _ _ _ _ _ (record { core = c .before .before .before .before .before .before .before .before .before .before .pre .1; ram = c .before .before .before .before .before .before .before .before .before .before .pre .2 }) (sym (c .before .before .before .before .before .before .frame-of .ensures) ∙ c .before .before .before .before .enum-told .given .1) (c .before .before .refused-line .ensures .0)
 
 wanted-line-requires : tie.Need-wanted-line-requires
 wanted-line-requires c κs =
@@ -54,7 +54,7 @@ tell-spec =
     frame-of-requires
     enum-known-pins
     enum-told
-    refused-requires
+    refused-line-requires
     same-length
     returns
     wanted-line-requires

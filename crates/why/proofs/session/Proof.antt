@@ -4,8 +4,8 @@ use Prim.Native.Nat.{_≤_}
 use native.Mathlib.Omega.{arith}
 use borrow.Author.Needs.{needs}
 use lib.ListN.{length}
-use Rattle.machine.specs.Valid.{ValidCore, Nibbles}
-use Rattle.file_part.proofs.Lengths.{goes-on}
+use Rattle.record.specs.Valid.{ValidCore, Nibbles}
+use Rattle.program.proofs.part.Lengths.{goes-on}
 use Rattle.why.proofs.session.Statement.{statement}
 use Rattle.why.proofs.session.Tie as tie
 

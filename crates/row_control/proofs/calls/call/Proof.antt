@@ -2,7 +2,7 @@
 use mathlib.Core.List.{[], _∷_}
 use native.Mathlib.Omega.{arith}
 use Rattle.laws.proofs.Among.{first}
-use Rattle.machine.proofs.Range.{can-push}
+use Rattle.record.proofs.Range.{can-push}
 use Rattle.row_control.proofs.Calling.{lcall, scall, stop}
 use borrow.Author.Tests.{not-true, not-false}
 use borrow.Author.Needs.{needs}

@@ -2,8 +2,8 @@
 use mathlib.Core.Path.{ap, _∙_}
 use mathlib.Core.List.{[], _∷_}
 use Rattle.laws.proofs.Among.{first}
-use Rattle.machine.specs.Stack.{popped}
-use Rattle.machine.proofs.Range.{can-pop}
+use Rattle.record.specs.Stack.{popped}
+use Rattle.record.proofs.Range.{can-pop}
 use Rattle.row.proofs.Turns.{same-given}
 use Rattle.row_control.proofs.Returning.{ret, rti, stop}
 use borrow.Author.Tests.{not-true, not-false}

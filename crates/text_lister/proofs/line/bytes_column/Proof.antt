@@ -1,6 +1,6 @@
 -- `text_lister::line::bytes_column` meets its contract.
 use native.Mathlib.Omega.{arith}
-use Rattle.text_digits.proofs.Numbers.{wrote-padded}
+use Rattle.text.proofs.digits.Numbers.{wrote-padded}
 use borrow.Author.Needs.{needs}
 use Rattle.text_lister.proofs.line.bytes_column.Statement.{statement}
 use Rattle.text_lister.proofs.line.bytes_column.Tie as tie

@@ -1,0 +1,4 @@
+pub mod Operands
+pub mod Pane
+pub mod Numbers
+pub mod Write

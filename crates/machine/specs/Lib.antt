@@ -1,4 +1,0 @@
-pub mod With
-pub mod Valid
-pub mod Ram
-pub mod Stack

@@ -1,0 +1,5 @@
+pub mod image;
+pub mod part;
+pub mod script;
+pub mod streams;
+pub mod words;

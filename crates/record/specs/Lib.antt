@@ -1,0 +1,5 @@
+pub mod With
+pub mod Valid
+pub mod Ram
+pub mod Stack
+pub mod Start

@@ -1,2 +1,0 @@
-pub mod Advance
-pub mod Jump

@@ -1,0 +1,5 @@
+pub mod digits;
+pub mod hexadecimal;
+pub mod refusal;
+pub mod script;
+pub mod words;

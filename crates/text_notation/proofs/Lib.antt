@@ -1,3 +1,0 @@
-pub mod Mnemonics
-pub mod Widths
-pub mod Flows
