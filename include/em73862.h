@@ -3,7 +3,8 @@
  * Every call answers document 01's number: 0, a refusal or a stop; beside each stand those that it can give, in their order. A refusal changes no buffer, and sets the numbers
  * that come back to 0.
  * A slice is a pointer and a length; a slice of no bytes may have any pointer. No two arguments of a call overlap.
- * crates/calls/specs/Calls.antt says what each call answers, crates/why_calls/specs/Call.antt em73862_why's, and crates/machine_bytes/specs/Layout.antt the bytes of a record.
+ * crates/record_calls/specs/Calls.antt says what each call answers, Why.antt and Compare.antt beside it em73862_why's and em73862_compare's,
+ * crates/image_calls/specs/Write.antt em73862_write's, and crates/record_bytes/specs/Layout.antt the bytes of a record.
  *
  * A record is 416 bytes, each number in one byte unless said otherwise:
  *   0 ACC, 1 HR, 2 LR, 3 SP, 4 mask,
@@ -76,12 +77,12 @@ uint8_t em73862_act(const uint8_t *image, size_t image_length, uint8_t wake, uin
                     uint8_t *record, size_t record_length, uint32_t *cycles);
 /* Why a step with this frame takes an interrupt or does not; the record stays. holds is the first of EM73862_WAITING .. EM73862_ACCEPTED that holds.
  * sources has bit n where the source of ILn is in it: those latched with EM73862_ALL_MASKED, those due with EM73862_LEVEL_REFUSES, the due ones that must wait with
- * EM73862_ACCEPTED; source is the latch's number n of the one accepted. Both are 0 elsewhere. 1, 2, 3. It is in libwhy_calls.a. */
+ * EM73862_ACCEPTED; source is the latch's number n of the one accepted. Both are 0 elsewhere. 1, 2, 3. */
 uint8_t em73862_why(const uint8_t *image, size_t image_length, uint8_t wake, uint8_t sound,
                     const uint8_t *record, size_t record_length,
                     const uint8_t *frame, size_t frame_length,
                     uint8_t *holds, uint8_t *source, uint8_t *sources);
-/* One step a frame, up to a stop. 1, 2, 4, 3; stops 30 to 35. It is in librun_calls.a, the pane's calls are in libpane.a, all others are in libcalls.a. */
+/* One step a frame, up to a stop. 1, 2, 4, 3; stops 30 to 35. It is in libem73862_run.a, all others are in libem73862.a. */
 uint8_t em73862_run(const uint8_t *image, size_t image_length, uint8_t wake, uint8_t sound,
                     uint8_t *record, size_t record_length,
                     const uint8_t *frames, size_t frames_length, uint32_t *steps, uint32_t *cycles);
@@ -89,7 +90,7 @@ uint8_t em73862_run(const uint8_t *image, size_t image_length, uint8_t wake, uin
 uint8_t em73862_display(const uint8_t *record, size_t record_length, uint8_t *dots, size_t dots_length);
 /* Whether a listing is what the runner prints for an image and a script, from the fresh record, with all wake pins enabled and SOUND off.
  * line: 0 where it is; else the first line that differs, from 1, the header being line 1. field: the first of it that differs, PC A H L S CZS C X
- * being 1 to 8; 0 for a missing or an extra line, the header, or the spacing. Script and listing may have any length. In libcompare_calls.a. 1, 3. */
+ * being 1 to 8; 0 for a missing or an extra line, the header, or the spacing. Script and listing may have any length. 1, 3. */
 uint8_t em73862_compare(const uint8_t *image, size_t image_length, const uint8_t *script, size_t script_length,
                        const uint8_t *listing, size_t listing_length, uint64_t *line, uint8_t *field);
 /* The code of a row with its operands by their slots, as em73862_read gives them: length bytes of b0, b1, b2; the others are 0. 11. */

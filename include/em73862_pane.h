@@ -3,7 +3,7 @@
  * Every call answers document 01's number: 0 or a refusal; beside each stand those that it can give, in their order. A refusal changes no buffer, and sets
  * the numbers that come back to 0, but for the value that comes with 21, 22, 23 and 24.
  * A slice is a pointer and a length; a slice of no bytes may have any pointer. No two arguments of a call overlap.
- * crates/pane_device/specs/Pane.antt says what each call answers. They are in libpane.a.
+ * crates/image_calls/specs/Pane.antt says what each call answers. They are in libem73862.a.
  */
 #ifndef EM73862_PANE_H
 #define EM73862_PANE_H

@@ -4,7 +4,7 @@
  * Every call answers document 01's number: 0, a refusal or a stop; beside each stand those that it can give, in their order. They have the names of em73862.h and
  * em73862_pane.h. A refusal changes no buffer, and sets the numbers that come back to 0, but for the value that comes with 21, 22, 23 and 24.
  * A slice is a pointer and a length; a slice of no bytes may have any pointer. No two arguments of a call overlap.
- * The calls on a record are in libcalls_p982.a, but the run, which is in librun_calls_p982.a, and why; those on an image, p3 and an address are in libpane_p982.a.
+ * The calls are in libem73p982.a, but for the run, which is in libem73p982_run.a.
  *
  * An image is four banks of 4,096 bytes. Addresses 0000h to 0FFFh are bank 0; 1000h to 1FFFh are bank 1, 2 or 3 where bits 1..0 of P3 are 0, 1, 2.
  *
@@ -48,7 +48,7 @@ uint8_t em73p982_look(uint8_t wake, uint8_t sound, uint8_t *record, size_t recor
  * which leave the record. */
 uint8_t em73p982_act(const uint8_t *image, size_t image_length, uint8_t wake, uint8_t sound,
                      uint8_t *record, size_t record_length, uint32_t *cycles);
-/* Why a step with this frame takes an interrupt or does not, as em73862_why: the source of IL0 is SPI. 1, 2, 3. It is in libwhy_calls.a. */
+/* Why a step with this frame takes an interrupt or does not, as em73862_why: the source of IL0 is SPI. 1, 2, 3. */
 uint8_t em73p982_why(const uint8_t *image, size_t image_length, uint8_t wake, uint8_t sound,
                      const uint8_t *record, size_t record_length,
                      const uint8_t *frame, size_t frame_length,
@@ -61,7 +61,7 @@ uint8_t em73p982_run(const uint8_t *image, size_t image_length, uint8_t wake, ui
 uint8_t em73p982_display(const uint8_t *record, size_t record_length, uint8_t *dots, size_t dots_length);
 /* Whether a listing is what the runner prints for an image and a script, from the fresh record, with all wake pins enabled and SOUND off.
  * line: 0 where it is; else the first line that differs, from 1, the header being line 1. field: the first of it that differs, PC A H L S CZS C X
- * being 1 to 8; 0 for a missing or an extra line, the header, or the spacing. Script and listing may have any length. In libcompare_calls.a. 1, 3. */
+ * being 1 to 8; 0 for a missing or an extra line, the header, or the spacing. Script and listing may have any length. 1, 3. */
 uint8_t em73p982_compare(const uint8_t *image, size_t image_length, const uint8_t *script, size_t script_length,
                         const uint8_t *listing, size_t listing_length, uint64_t *line, uint8_t *field);
 
