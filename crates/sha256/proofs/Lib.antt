@@ -1,0 +1,4 @@
+pub mod Padding
+pub mod Steps
+pub mod Joined
+pub mod OneAnswer
