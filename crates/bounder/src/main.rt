@@ -1,5 +1,8 @@
 // bounder [--device NAME [--p3 N]] IMAGE [ADDRESS]: the most cycles from an address to RTI and the path that takes them, then the greatest depth of calls and the path that comes to it, or why there is no such bound. Without an address: the five interrupt entries, a line each. The image is seen through the window of P3.
 // The words are judged from the left: the device and P3, the image, whether P3 may stand, the address, and that there are no more.
+mod help;
+
+use crate::help::is_asked;
 use bound::Bounded;
 use bound::bound;
 use bound_calls::node_at;
@@ -265,6 +268,9 @@ fn bound_chosen(c: Chosen) -> bool {
 }
 
 fn main() {
+    if is_asked() {
+        return;
+    }
     let Choice::Made(c) = chosen_window() else {
         usage();
         return;

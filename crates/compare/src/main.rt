@@ -1,5 +1,8 @@
 // compare [--device NAME] IMAGE SCRIPT LISTING: whether a listing is what the runner prints for an image and a script, or where it differs first.
 // Both texts are read in parts, and neither is held: of the script at most as many characters are kept as a frame has, of the listing none.
+mod help;
+
+use crate::help::is_asked;
 use compare_lines::Compared;
 use compare_lines::hear;
 use compare_lines::is_settled;
@@ -401,6 +404,9 @@ fn run_chosen(c: Chosen) -> Ending {
 }
 
 fn main() {
+    if is_asked() {
+        return;
+    }
     let Choice::Made(c) = chosen_device() else {
         usage();
         return;

@@ -1,4 +1,7 @@
 // fromhex: the image of the Intel HEX on standard input, which is read in parts; of the text one line is held.
+mod help;
+
+use crate::help::is_asked;
 use hex_chunks::HexChunks;
 use hex_chunks::Told;
 use hex_chunks::feed;
@@ -67,6 +70,9 @@ fn session(part: &mut [u8], work: &mut [u8], image: &mut [u8]) -> Ending
 }
 
 fn main() {
+    if is_asked() {
+        return;
+    }
     if 1 < os::arg_count() {
         usage();
         return;

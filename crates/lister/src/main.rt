@@ -1,5 +1,8 @@
 // lister [--device NAME [--p3 N]] IMAGE [ADDRESS [COUNT]]: the rows of an image, one a line, in the sheet's notation, seen through the window of P3.
 // The words are judged from the left: the device and P3, the image, whether P3 may stand, the address, the number of lines, and that there are no more.
+mod help;
+
+use crate::help::is_asked;
 use device::image_size;
 use device::is_banked;
 use libc::STDERR_FILENO;
@@ -96,6 +99,9 @@ fn list_chosen(c: Chosen) -> bool {
 }
 
 fn main() {
+    if is_asked() {
+        return;
+    }
     let Choice::Made(c) = chosen_window() else {
         usage();
         return;

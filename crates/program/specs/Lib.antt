@@ -1,3 +1,4 @@
 pub mod Answers
+pub mod Help
 pub mod Spans
 pub mod Words

@@ -1,3 +1,4 @@
+pub mod help;
 pub mod image;
 pub mod part;
 pub mod script;

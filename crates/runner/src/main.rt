@@ -1,5 +1,8 @@
 // runner [--device NAME] IMAGE: the listing of an image for the script on standard input.
 // All that it has to say is written before it reads on, so that a person at a terminal sees each answer.
+mod help;
+
+use crate::help::is_asked;
 use device::Device;
 use device::frame_size;
 use device::image_size;
@@ -123,6 +126,9 @@ fn run_chosen(c: Chosen) -> Ending {
 }
 
 fn main() {
+    if is_asked() {
+        return;
+    }
     let Choice::Made(c) = chosen_device() else {
         usage();
         return;

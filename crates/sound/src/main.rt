@@ -1,5 +1,8 @@
 // sound: the commands on standard input, each answered by a line.
 // All that it has to say is written before it reads on, so that a person at a terminal sees each answer. No line is held.
+mod help;
+
+use crate::help::is_asked;
 use libc::STDERR_FILENO;
 use libc::STDIN_FILENO;
 use program::part::read_behind;
@@ -47,6 +50,9 @@ fn session(part: &mut [u8], out: &mut [u8]) -> Ending
 }
 
 fn main() {
+    if is_asked() {
+        return;
+    }
     if 1 < os::arg_count() {
         usage();
         return;

@@ -1,4 +1,7 @@
 // tohex IMAGE: the text of an image as Intel HEX.
+mod help;
+
+use crate::help::is_asked;
 use hex_writer::TEXT_SIZE;
 use hex_writer::write_hex;
 use libc::STDERR_FILENO;
@@ -50,5 +53,8 @@ fn run() -> bool {
 }
 
 fn main() {
+    if is_asked() {
+        return;
+    }
     say(ending_of(false, run()));
 }

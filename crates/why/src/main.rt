@@ -1,5 +1,8 @@
 // why [--device NAME] IMAGE [STEP]: for each step of the script on standard input, or for that step alone, why an interrupt was taken or not.
 // Each answer is written before more of the script is read. The words are judged from the left: the device, the image, the step, and that there are no more.
+mod help;
+
+use crate::help::is_asked;
 use device::Device;
 use device::frame_size;
 use device::image_size;
@@ -201,6 +204,9 @@ fn ask_chosen(c: Chosen) -> Ending {
 }
 
 fn main() {
+    if is_asked() {
+        return;
+    }
     let Choice::Made(c) = chosen_device() else {
         usage();
         return;
