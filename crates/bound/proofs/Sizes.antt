@@ -14,7 +14,7 @@ use Rattle.routines.specs.Shape.{Small}
 use Rattle.routines.specs.Answer.{Found, Judged, HasBound, PathAnswer, FlowAnswer, Answer}
 use Rattle.routines.proofs.Done.{in-lt, called-lt}
 use Rattle.routines_bound.specs.declared.Greatest.{Greatest}
-use Rattle.routines_depth.proofs.Few.{depth-few}
+use Rattle.routines.proofs.FewOpen.{depth-few}
 use Rattle.bound_flow.specs.Flow.{addressOf}
 use Rattle.bound_calls.specs.CallFlow.{callFlow, callCycles}
 use Rattle.bound_calls.specs.CallAnswer.{paperOfFound, CallAnswer, gives-1, gives-2, gives-20, by-flow}

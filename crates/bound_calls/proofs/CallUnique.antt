@@ -12,7 +12,7 @@ use Rattle.device.specs.Device.{imageSize, romOf, isBanked, Banked}
 use Rattle.device.specs.declared.Device.{Device}
 use Rattle.routines.specs.Answer.{Found, Kept, Answer}
 use Rattle.routines.proofs.OneAnswer.{one-answer}
-use Rattle.routines_joined.proofs.Total.{answered}
+use Rattle.routines.proofs.Total.{answered}
 use Rattle.bound_calls.specs.CallFlow.{callFlow, callCycles}
 use Rattle.bound_calls.specs.CallAnswer.{paperOfFound, CallAnswer, gives-1, gives-2, gives-20, by-flow, Answered, ExactlyOne, OneAnswerWithCalls}
 use Rattle.bound_calls.proofs.Shape.{flow-small, flow-widens}

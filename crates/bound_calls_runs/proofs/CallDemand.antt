@@ -15,10 +15,10 @@ use Rattle.run.proofs.Rest.{run-next}
 use Rattle.routines.specs.Calling.{Flow}
 use Rattle.routines.specs.Shape.{Small, Widens}
 use Rattle.routines.specs.Answer.{Judged, HasBound}
-use Rattle.routines_runs.specs.Runs as runs
-use Rattle.routines_runs.specs.Runs.{Standard}
-use Rattle.routines_runs.proofs.Ending.{runs-end}
-use Rattle.routines_runs.proofs.Shallow.{plain-runs-end}
+use Rattle.routines.specs.Runs as runs
+use Rattle.routines.specs.Runs.{Standard}
+use Rattle.routines.proofs.Ending.{runs-end}
+use Rattle.routines.proofs.Shallow.{plain-runs-end}
 use Rattle.bound_flow.specs.Flow.{addressOf, isKnown, startOf}
 use Rattle.bound_runs.specs.Handler.{Enters, Returns, Ends, AllInRange}
 use Rattle.bound_runs.proofs.Standing.{address-place}

@@ -22,8 +22,8 @@ use Rattle.row.proofs.RowsValid.{line-fits}
 use Rattle.step_act.specs.Act.{coreIn, coreAfter, afterTime}
 use Rattle.step.specs.Step.{stepOf}
 use Rattle.step.proofs.StepValid.{step-valid, stop-leaves}
-use Rattle.routines_runs.specs.Runs as runs
-use Rattle.routines_runs.specs.Runs.{Follows, OneStep}
+use Rattle.routines.specs.Runs as runs
+use Rattle.routines.specs.Runs.{Follows, OneStep}
 use Rattle.bound_flow.specs.Flow.{addressOf, isKnown}
 use Rattle.bound_runs.specs.Handler.{Returns, Ends}
 use Rattle.bound_runs.proofs.Lines.{line-branches}

@@ -15,8 +15,8 @@ use Rattle.graph_search.proofs.Zeros.{marked-lt}
 use Rattle.routines.specs.Calling.{Flow}
 use Rattle.routines.specs.Shape.{Narrower, Widens}
 use Rattle.routines.specs.Answer.{Found, Answer}
-use Rattle.routines_known.specs.Losing.{Region, KnownAfter}
-use Rattle.routines_known.proofs.Alike.{Alike, answer-to}
+use Rattle.routines.specs.Losing.{Region, KnownAfter}
+use Rattle.routines.proofs.Alike.{Alike, answer-to}
 use Rattle.routines_marks.specs.Marking.{flowIn, Sized}
 use Rattle.routines_judge.specs.Judging.{FlowLaid, flowFrom}
 use Rattle.routines_bound.specs.Handler.{Priced, HandlerLaid}

@@ -44,13 +44,42 @@ fn usage() {
     );
 }
 
-// Whether all of it was written, as each function here answers of what it writes.
-fn show_line(image: &[u8], p3: u8, at: u16, counted: u32) -> bool
-    requires { ⌜ (windowEnd p3 ≤ length (now image)) × (at < addresses) × (counted < 100000) ⌝ }
+// What came of an output: whether all of it was written so far, as each function here answers, and how many bytes of the buffer wait to be.
+struct Output {
+    written: bool,
+    end: usize,
+}
+
+// Writes what waits, where a line more might have no room behind it.
+fn make_room(out: &[u8], end: usize) -> Output
+    requires { ⌜ (43 ≤ length (now out)) × (end ≤ length (now out)) ⌝ }
+    ensures { λ r. ⌜ r .end + 43 ≤ length (now (out .entry)) ⌝ }
 {
-    let mut out = io::buffer();
-    let n = path_line(&mut out, 0, image, p3, at, counted);
-    show_part(&out, n)
+    if end <= out.len() - 43 {
+        return Output {
+            written: true,
+            end: end,
+        };
+    }
+    Output {
+        written: show_part(out, end),
+        end: 0,
+    }
+}
+
+// A line of a path behind what waits, so that a long path takes few calls of the system.
+fn add_line(out: &mut [u8], end: usize, image: &[u8], p3: u8, at: u16, counted: u32) -> Output
+    requires { ⌜ (43 ≤ length (now out)) × (end ≤ length (now out)) × (windowEnd p3 ≤ length (now image)) × (at < addresses) × (counted < 100000) ⌝ }
+    ensures { λ r. ⌜ r .end ≤ length (now (out .entry)) ⌝ }
+{
+    let room = make_room(out, end);
+    if !room.written {
+        return room;
+    }
+    Output {
+        written: true,
+        end: path_line(out, room.end, image, p3, at, counted),
+    }
 }
 
 // The longest path there can be has 65,535 places: N is at most that, and each of them takes a cycle or more.
@@ -68,30 +97,34 @@ fn address_in(path: &[u8], i: usize) -> u16
     (256 * high + low) % ADDRESSES
 }
 
-// The lines of N's path: it ends where its cycles come to N.
-fn list_path(image: &[u8], p3: u8, path: &[u8], most: u32) -> bool
-    requires { ⌜ (windowEnd p3 ≤ length (now image)) × (length (now path) ≡ 131070) × (most < 65536) ⌝ }
+// The lines of N's path: it ends where its cycles come to N. out is to collect them in.
+fn list_path(image: &[u8], p3: u8, path: &[u8], most: u32, out: &mut [u8]) -> bool
+    requires { ⌜ (windowEnd p3 ≤ length (now image)) × (length (now path) ≡ 131070) × (most < 65536) × (43 ≤ length (now out)) ⌝ }
 {
+    let mut end = 0;
     let mut total = 0;
     let mut i = 0;
     while i < MOST_PLACES {
         if most <= total {
-            return true;
+            return show_part(out, end);
         }
         let at = address_in(path, i);
         total += cycles_at(image, p3, at);
-        if !show_line(image, p3, at, total) {
+        let line = add_line(out, end, image, p3, at, total);
+        if !line.written {
             return false;
         }
+        end = line.end;
         i += 1;
     }
-    true
+    show_part(out, end)
 }
 
-// The lines of depth's path: it ends with RTI, which stands only where no call is open.
-fn list_deep(d: Device, image: &[u8], p3: u8, deep: &[u8]) -> bool
-    requires { ⌜ (windowEnd p3 ≤ length (now image)) × (length (now deep) ≡ 131070) ⌝ }
+// The lines of depth's path: it ends with RTI, which stands only where no call is open. out is to collect them in.
+fn list_deep(d: Device, image: &[u8], p3: u8, deep: &[u8], out: &mut [u8]) -> bool
+    requires { ⌜ (windowEnd p3 ≤ length (now image)) × (length (now deep) ≡ 131070) × (43 ≤ length (now out)) ⌝ }
 {
+    let mut end = 0;
     let mut calls = 0;
     let mut i = 0;
     while i < MOST_PLACES {
@@ -99,15 +132,17 @@ fn list_deep(d: Device, image: &[u8], p3: u8, deep: &[u8]) -> bool
         let node = node_at(d, image, p3, 2 * at as usize);
         let kind = node.kind;
         calls = opened(kind, calls);
-        if !show_line(image, p3, at, calls) {
+        let line = add_line(out, end, image, p3, at, calls);
+        if !line.written {
             return false;
         }
+        end = line.end;
         if kind == 2 {
-            return true;
+            return show_part(out, end);
         }
         i += 1;
     }
-    true
+    show_part(out, end)
 }
 
 // What stands in the buffer up to a place, as a line.
@@ -177,13 +212,14 @@ fn explain(d: Device, answer: Bounded) -> bool {
 fn list_both(d: Device, image: &[u8], p3: u8, bounds: Greatest, path: &[u8], deep: &[u8]) -> bool
     requires { ⌜ (windowEnd p3 ≤ length (now image)) × (length (now path) ≡ 131070) × (length (now deep) ≡ 131070) × (bounds .cycles < 65536) × (bounds .depth < 65536) ⌝ }
 {
-    if !list_path(image, p3, path, bounds.cycles as u32) {
+    let mut out = io::large_buffer();
+    if !list_path(image, p3, path, bounds.cycles as u32, &mut out) {
         return false;
     }
     if !show_depth(bounds.depth as u32) {
         return false;
     }
-    list_deep(d, image, p3, deep)
+    list_deep(d, image, p3, deep, &mut out)
 }
 
 fn bound_at(d: Device, image: &[u8], p3: u8, at: u16) -> bool

@@ -12,15 +12,15 @@ ghost use Rattle.graph.specs.Laid.{mostNodes, Laid};
 
 // The place v that the walk is at; the top of the stack of places that wait for their component; the rank of the last place that was begun; and
 // how many components are complete. A place that is not one of the places stands for none.
-struct Spot {
-    v: usize,
-    top: usize,
-    index: u16,
-    complete: u16,
+pub struct Spot {
+    pub v: usize,
+    pub top: usize,
+    pub index: u16,
+    pub complete: u16,
 }
 
 // The walk goes on from v to w, which is not begun.
-fn begin(rank: &mut [u16], number: &mut [u16], back: &mut [u16], a: Spot, w: usize) -> Spot
+pub fn begin(rank: &mut [u16], number: &mut [u16], back: &mut [u16], a: Spot, w: usize) -> Spot
     requires { ⌜ (length (now rank) ≤ mostNodes) × (length (now number) ≡ length (now rank)) × (length (now back) ≡ length (now rank)) × (w < length (now rank)) × (a .v < length (now rank)) × (a .top < 65536) ⌝ }
     ensures { λ r. ⌜ r .top < 65536 ⌝ }
 {
@@ -37,7 +37,7 @@ fn begin(rank: &mut [u16], number: &mut [u16], back: &mut [u16], a: Spot, w: usi
     }
 }
 
-fn raise(rank: &mut [u16], v: usize, to: u16)
+pub fn raise(rank: &mut [u16], v: usize, to: u16)
     requires { ⌜ length (now rank) ≤ mostNodes ⌝ }
 {
     if rank.len() <= v {
@@ -77,7 +77,7 @@ fn go_on(
 }
 
 // Leaves v, whose successors were tried. Where it reaches back to a place begun before it, it waits on the stack; else those that wait above it are of its component.
-fn leave(rank: &mut [u16], number: &[u16], below: &mut [u16], back: &[u16], a: Spot) -> Spot
+pub fn leave(rank: &mut [u16], number: &[u16], below: &mut [u16], back: &[u16], a: Spot) -> Spot
     requires { ⌜ (length (now rank) ≤ mostNodes) × (length (now number) ≡ length (now rank)) × (length (now below) ≡ length (now rank))
         × (length (now back) ≡ length (now rank)) × (a .v < length (now rank)) × (a .top < 65536) ⌝ }
     ensures { λ r. ⌜ r .top < 65536 ⌝ }

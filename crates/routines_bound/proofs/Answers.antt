@@ -12,8 +12,8 @@ use Rattle.routines.specs.Answer as answer
 use Rattle.routines.specs.Answer.{bytesOf, HasBound, Kept, PathAnswer, gives-25, gives-23, gives-23-depth, gives-N, FlowAnswer, bounded}
 use Rattle.routines.proofs.Done.{Done, done}
 use Rattle.routines.proofs.Exists.{has-bound}
-use Rattle.routines_joined.specs.Joined.{code}
-use Rattle.routines_known.specs.Losing.{knownBy}
+use Rattle.routines.specs.Joined.{code}
+use Rattle.routines.specs.Losing.{knownBy}
 use Rattle.routines_marks.specs.Marking.{flowIn}
 use Rattle.routines_judge.specs.Judging.{flowFrom, marksOf}
 use Rattle.routines_coded.specs.Nodes.{CodedTo}

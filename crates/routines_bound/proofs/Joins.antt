@@ -16,9 +16,9 @@ use Rattle.graph_search.specs.Marks.{Marked, OnQ, Queue, Listed}
 use Rattle.graph_search.proofs.Grown.{listed-queue}
 use Rattle.routines.specs.Calling.{Flow, Routine, outer, called, endOf, after, In, Live, handler}
 use Rattle.routines.specs.Shape.{Small}
-use Rattle.routines_joined.specs.Joined.{code}
-use Rattle.routines_joined.proofs.Refusals.{Stands, reached, place-reached, entry-lt}
-use Rattle.routines_known.specs.Losing.{knownBy}
+use Rattle.routines.specs.Joined.{code}
+use Rattle.routines.proofs.Refusals.{Stands, reached, place-reached, entry-lt}
+use Rattle.routines.specs.Losing.{knownBy}
 use Rattle.routines_marks.specs.Marking.{flowIn}
 use Rattle.routines_judge.specs.Judging.{FlowLaid, flowFrom, marksOf, kindIn}
 use Rattle.routines_judge.specs.Answers.{IsSound}

@@ -13,8 +13,8 @@ use Rattle.graph.specs.Laid.{costOf}
 use Rattle.graph_search.specs.Marks.{Marked, OnQ}
 use Rattle.routines.specs.Calling.{Flow}
 use Rattle.routines.specs.Answer.{excluded, repetition, FlowAnswer, gives-21, gives-22}
-use Rattle.routines_known.specs.Losing.{Loses, returns, by-next, by-other, past-known, past-unknown, Region, Marks, knownBy}
-use Rattle.routines_known.proofs.Knowing.{knows}
+use Rattle.routines.specs.Losing.{Loses, returns, by-next, by-other, past-known, past-unknown, Region, Marks, knownBy}
+use Rattle.routines.proofs.Knowing.{knows}
 use Rattle.routines_marks.specs.Marking as marking
 use Rattle.routines_marks.specs.Marking.{flowIn, AllLose, Lost, IdleOn}
 use Rattle.routines_judge.specs.Judging.{flowFrom, marksOf}

@@ -9,7 +9,7 @@ use Rattle.graph_search.specs.Marks.{OnQ, Queue}
 use Rattle.routines.specs.Shape.{Widens}
 use Rattle.routines.specs.Answer as answer
 use Rattle.routines.specs.Answer.{Judged}
-use Rattle.routines_known.specs.Losing.{Region, KnownAfter, knownBy}
+use Rattle.routines.specs.Losing.{Region, KnownAfter, knownBy}
 use Rattle.routines_judge.specs.Judging.{FlowLaid, flowFrom, marksOf}
 use Rattle.routines_judge.specs.Answers.{IsSound}
 use Rattle.routines_route.specs.Arrays.{Nodes}

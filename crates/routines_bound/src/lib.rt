@@ -16,7 +16,7 @@ ghost use Rattle.graph.specs.Laid.{places, mostNodes, graphOf, costOf};
 ghost use Rattle.graph_search.specs.Marks.{Blank, Queue};
 ghost use Rattle.routines.specs.Shape.{Widens};
 ghost use Rattle.routines.specs.Answer.{FlowAnswer, Answer};
-ghost use Rattle.routines_known.specs.Losing.{knownBy};
+ghost use Rattle.routines.specs.Losing.{knownBy};
 ghost use Rattle.routines_marks.specs.Marking.{flowIn, AllLose, IdleOn};
 ghost use Rattle.routines_judge.specs.Judging.{FlowLaid, flowFrom, marksOf};
 ghost use Rattle.routines_judge.specs.Answers.{NothingRecurs, Recursion, Judges};

@@ -7,7 +7,7 @@ use native.Mathlib.Omega.{arith}
 use lib.ListN.{getD}
 use Rattle.laws.specs.Choice.{pick}
 use Rattle.routines.specs.Calling.{Flow, after}
-use Rattle.routines_known.specs.Losing.{knownBy}
+use Rattle.routines.specs.Losing.{knownBy}
 use Rattle.routines_marks.specs.Marking.{flowIn}
 use Rattle.routines_judge.specs.Judging.{marksOf, kindIn}
 use Rattle.routines_coded.specs.Nodes.{IsNode, on, call, rest}

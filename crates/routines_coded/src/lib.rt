@@ -8,7 +8,7 @@ ghost use lib.ListN.{length};
 ghost use Rattle.graph.specs.Laid.{places};
 ghost use Rattle.graph_search.specs.Marks.{Queue, Blank};
 ghost use Rattle.graph.specs.Laid.{mostNodes};
-ghost use Rattle.routines_known.specs.Losing.{knownBy};
+ghost use Rattle.routines.specs.Losing.{knownBy};
 ghost use Rattle.routines_marks.specs.Marking.{flowIn};
 ghost use Rattle.routines_judge.specs.Judging.{FlowLaid, marksOf};
 ghost use Rattle.routines_coded.specs.Nodes.{nodes, IsNode, Sized, LaysFrom, CodedTo};

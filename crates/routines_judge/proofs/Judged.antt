@@ -15,11 +15,11 @@ use Rattle.graph_loops.specs.Loops.{Scan}
 use Rattle.graph_loops.proofs.Least.{least-loop, none-loops}
 use Rattle.routines.specs.Calling.{Flow, outer, IsBad}
 use Rattle.routines.specs.Shape.{Small, Widens}
-use Rattle.routines_joined.specs.Joined.{code, joined}
-use Rattle.routines_joined.proofs.Refusals.{bad-place, no-bad, lowest-bad}
-use Rattle.routines_joined.proofs.Repeats.{loop-place, no-loop, lowest-loop}
-use Rattle.routines_joined.proofs.Edges.{code-above}
-use Rattle.routines_known.specs.Losing.{knownBy}
+use Rattle.routines.specs.Joined.{code, joined}
+use Rattle.routines.proofs.Refusals.{bad-place, no-bad, lowest-bad}
+use Rattle.routines.proofs.Repeats.{loop-place, no-loop, lowest-loop}
+use Rattle.routines.proofs.Edges.{code-above}
+use Rattle.routines.specs.Losing.{knownBy}
 use Rattle.routines_judge.specs.Judging.{entries, FlowLaid, flowFrom, marksOf, joinedBy, ReachedAs}
 use Rattle.routines_judge.specs.Answers.{NothingRecurs, IsExcluded, IsRepeats, IsSound}
 use Rattle.routines_judge.proofs.Laying.{start-lt, laid-agree, reached-in, joined-from, flow-small}

@@ -10,8 +10,8 @@ use Rattle.graph.proofs.Agree.{Agree, agree-sym, reach-to}
 use Rattle.graph_search.specs.Search.{Reached}
 use Rattle.routines.specs.Calling.{outer, after}
 use Rattle.routines.specs.Shape.{Small}
-use Rattle.routines_joined.specs.Joined.{code, joined}
-use Rattle.routines_known.specs.Losing.{knownBy}
+use Rattle.routines.specs.Joined.{code, joined}
+use Rattle.routines.specs.Losing.{knownBy}
 use Rattle.routines_marks.specs.Marking.{flowIn}
 use Rattle.routines_judge.specs.Judging.{entries, FlowLaid, flowFrom, marksOf, joinedBy, LaidAs}
 

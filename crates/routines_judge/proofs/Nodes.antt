@@ -12,7 +12,7 @@ use Rattle.graph.specs.Graph.{Graph}
 use Rattle.graph.specs.Laid.{mostNodes}
 use Rattle.graph_search.proofs.Zeros.{cases-set}
 use Rattle.routines.specs.Calling.{after}
-use Rattle.routines_joined.specs.Joined.{joined}
+use Rattle.routines.specs.Joined.{joined}
 use Rattle.routines_marks.specs.Marking.{flowIn}
 use Rattle.routines_judge.specs.Judging.{entries, FlowLaid, marksOf, joinedBy, kindIn, NodeIs, LaidTo, LaidAs}
 

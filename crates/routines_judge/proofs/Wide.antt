@@ -12,8 +12,8 @@ use Rattle.graph_search.specs.Marks.{Marked}
 use Rattle.graph_loops.specs.Loops.{Scan}
 use Rattle.graph_loops.proofs.Least.{none-before, least-loop}
 use Rattle.routines.specs.Calling.{outer, unknown, after}
-use Rattle.routines_joined.specs.Joined.{code, joined}
-use Rattle.routines_joined.proofs.Refusals.{lowest-recursion, no-recursion}
+use Rattle.routines.specs.Joined.{code, joined}
+use Rattle.routines.proofs.Refusals.{lowest-recursion, no-recursion}
 use Rattle.routines_marks.specs.Marking.{flowIn}
 use Rattle.routines_judge.specs.Judging.{entries, FlowLaid, flowFrom, marksOf, joinedBy, LaidAs, ReachedAs, Ones}
 use Rattle.routines_judge.specs.Answers.{Recursion}

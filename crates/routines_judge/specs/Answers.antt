@@ -7,7 +7,7 @@ use Rattle.graph_search.specs.Marks.{Listed}
 use Rattle.graph_search.specs.Search.{Reached}
 use Rattle.routines.specs.Calling.{Flow, outer, Recurs, IsBad, IsLoop}
 use Rattle.routines.specs.Answer.{LowestAddress}
-use Rattle.routines_joined.specs.Joined.{code, joined}
+use Rattle.routines.specs.Joined.{code, joined}
 use Rattle.routines_judge.specs.Judging.{entries}
 use Rattle.routines_judge.specs.declared.Judgement.{Judgement}
 use Rattle.routines_judge.specs.declared.Judgement.the-variants.{Excluded, Repeats, Sound}

@@ -11,8 +11,8 @@ use Rattle.graph.specs.Laid.{places, mostNodes, graphOf, Laid}
 use Rattle.graph_search.specs.Marks.{Listed}
 use Rattle.graph_search.specs.Search.{Reached}
 use Rattle.routines.specs.Calling.{Flow, outer}
-use Rattle.routines_joined.specs.Joined.{code, joined}
-use Rattle.routines_known.specs.Losing.{knownBy}
+use Rattle.routines.specs.Joined.{code, joined}
+use Rattle.routines.specs.Losing.{knownBy}
 use Rattle.routines_marks.specs.Marking.{flowIn, Sized}
 
 -- an entry is an address below this

@@ -14,8 +14,8 @@ ghost use Rattle.graph_search.specs.Search.{Reached};
 ghost use Rattle.graph_loops.specs.Loops.{Scan};
 ghost use Rattle.routines.specs.Calling.{outer};
 ghost use Rattle.routines.specs.Shape.{Widens};
-ghost use Rattle.routines_joined.specs.Joined.{code};
-ghost use Rattle.routines_known.specs.Losing.{knownBy};
+ghost use Rattle.routines.specs.Joined.{code};
+ghost use Rattle.routines.specs.Losing.{knownBy};
 ghost use Rattle.routines_judge.specs.Judging.{entries, FlowLaid, flowFrom, marksOf, joinedBy, kindIn, NodeIs, LaidAs, ReachedAs, Roomy, Works, Ones};
 ghost use Rattle.routines_judge.specs.Answers.{NothingRecurs, Recursion, Judges};
 

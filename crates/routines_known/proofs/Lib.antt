@@ -1,2 +1,4 @@
-pub mod Knowing
-pub mod Alike
+pub mod Settling
+pub mod Known
+pub mod Choosing
+pub mod Choice

@@ -9,8 +9,8 @@ use borrow.Author.Tests.{ne-eqb}
 use Rattle.graph_search.specs.Marks.{Blank, zeros}
 use Rattle.graph_search.proofs.Zeros.{zeros-set, cases-set}
 use Rattle.routines.specs.Calling.{Flow}
-use Rattle.routines_known.specs.Losing as losing
-use Rattle.routines_known.specs.Losing.{Loses}
+use Rattle.routines.specs.Losing as losing
+use Rattle.routines.specs.Losing.{Loses}
 use Rattle.routines_marks.specs.Marking.{flowIn, Sized, AllLose, Lost, returns, by-next, by-other, past-known, past-unknown, Judges, Idle, IdleOn, Settled, Swept}
 
 pub lose-blank : {f : Flow} {m : List ℕ} → Blank m → AllLose f m

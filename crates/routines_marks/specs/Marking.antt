@@ -6,7 +6,7 @@ use lib.Dec.{eqb}
 use lib.ListN.{length, getD}
 use Rattle.graph_search.specs.Marks.{Marked, zeros}
 use Rattle.routines.specs.Calling.{Flow}
-use Rattle.routines_known.specs.Losing.{Loses}
+use Rattle.routines.specs.Losing.{Loses}
 
 -- a flow laid in arrays, a place an index; a place is known where its number is odd, and the routine at entry e starts at place 2e
 unfoldable pub flowIn : List ℕ → List ℕ → List ℕ → List ℕ → Flow

@@ -3,7 +3,7 @@ ghost use mathlib.Core.Path.{_≡_};
 ghost use Prim.Native.Nat.{_+_, _*_, _<_, _≤_};
 ghost use lib.ListN.{length, getD};
 ghost use Rattle.graph_search.specs.Marks.{Blank, Queue};
-ghost use Rattle.routines_known.specs.Losing.{Loses};
+ghost use Rattle.routines.specs.Losing.{Loses};
 ghost use Rattle.routines_marks.specs.Marking.{flowIn, Sized, AllLose, Judges, Settled, Swept, IdleOn};
 
 // Not 0 where v loses SF by the marks of what comes after it. A place is known where its number is odd.
@@ -78,7 +78,7 @@ fn sweep(
 }
 
 // What stands at a place of a list, 0 past its end.
-fn head(list: &[u32], at: usize) -> usize {
+pub fn head(list: &[u32], at: usize) -> usize {
     if list.len() <= at {
         return 0;
     }
@@ -86,7 +86,7 @@ fn head(list: &[u32], at: usize) -> usize {
 }
 
 // Puts an edge before those that lead to w. In a list an edge is its number and one, and 0 ends it.
-fn lead(first: &mut [u32], link: &mut [u32], w: usize, edge: usize)
+pub fn lead(first: &mut [u32], link: &mut [u32], w: usize, edge: usize)
     requires { ⌜ edge < 4294967295 ⌝ }
 {
     if first.len() <= w {
@@ -124,9 +124,9 @@ fn enter(
 }
 
 // How many places wait on the stack, and the edge to be followed back, 0 for none.
-struct Spot {
-    top: usize,
-    edge: usize,
+pub struct Spot {
+    pub top: usize,
+    pub edge: usize,
 }
 
 // Settles v; where that marks it, it waits on the stack.

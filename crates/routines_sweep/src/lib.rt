@@ -10,7 +10,7 @@ ghost use Rattle.routines_route.specs.Arrays.{Nodes};
 ghost use Rattle.routines_sweep.specs.Dist.{Costly, Worth, Levels, Stays, Dist, Settled, Over, SettledFrom, IdleFrom, Swept};
 
 // What a fork or a call is worth, by the sums of its two successors.
-fn worth(kind: u8, cost: u32, a: u32, b: u32) -> u32
+pub fn worth(kind: u8, cost: u32, a: u32, b: u32) -> u32
     requires { ⌜ (cost ≤ 65536) × (a ≤ 65536) × (b ≤ 65536) ⌝ }
     ensures { λ r. ⌜ Worth kind cost a b r ⌝ }
 {
@@ -36,7 +36,7 @@ fn worth(kind: u8, cost: u32, a: u32, b: u32) -> u32
 }
 
 // The depth of a fork or a call, by those of its two successors.
-fn level(kind: u8, a: u16, b: u16) -> u16
+pub fn level(kind: u8, a: u16, b: u16) -> u16
     requires { ⌜ a < 65535 ⌝ }
     ensures { λ r. ⌜ Levels kind a b r ⌝ }
 {
@@ -54,7 +54,7 @@ fn level(kind: u8, a: u16, b: u16) -> u16
 }
 
 // Neither a fork nor a call.
-fn stays(kind: u8) -> bool
+pub fn stays(kind: u8) -> bool
     ensures { λ r. ⌜ Stays kind r ⌝ }
 {
     if kind == 1 {

@@ -12,7 +12,7 @@ use Rattle.graph_search.specs.Marks.{OnQ}
 use Rattle.routines.specs.Calling.{Flow, Routine, outer, called, startIn, endOf, after, within, In, Live, handler, call}
 use Rattle.routines.proofs.Within.{edge-cases, edge-on, edge-call}
 use Rattle.routines.proofs.Done.{Done}
-use Rattle.routines_joined.specs.Joined.{code}
+use Rattle.routines.specs.Joined.{code}
 use Rattle.routines_sweep.specs.Dist.{IdleFrom, Idle, has, out, next-waits, other-waits}
 use Rattle.routines_whole.specs.Coded.{Shaped}
 

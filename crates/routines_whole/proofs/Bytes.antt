@@ -12,10 +12,10 @@ use Rattle.routines.specs.Calling.{Flow, Routine, outer, called, endOf, startIn
 use Rattle.routines.specs.Answer.{bytesOf}
 use Rattle.routines.proofs.Within.{Kind, kind-of, edge-on, edge-call, out-excluded}
 use Rattle.routines.proofs.Done.{Nested, none, inner}
-use Rattle.routines_sums.specs.Sums as flow
-use Rattle.routines_sums.specs.Sums.{sumIn, sumAt, Sums}
-use Rattle.routines_sums.proofs.Longest.{way-is-longest}
-use Rattle.routines_joined.specs.Joined.{code}
+use Rattle.routines.specs.Sums as flow
+use Rattle.routines.specs.Sums.{sumIn, sumAt, Sums}
+use Rattle.routines.proofs.Longest.{way-is-longest}
+use Rattle.routines.specs.Joined.{code}
 use Rattle.routines_route.specs.Way as arrays
 use Rattle.routines_route.specs.Way.{encode, to-next, to-other, into, back}
 use Rattle.routines_whole.specs.Coded.{Coded, innOf, outOf}

@@ -10,12 +10,12 @@ use Rattle.graph.specs.Graph.{Graph, sum}
 use Rattle.routines.specs.Calling.{Flow, Routine, outer, called, after, In, Live, IsBad, HandlerPath, FirstOf}
 use Rattle.routines.specs.Answer.{bytesOf}
 use Rattle.routines.proofs.Done.{Done}
-use Rattle.routines_sums.specs.Sums.{sumIn}
-use Rattle.routines_sums.specs.Capped.{CappedValue, Capped}
-use Rattle.routines_sums.proofs.Capped.{exact, costs-cap}
-use Rattle.routines_depth.specs.Depths as depth
-use Rattle.routines_depth.specs.Depths.{Depths}
-use Rattle.routines_joined.specs.Joined.{code}
+use Rattle.routines.specs.Sums.{sumIn}
+use Rattle.routines.specs.Capped.{CappedValue, Capped}
+use Rattle.routines.proofs.Capped.{exact, costs-cap}
+use Rattle.routines.specs.Depths as depth
+use Rattle.routines.specs.Depths.{Depths}
+use Rattle.routines.specs.Joined.{code}
 use Rattle.routines_route.specs.Way as way
 use Rattle.routines_route.specs.Way.{Falls, Fall, Written}
 use Rattle.routines_sweep.specs.Dist.{Value, ends, forks, calls, Dist}

@@ -12,10 +12,10 @@ use Rattle.routines.specs.Calling.{Flow, Routine, outer, called, endOf, startIn
 use Rattle.routines.specs.Answer.{bytesOf}
 use Rattle.routines.proofs.Within.{edge-on, edge-call}
 use Rattle.routines.proofs.Done.{Nested, none, inner}
-use Rattle.routines_joined.specs.Joined.{code}
-use Rattle.routines_depth.specs.Depths as flow
-use Rattle.routines_depth.specs.Depths.{depthAt, Depths, pending}
-use Rattle.routines_depth.proofs.Deepest.{way-is-deepest}
+use Rattle.routines.specs.Joined.{code}
+use Rattle.routines.specs.Depths as flow
+use Rattle.routines.specs.Depths.{depthAt, Depths, pending}
+use Rattle.routines.proofs.Deepest.{way-is-deepest}
 use Rattle.routines_route.specs.Way.{encode}
 use Rattle.routines_deep.specs.Deep as arrays
 use Rattle.routines_deep.specs.Deep.{later, to-next, to-other, into, back, Written}

@@ -8,7 +8,7 @@ use Rattle.graph.specs.Graph.{Reach, here, step}
 use Rattle.graph.proofs.Reach.{reach-snoc}
 use Rattle.routines.specs.Calling.{Flow, Routine, startIn, after, within, In, Live, handler, call}
 use Rattle.routines.proofs.Within.{edge-cases}
-use Rattle.routines_sums.specs.Sums.{sumIn, Value, ends, forks, calls, Sums}
+use Rattle.routines.specs.Sums.{sumIn, Value, ends, forks, calls, Sums}
 use Rattle.routines_whole.proofs.AllHave.{no-end}
 
 module _ (f : Flow) (K : ℕ → Bool) (cycles inn out : ℕ → ℕ) (sums : Sums f K cycles inn out) where

@@ -6,8 +6,8 @@ use Prim.Native.Nat.{ℕ}
 use lib.ListN.{getD}
 use Rattle.graph.specs.Graph.{Graph}
 use Rattle.routines.specs.Calling.{Flow, Routine, outer, called, endOf, after, In, Live}
-use Rattle.routines_sums.specs.Sums.{sumIn}
-use Rattle.routines_joined.specs.Joined.{code}
+use Rattle.routines.specs.Sums.{sumIn}
+use Rattle.routines.specs.Joined.{code}
 
 pub record On (f : Flow) (g : Graph) (r : Routine) (v : ℕ) : Type 0 where
   pub kind : g .kind (code 0 r v) ≡ 1

@@ -2,7 +2,7 @@
 use Prim.Native.Nat.{_-_, _≤_}
 use native.Mathlib.Omega.{arith}
 use Rattle.graph_search.proofs.Zeros.{wide16}
-use Rattle.routines_known.specs.Losing.{knownBy}
+use Rattle.routines.specs.Losing.{knownBy}
 use Rattle.routines_marks.specs.Marking.{flowIn}
 use Rattle.routines_judge.specs.Judging.{marksOf}
 use Rattle.routines_coded.specs.Nodes.{CodedTo}
