@@ -22,8 +22,9 @@ answers:
                  1 to 8 are PC A H L S CZS C X; 0 is a missing or an extra line,
                  the header, or the spacing
   refused 01     the image cannot be read, or it has another size
-  refused 03     a line of the script is no frame, or it cannot be read
+  refused 03     a line of the script is no frame
 A listing that cannot be read: the line \"cannot read\" on standard error.
+A script that cannot be read is refused 03 too.
 
 The exit status is 0 also where they differ: a script goes by the first word of
 the answer.

@@ -17,7 +17,7 @@ example: runner examples/kitchen-timer.bin < examples/kitchen-timer.frames
 
 answers:
   refused 01     the image cannot be read, or it has another size
-  refused 03     a line of the script is no frame, or it cannot be read
+  refused 03     a line of the script is no frame
 The columns: PC, ACC, HR, LR, SP, CF ZF SF, the cycles, and 00 or the stop that
 ends the run:
   30             unassigned code

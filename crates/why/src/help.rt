@@ -18,7 +18,7 @@ example: why examples/kitchen-timer.bin 72 < examples/kitchen-timer.frames
 
 answers:
   refused 01     the image cannot be read, or it has another size
-  refused 03     a line of the script is no frame, or it cannot be read
+  refused 03     a line of the script is no frame
 Else the number of the step, PC before it, and one of: sleeping; holding;
 EI clear; nothing latched; masked, stack level or accepted, and the sources.
 
