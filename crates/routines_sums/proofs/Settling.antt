@@ -1,21 +1,41 @@
 -- Settling a number keeps the sums and the depths right, whatever the order.
 use mathlib.Core.Path.{_≡_, refl, sym, _∙_}
 use mathlib.Core.Logic.{_⊎_, inl, inr}
+use mathlib.Core.Bool.{Bool, true, false, not}
 use mathlib.Core.List.{List}
-use Prim.Native.Nat.{ℕ, zero, suc, _+_, _≤_, _<_}
+use Prim.Native.Nat.{ℕ, zero, suc, _+_, _≤_, _<_, max}
 use native.Mathlib.Nat.{not-suc-le-zero}
 use native.Mathlib.Omega.{arith}
 use native.Mathlib.Decide.{ℕ-discrete}
+use lib.Dec.{eqb}
 use lib.ListN.{length, getD, set, length-set}
 use lib.Seq.{getD-set-same, getD-set-other}
 use borrow.Author.Tests.{eq-eqb, ne-eqb}
 use Rattle.graph.specs.Graph.{Graph}
-use Rattle.graph_search.specs.Marks.{zeros}
+use Rattle.graph_search.specs.Marks.{zeros, Blank}
 use Rattle.graph_search.proofs.Zeros.{zeros-set, zeros-le, cases-set}
 use Rattle.routines_joined.specs.Words.{NodeIs}
 use Rattle.routines_numbered.specs.Packed.{nodeIn, nodesIn}
-use Rattle.routines_sweep.specs.Dist.{Worth, Levels, Value, ends, forks, calls, Dist, Idle, Settled}
+use Rattle.routines_sums.specs.Dist.{Spent, Levels, Stays, Value, ends, forks, calls, Dist, Idle, fork-over, call-over, Settled}
 use Rattle.routines_sums.specs.Ways.{waysIn, costsIn, Priced, IdleTo, Swept}
+
+pub never : _≡_ {A = Bool} true false → ⊥
+never e = let z : _≡_ {A = ℕ} 0 1 = cc in omega arith
+
+pub not-three : (k : ℕ) → (k ≡ 1 → ⊥) → Stays k (not (eqb k 3))
+not-three k n = go (ℕ-discrete k 3)
+  where
+    go : Dec (k ≡ 3) → Stays k (not (eqb k 3))
+    go (yes e) = rw (eq-eqb k 3 e) (record { neither = λ z. absurd (never (sym z)); one = λ z. inr e })
+    go (no e) = rw (ne-eqb k 3 e) (record { neither = λ z. (n, e); one = λ z. absurd (never z) })
+
+-- nothing yet
+pub dist-blank : {g : Graph} {c : ℕ → ℕ} {d dep : List ℕ} → Blank d → Blank dep → Dist g c d dep
+dist-blank {d = d} b e =
+    record { fits = λ v. omega (arith, b .at v); deep = λ v. omega (arith, e .at v, zeros-le d); value = λ v h. absurd (omega (arith, b .at v)) }
+
+pub settle-keep : {g : Graph} {c : ℕ → ℕ} {d dep : List ℕ} {v : ℕ} → Dist g c d dep → Idle g c d v → Settled g c d v d dep 0
+settle-keep dist idle = record { dist = dist; count = omega arith; idle = λ _. (refl, idle) }
 
 zeros-set-pos : (l : List ℕ) (i x : ℕ) → i < length l → getD l i 0 ≡ 0 → 0 < x → zeros (set l i x) + 1 ≡ zeros l
 zeros-set-pos l i zero h e p = absurd (not-suc-le-zero p)
@@ -65,37 +85,42 @@ module _ {x : List ℕ} {n : ℕ} (p : Priced x n) (v : ℕ) (h : v < n) where
       go (yes e) = p .pos v h (omega (arith, e)) (omega (arith, e))
       go (no e) = let s = ne-eqb (nodesIn x v .kind) 4 e in p .pos v h (rw s at a) (let b′ = rw s at b in omega (arith, b′))
 
-pub cost-le : (x : List ℕ) (v : ℕ) → costsIn x v ≤ 3
-unfolding costsIn nodesIn nodeIn
-cost-le x v = omega arith
-
 some : (u : ℕ) → (u ≡ 0 → ⊥) → 0 < u
 some u ne = omega (arith, ne)
 
--- what a fork or a call is worth, and its level, are its value
-pub worth-value : {g : Graph} {c : ℕ → ℕ} (d dep : List ℕ) {v k i j : ℕ} (x y cost : ℕ) → NodeIs g v k i j → cost ≡ c v → (k ≡ 1) ⊎ (k ≡ 3) → (getD d i 0 ≡ 0 → ⊥) → (getD d j 0 ≡ 0 → ⊥)
-    → Worth k cost (getD d i 0) (getD d j 0) x → Levels k (getD dep i 0) (getD dep j 0) y → Value g c d dep v x y
-worth-value {g} {c} d dep {v} {k} {i} {j} x y cost n e (inl kk) a b w t =
-    forks (sym (n .kind) ∙ kk) (rw (n .next) at (some (getD d i 0) a)) (rw (n .other) at (some (getD d j 0) b))
-    (rw (e, n .next, n .other) at (w .forks (λ z. omega (arith, kk, z)))) (rw (n .next, n .other) at (t .forks (λ z. omega (arith, kk, z))))
-worth-value {g} {c} d dep {v} {k} {i} {j} x y cost n e (inr kk) a b w t =
-    calls (sym (n .kind) ∙ kk) (rw (n .next) at (some (getD d i 0) a)) (rw (n .other) at (some (getD d j 0) b)) (rw (e, n .next, n .other) at (w .calls kk)) (rw (n .next, n .other) at (t .calls kk))
+-- what a fork or a call spends, and its level, are its value; or they are too much
+module _ {g : Graph} (c : ℕ → ℕ) (d : List ℕ) {v k i j : ℕ} (x cost : ℕ) (n : NodeIs g v k i j) (e : cost ≡ c v) (w : Spent k cost (getD d i 0) (getD d j 0) x) where
+  fork-sum : k ≡ 1 → x ≡ c v + max (getD d (g .next v) 0) (getD d (g .other v) 0)
+  fork-sum kk = rw (e, n .next, n .other) at (w .forks (λ z. omega (arith, kk, z)))
+
+  call-sum : k ≡ 3 → x ≡ c v + (getD d (g .next v) 0 + getD d (g .other v) 0)
+  call-sum kk = rw (e, n .next, n .other) at (w .calls kk)
+
+  pub spent-value : (dep : List ℕ) (y : ℕ) → (k ≡ 1) ⊎ (k ≡ 3) → (getD d i 0 ≡ 0 → ⊥) → (getD d j 0 ≡ 0 → ⊥) → Levels k (getD dep i 0) (getD dep j 0) y → Value g c d dep v x y
+  spent-value dep y (inl kk) a b t =
+      forks (sym (n .kind) ∙ kk) (rw (n .next) at (some (getD d i 0) a)) (rw (n .other) at (some (getD d j 0) b)) (fork-sum kk) (rw (n .next, n .other) at (t .forks (λ z. omega (arith, kk, z))))
+  spent-value dep y (inr kk) a b t =
+      calls (sym (n .kind) ∙ kk) (rw (n .next) at (some (getD d i 0) a)) (rw (n .other) at (some (getD d j 0) b)) (call-sum kk) (rw (n .next, n .other) at (t .calls kk))
+
+  pub spent-over : (k ≡ 1) ⊎ (k ≡ 3) → 65535 < x → Idle g c d v
+  spent-over (inl kk) h = fork-over (sym (n .kind) ∙ kk) (omega (arith, h, fork-sum kk))
+  spent-over (inr kk) h = call-over (sym (n .kind) ∙ kk) (omega (arith, h, call-sum kk))
 
 module _ {g : Graph} {c : ℕ → ℕ} (d dep : List ℕ) (v : ℕ) (pos : 1 ≤ g .kind v → g .kind v ≤ 3 → 0 < c v) (dist : Dist g c d dep) (len : length dep ≡ length d) (l : v < length d) where
-  value-size : (x y : ℕ) → Value g c d dep v x y → (0 < x) × (x ≤ 65536) × (y + zeros d ≤ length d + 1)
-  value-size x y (ends kk e q) = (omega (arith, pos (omega (arith, kk)) (omega (arith, kk))), omega arith, omega (arith, zeros-le d))
-  value-size x y (forks kk a b e q) = (omega (arith, pos (omega (arith, kk)) (omega (arith, kk))), omega arith, omega (arith, dist .deep (g .next v), dist .deep (g .other v)))
-  value-size x y (calls kk a b e q) = (omega (arith, pos (omega (arith, kk)) (omega (arith, kk))), omega arith, omega (arith, dist .deep (g .next v), dist .deep (g .other v)))
+  value-size : (x y : ℕ) → Value g c d dep v x y → (0 < x) × (y + zeros d ≤ length d + 1)
+  value-size x y (ends kk e q) = (omega (arith, pos (omega (arith, kk)) (omega (arith, kk))), omega (arith, zeros-le d))
+  value-size x y (forks kk a b e q) = (omega (arith, pos (omega (arith, kk)) (omega (arith, kk))), omega (arith, dist .deep (g .next v), dist .deep (g .other v)))
+  value-size x y (calls kk a b e q) = (omega (arith, pos (omega (arith, kk)) (omega (arith, kk))), omega (arith, dist .deep (g .next v), dist .deep (g .other v)))
 
-  pub settle-new : (x y : ℕ) → getD d v 0 ≡ 0 → Value g c d dep v x y → Settled g c d v (set d v x) (set dep v y) 1
-  settle-new x y z val =
+  pub settle-new : (x y : ℕ) → getD d v 0 ≡ 0 → x < 65536 → Value g c d dep v x y → Settled g c d v (set d v x) (set dep v y) 1
+  settle-new x y z low val =
       let size = value-size x y val in
       let zs : zeros (set d v x) + 1 ≡ zeros d = zeros-set-pos d v x l z (size .0) in
       let lens : length (set d v x) ≡ length d = length-set d v x in
       record {
         dist = record {
-          cap = λ u. cases-set (λ a. a ≤ 65536) d v u x l (λ _. size .1) (λ _. dist .cap u);
-          deep = λ u. cases-set (λ a. a + zeros (set d v x) ≤ length (set d v x)) dep v u y (omega arith) (λ _. omega (arith, size .2)) (λ _. omega (arith, dist .deep u));
+          fits = λ u. cases-set (λ a. a < 65536) d v u x l (λ _. low) (λ _. dist .fits u);
+          deep = λ u. cases-set (λ a. a + zeros (set d v x) ≤ length (set d v x)) dep v u y (omega arith) (λ _. omega (arith, size .1)) (λ _. omega (arith, dist .deep u));
           value = λ u h. value u h (ℕ-discrete u v);
         };
         count = zs;
@@ -129,7 +154,7 @@ module _ {g : Graph} {c : ℕ → ℕ} where
             (y .0 ∙ x .0, record { at = λ v l. last v l (x .1) (rw (y .0 ∙ x .0) at (y .1)) (ℕ-discrete v i) });
       }
     where
-      last : (v : ℕ) → v < i + 1 → IdleTo g d i → Idle g d i → Dec (v ≡ i) → Idle g d v
+      last : (v : ℕ) → v < i + 1 → IdleTo g c d i → Idle g c d i → Dec (v ≡ i) → Idle g c d v
       last v l x y (yes e) = rw e y
       last v l x y (no ne) = x .at v (omega (arith, l, ne))
 
@@ -137,5 +162,5 @@ module _ {g : Graph} {c : ℕ → ℕ} where
   swept-end e a = rw e at a
 
   -- a sweep that changes nothing leaves the numbers idle
-  pub idle-after : {d d′ dep′ : List ℕ} {t r : ℕ} → Swept g c d t d′ dep′ r → r ≡ 0 → IdleTo g d′ t
+  pub idle-after : {d d′ dep′ : List ℕ} {t r : ℕ} → Swept g c d t d′ dep′ r → r ≡ 0 → IdleTo g c d′ t
   idle-after s e = let x = s .idle e in rw (x .0) (x .1)

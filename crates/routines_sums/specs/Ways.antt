@@ -9,7 +9,7 @@ use Rattle.graph.specs.Graph.{Graph}
 use Rattle.graph_search.specs.Marks.{zeros}
 use Rattle.routines_numbered.specs.Packed.{nodesIn}
 use Rattle.routines_numbered.specs.Numbering.{LinksLt}
-use Rattle.routines_sweep.specs.Dist.{Dist, Idle}
+use Rattle.routines_sums.specs.Dist.{Dist, Idle}
 
 -- RTI and RET end; a call leads to where its routine starts and to where it goes on
 unfoldable pub waysIn : List ℕ → Graph
@@ -29,12 +29,12 @@ pub record Priced (x : List ℕ) (n : ℕ) : Type 0 where
   pub links : (v : ℕ) → v < n → LinksLt x n v
   pub pos : (v : ℕ) → v < n → 1 ≤ nodesIn x v .kind → nodesIn x v .kind ≤ 4 → 0 < nodesIn x v .cost
 
--- the first t numbers have their sum, or can have none yet
-pub record IdleTo (g : Graph) (d : List ℕ) (t : ℕ) : Type 0 where
-  pub at : (v : ℕ) → v < t → Idle g d v
+-- the first t numbers have their sum, or can have none yet, or none that fits
+pub record IdleTo (g : Graph) (c : ℕ → ℕ) (d : List ℕ) (t : ℕ) : Type 0 where
+  pub at : (v : ℕ) → v < t → Idle g c d v
 
 -- they were settled, and r of them changed d
 pub record Swept (g : Graph) (c : ℕ → ℕ) (d : List ℕ) (t : ℕ) (d′ dep′ : List ℕ) (r : ℕ) : Type 0 where
   pub dist : Dist g c d′ dep′
   pub count : zeros d′ + r ≡ zeros d
-  pub idle : r ≡ 0 → (d′ ≡ d) × IdleTo g d t
+  pub idle : r ≡ 0 → (d′ ≡ d) × IdleTo g c d t

@@ -2,10 +2,9 @@
 use mathlib.Core.Path.{refl, sym, _∙_}
 use native.Mathlib.Omega.{arith}
 use Rattle.routines_numbered.specs.Packed.{nodeIn, nodesIn}
-use Rattle.routines_sweep.specs.Dist.{ends, has, out, next-waits, other-waits}
-use Rattle.routines_sweep.proofs.Settling.{settle-keep}
+use Rattle.routines_sums.specs.Dist.{ends, has, out, next-waits, other-waits}
 use Rattle.routines_sums.specs.Ways.{costsIn}
-use Rattle.routines_sums.proofs.Settling.{way-lt, cost-pos, cost-le, worth-value, settle-new}
+use Rattle.routines_sums.proofs.Settling.{settle-keep, way-lt, cost-pos, spent-value, spent-over, settle-new}
 use borrow.Author.Needs.{needs}
 use Rattle.routines_sums.proofs.settle.Statement.{statement}
 use Rattle.routines_sums.proofs.settle.Tie as tie
@@ -60,7 +59,7 @@ returns-2 c =
     let way-of = c .before .before .before .way-of in
     let if2 = c .if2 in
     let cost-of = c .before .cost-of in
-    settle-new _ _ _ (cost-pos (pre .0) _ (pre .3)) (pre .1) (pre .2) (pre .3) _ _ (if1 .left) (ends (sym (way-of .ensures .kind) ∙ if2 .taken) (omega (arith, cost-of .ensures)) refl)
+    settle-new _ _ _ (cost-pos (pre .0) _ (pre .3)) (pre .1) (pre .2) (pre .3) _ _ (if1 .left) (omega (arith, cost-of .ensures)) (ends (sym (way-of .ensures .kind) ∙ if2 .taken) (cost-of .ensures) refl)
 
 stays-requires : tie.Need-stays-requires
 stays-requires c κs = search needs
@@ -114,11 +113,22 @@ returns-5 c =
     let if5 = c .if5 in
     settle-keep (pre .1) (other-waits (λ e. if2 .left (way-of .ensures .kind ∙ e)) (rw (way-of .ensures .other) at (if5 .taken)))
 
-worth-requires : tie.Need-worth-requires
-worth-requires c κs =
+spent-requires : tie.Need-spent-requires
+spent-requires c κs =
     let cost-of = c .before .before .before .before .before .before .before .cost-of in
     let pre = c .before .before .before .before .before .before .before .before .before .before .before .before .before .before .before .pre in
-    (omega (arith, cost-of .ensures), pre .1 .cap _, pre .1 .cap _)
+    (omega (arith, cost-of .ensures), pre .1 .fits _, pre .1 .fits _)
+
+returns-6 : tie.Need-returns-6
+unfolding costsIn nodesIn nodeIn
+returns-6 c =
+    let pre = c .before .before .before .before .before .before .before .before .before .before .before .before .before .before .before .before .before .pre in
+    let way-of = c .before .before .before .before .before .before .before .before .before .before .before .way-of in
+    let cost-of = c .before .before .before .before .before .before .before .before .before .cost-of in
+    let stays = c .before .before .before .before .before .before .before .stays in
+    let if3 = c .before .before .before .before .before .before .if3 in
+    let spent = c .before .spent in
+    settle-keep (pre .1) (spent-over _ _ _ _ (way-of .ensures) (cost-of .ensures) (spent .ensures) (stays .ensures .one (if3 .left)) (c .if6 .taken))
 
 mul-d-2 : tie.Need-mul-d-2
 mul-d-2 c = search needs
@@ -128,32 +138,32 @@ slice-write-d-2 c = search needs
 
 mul-level : tie.Need-mul-level
 mul-level c =
-    let pre = c .before .before .before .before .before .before .before .before .before .before .before .before .before .before .before .before .pre in
-    let way-of = c .before .before .before .before .before .before .before .before .before .before .way-of in
+    let pre = c .before .before .before .before .before .before .before .before .before .before .before .before .before .before .before .before .before .pre in
+    let way-of = c .before .before .before .before .before .before .before .before .before .before .before .way-of in
     omega (arith, pre .0 .few, way-lt (pre .0) _ (pre .3) (way-of .ensures) .0)
 
 slice-read-level : tie.Need-slice-read-level
 slice-read-level c =
-    let pre = c .before .before .before .before .before .before .before .before .before .before .before .before .before .before .before .before .before .pre in
-    let way-of = c .before .before .before .before .before .before .before .before .before .before .before .way-of in
+    let pre = c .before .before .before .before .before .before .before .before .before .before .before .before .before .before .before .before .before .before .pre in
+    let way-of = c .before .before .before .before .before .before .before .before .before .before .before .before .way-of in
     omega (arith, pre .2, way-lt (pre .0) _ (pre .3) (way-of .ensures) .0)
 
 mul-level-2 : tie.Need-mul-level-2
 mul-level-2 c =
-    let pre = c .before .before .before .before .before .before .before .before .before .before .before .before .before .before .before .before .before .pre in
-    let way-of = c .before .before .before .before .before .before .before .before .before .before .before .way-of in
+    let pre = c .before .before .before .before .before .before .before .before .before .before .before .before .before .before .before .before .before .before .pre in
+    let way-of = c .before .before .before .before .before .before .before .before .before .before .before .before .way-of in
     omega (arith, pre .0 .few, way-lt (pre .0) _ (pre .3) (way-of .ensures) .1)
 
 slice-read-level-2 : tie.Need-slice-read-level-2
 slice-read-level-2 c =
-    let pre = c .before .before .before .before .before .before .before .before .before .before .before .before .before .before .before .before .before .before .pre in
-    let way-of = c .before .before .before .before .before .before .before .before .before .before .before .before .way-of in
+    let pre = c .before .before .before .before .before .before .before .before .before .before .before .before .before .before .before .before .before .before .before .pre in
+    let way-of = c .before .before .before .before .before .before .before .before .before .before .before .before .before .way-of in
     omega (arith, pre .2, way-lt (pre .0) _ (pre .3) (way-of .ensures) .1)
 
 level-requires : tie.Need-level-requires
 level-requires c κs =
-    let pre = c .before .before .before .before .before .before .before .before .before .before .before .before .before .before .before .before .before .before .pre in
-    let way-of = c .before .before .before .before .before .before .before .before .before .before .before .before .way-of in
+    let pre = c .before .before .before .before .before .before .before .before .before .before .before .before .before .before .before .before .before .before .before .pre in
+    let way-of = c .before .before .before .before .before .before .before .before .before .before .before .before .before .way-of in
     omega (arith, pre .0 .few, pre .1 .deep (way-of .result .first))
 
 mul-dep-2 : tie.Need-mul-dep-2
@@ -168,21 +178,22 @@ same-length-3 c = search needs
 same-length-4 : tie.Need-same-length-4
 same-length-4 c = search needs
 
-returns-6 : tie.Need-returns-6
+returns-7 : tie.Need-returns-7
 unfolding costsIn nodesIn nodeIn
-returns-6 c =
-    let pre = c .before .before .before .before .before .before .before .before .before .before .before .before .before .before .before .before .before .before .before .pre in
-    let if1 = c .before .before .before .before .before .before .before .before .before .before .before .before .before .before .if1 in
-    let way-of = c .before .before .before .before .before .before .before .before .before .before .before .before .before .way-of in
-    let cost-of = c .before .before .before .before .before .before .before .before .before .before .before .cost-of in
-    let stays = c .before .before .before .before .before .before .before .before .before .stays in
-    let if3 = c .before .before .before .before .before .before .before .before .if3 in
-    let if4 = c .before .before .before .before .before .before .if4 in
-    let if5 = c .before .before .before .before .if5 in
-    let worth = c .before .before .before .worth in
+returns-7 c =
+    let pre = c .before .before .before .before .before .before .before .before .before .before .before .before .before .before .before .before .before .before .before .before .pre in
+    let if1 = c .before .before .before .before .before .before .before .before .before .before .before .before .before .before .before .if1 in
+    let way-of = c .before .before .before .before .before .before .before .before .before .before .before .before .before .before .way-of in
+    let cost-of = c .before .before .before .before .before .before .before .before .before .before .before .before .cost-of in
+    let stays = c .before .before .before .before .before .before .before .before .before .before .stays in
+    let if3 = c .before .before .before .before .before .before .before .before .before .if3 in
+    let if4 = c .before .before .before .before .before .before .before .if4 in
+    let if5 = c .before .before .before .before .before .if5 in
+    let spent = c .before .before .before .before .spent in
+    let if6 = c .before .before .before .if6 in
     let level = c .level in
-    settle-new _ _ _ (cost-pos (pre .0) _ (pre .3)) (pre .1) (pre .2) (pre .3) _ _ (if1 .left)
-    (worth-value _ _ _ _ _ (way-of .ensures) (cost-of .ensures) (stays .ensures .one (if3 .left)) (if4 .left) (if5 .left) (worth .ensures) (level .ensures))
+    settle-new _ _ _ (cost-pos (pre .0) _ (pre .3)) (pre .1) (pre .2) (pre .3) _ _ (if1 .left) (omega (arith, if6 .left))
+    (spent-value _ _ _ _ (way-of .ensures) (cost-of .ensures) (spent .ensures) _ _ (stays .ensures .one (if3 .left)) (if4 .left) (if5 .left) (level .ensures))
 
 pub settle-spec : {M : Type 1} → statement M
 settle-spec =
@@ -210,7 +221,8 @@ settle-spec =
     mul-b
     slice-read-b
     returns-5
-    worth-requires
+    spent-requires
+    returns-6
     mul-d-2
     slice-write-d-2
     mul-level
@@ -222,4 +234,4 @@ settle-spec =
     slice-write-dep-2
     same-length-3
     same-length-4
-    returns-6)
+    returns-7)

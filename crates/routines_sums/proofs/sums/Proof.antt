@@ -5,16 +5,15 @@ use native.Mathlib.Omega.{arith}
 use lib.ListN.{length}
 use Rattle.graph_search.specs.Marks.{zeros}
 use Rattle.graph_search.proofs.Zeros.{within-blank}
-use Rattle.routines_sweep.specs.Dist.{Dist}
-use Rattle.routines_sweep.proofs.Settling.{dist-blank}
+use Rattle.routines_sums.specs.Dist.{Dist}
 use Rattle.routines_sums.specs.Ways.{waysIn, costsIn, IdleTo}
-use Rattle.routines_sums.proofs.Settling.{priced-at, idle-after}
+use Rattle.routines_sums.proofs.Settling.{dist-blank, priced-at, idle-after}
 use Rattle.routines_sums.proofs.sums.Statement.{statement}
 use Rattle.routines_sums.proofs.sums.Tie as tie
 
 abbrev Inv-loop : tie.InvT-loop
 Inv-loop words s d₀ dep₀ stage back changed₀ d dep changed =
-    (length d ≡ length d₀) × (length dep ≡ length dep₀) × Dist (waysIn words) (costsIn words) d dep × (changed ≡ 0 → IdleTo (waysIn words) d (length d))
+    (length d ≡ length d₀) × (length dep ≡ length dep₀) × Dist (waysIn words) (costsIn words) d dep × (changed ≡ 0 → IdleTo (waysIn words) (costsIn words) d (length d))
 
 abbrev μ-loop : tie.MeasureT-loop
 μ-loop words s d₀ dep₀ stage back changed₀ d dep changed =

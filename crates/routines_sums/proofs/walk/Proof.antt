@@ -5,7 +5,7 @@ use native.Mathlib.Omega.{arith}
 use lib.ListN.{length}
 use Rattle.graph_search.specs.Marks.{Within}
 use Rattle.graph_search.proofs.Zeros.{within-at}
-use Rattle.routines_sweep.specs.Dist.{Dist}
+use Rattle.routines_sums.specs.Dist.{Dist}
 use Rattle.routines_sums.specs.Ways.{waysIn, costsIn}
 use Rattle.routines_sums.proofs.Settling.{priced-at}
 use Rattle.routines_sums.proofs.walk.Statement.{statement}
