@@ -82,6 +82,14 @@ module _ (x m l x′ : List ℕ) {n : ℕ} (laid : Laid x m n) (calls : (v : ℕ
   unfolding nodesIn nodeIn
   chosen-others v = word v .other
 
+  pub chosen-into : (v : ℕ) → nodesIn x′ v .into ≡ nodesIn x v .into
+  unfolding nodesIn nodeIn
+  chosen-into v = word v .into
+
+  pub chosen-kind : (v : ℕ) → nodesIn x′ v .kind ≡ nodesIn x v .kind
+  unfolding nodesIn nodeIn
+  chosen-kind v = word v .kind
+
   next-lt : (v : ℕ) → v < n → nodesIn x′ v .next < n
   unfolding nodesIn nodeIn
   next-lt v h = go (ℕ-discrete (kindIn w) 3) (ℕ-discrete (getD l (intoIn w) 0) 0)
