@@ -1,0 +1,4 @@
+pub mod Moves
+pub mod Ways
+pub mod Along
+pub mod Some

@@ -1,0 +1,57 @@
+-- `routines_paths_new::deepest::turn` meets its contract.
+use mathlib.Core.Path.{refl}
+use mathlib.Core.Logic.{inl, inr}
+use Rattle.graph_search.proofs.Zeros.{wide16}
+use Rattle.routines_paths_new.proofs.deepest.Moves.{wide32, sum-fits}
+use borrow.Author.Needs.{needs}
+use Rattle.routines_paths_new.proofs.deepest.turn.Statement.{statement}
+use Rattle.routines_paths_new.proofs.deepest.turn.Tie as tie
+
+mul-most : tie.Need-mul-most
+mul-most c = search needs
+
+shared-slice-read-most : tie.Need-shared-slice-read-most
+shared-slice-read-most c = search needs
+
+cast-most : tie.Need-cast-most
+cast-most c = wide32 (c .shared-slice-known3 .given _)
+
+most-requires : tie.Need-most-requires
+most-requires c κs = search needs
+
+mul-most-2 : tie.Need-mul-most-2
+mul-most-2 c = search needs
+
+shared-slice-read-most-2 : tie.Need-shared-slice-read-most-2
+shared-slice-read-most-2 c = search needs
+
+cast-most-2 : tie.Need-cast-most-2
+cast-most-2 c = wide16 (c .shared-slice-known4 .given _)
+
+add-most : tie.Need-add-most
+add-most c = sum-fits _ _ (c .before .before .before .before .before .pre .1) (c .shared-slice-known4 .given (c .before .before .before .before .before .args .way .first))
+
+most-requires-2 : tie.Need-most-requires-2
+most-requires-2 c κs = search needs
+
+returns : tie.Need-returns
+returns c = inl (refl, rw (c .before .most2 .ensures, c .before .before .before .most .ensures) at (c .if1 .taken))
+
+returns-2 : tie.Need-returns-2
+returns-2 c = inr (refl, rw (c .before .most2 .ensures, c .before .before .before .most .ensures) at (c .if1 .left))
+
+pub turn-spec : {M : Type 1} → statement M
+turn-spec =
+    tie.close
+    (tie.spec
+    mul-most
+    shared-slice-read-most
+    cast-most
+    most-requires
+    mul-most-2
+    shared-slice-read-most-2
+    cast-most-2
+    add-most
+    most-requires-2
+    returns
+    returns-2)
