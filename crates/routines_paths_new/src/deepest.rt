@@ -36,8 +36,8 @@ fn turn(dep: &[u16], pend: &[u32], goal: usize, here: Deep, way: Way) -> usize
 {
     let top = here.top;
     let first = way.first;
-    let before = most(here.reached, pend[top] as usize);
-    let m = most(before, top + dep[first] as usize);
+    let later = pend[top] as usize;
+    let m = most(most(here.reached, later), top + dep[first] as usize);
     if goal <= m {
         return first;
     }

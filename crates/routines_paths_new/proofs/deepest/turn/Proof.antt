@@ -7,6 +7,18 @@ use borrow.Author.Needs.{needs}
 use Rattle.routines_paths_new.proofs.deepest.turn.Statement.{statement}
 use Rattle.routines_paths_new.proofs.deepest.turn.Tie as tie
 
+mul-later : tie.Need-mul-later
+mul-later c = search needs
+
+shared-slice-read-later : tie.Need-shared-slice-read-later
+shared-slice-read-later c = search needs
+
+cast-later : tie.Need-cast-later
+cast-later c = wide32 (c .shared-slice-known3 .given _)
+
+most-requires : tie.Need-most-requires
+most-requires c κs = search needs
+
 mul-most : tie.Need-mul-most
 mul-most c = search needs
 
@@ -14,19 +26,7 @@ shared-slice-read-most : tie.Need-shared-slice-read-most
 shared-slice-read-most c = search needs
 
 cast-most : tie.Need-cast-most
-cast-most c = wide32 (c .shared-slice-known3 .given _)
-
-most-requires : tie.Need-most-requires
-most-requires c κs = search needs
-
-mul-most-2 : tie.Need-mul-most-2
-mul-most-2 c = search needs
-
-shared-slice-read-most-2 : tie.Need-shared-slice-read-most-2
-shared-slice-read-most-2 c = search needs
-
-cast-most-2 : tie.Need-cast-most-2
-cast-most-2 c = wide16 (c .shared-slice-known4 .given _)
+cast-most c = wide16 (c .shared-slice-known4 .given _)
 
 add-most : tie.Need-add-most
 add-most c = sum-fits _ _ (c .before .before .before .before .before .pre .1) (c .shared-slice-known4 .given (c .before .before .before .before .before .args .way .first))
@@ -44,13 +44,13 @@ pub turn-spec : {M : Type 1} → statement M
 turn-spec =
     tie.close
     (tie.spec
+    mul-later
+    shared-slice-read-later
+    cast-later
+    most-requires
     mul-most
     shared-slice-read-most
     cast-most
-    most-requires
-    mul-most-2
-    shared-slice-read-most-2
-    cast-most-2
     add-most
     most-requires-2
     returns
