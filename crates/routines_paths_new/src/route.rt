@@ -3,7 +3,6 @@ use crate::place::more;
 use crate::place::put;
 use routines_sums::Way;
 use routines_sums::way_of;
-ghost use mathlib.Core.Path.{_≡_};
 ghost use Prim.Native.Nat.{_*_, _<_, _≤_};
 ghost use lib.ListN.{length, getD};
 ghost use Rattle.graph_search.specs.Marks.{Within};

@@ -1,7 +1,7 @@
 -- The moves of the depth's way, by what is read of a number, and the arrays to work in.
-use mathlib.Core.Path.{_≡_, refl, sym, ap, _∙_}
+use mathlib.Core.Path.{_≡_, sym, ap, _∙_}
 use mathlib.Core.Logic.{inl, inr}
-use mathlib.Core.List.{List, [], _∷_}
+use mathlib.Core.List.{List, _∷_}
 use Prim.Native.Nat.{ℕ, suc, _+_, _-_, _≤_, _<_, max}
 use native.Mathlib.Omega.{arith}
 use native.Mathlib.Numerals.{add-one}
@@ -11,7 +11,7 @@ use lib.Seq.{getD-set-same, getD-set-other}
 use mir.Val.{Fits}
 use mir.Syntax.{w16, w32, w64}
 use Rattle.graph.specs.Graph.{Graph}
-use Rattle.graph_search.specs.Marks.{Blank, Within}
+use Rattle.graph_search.specs.Marks.{Blank}
 use Rattle.graph_search.proofs.Zeros.{within-blank, within-set}
 use Rattle.routines_joined.specs.Words.{NodeIs}
 use Rattle.routines_paths_new.specs.Open.{openOf}

@@ -1,5 +1,5 @@
 -- Where the sums fall there is a way, and it has no more places than its sum.
-use mathlib.Core.Path.{_≡_, refl, sym, ap, _∙_}
+use mathlib.Core.Path.{_≡_, refl, ap}
 use mathlib.Core.List.{List, [], _∷_}
 use Prim.Native.Nat.{ℕ, zero, suc, _+_, _*_, _≤_, _<_}
 use native.Mathlib.Omega.{arith}
@@ -8,7 +8,7 @@ use lib.ListN.{length, getD}
 use Rattle.graph.specs.Graph.{Graph}
 use Rattle.graph_search.proofs.Zeros.{marked-lt}
 use Rattle.routines_paths_new.specs.Way.{pending, Positive, Falls, ends, forks, calls, Fall, Move, to-next, to-other, into, back, Route, last, move, LengthIs, Along}
-use Rattle.routines_paths_new.proofs.route.Ways.{Moved, moved, route-after, route-end, route-length}
+use Rattle.routines_paths_new.proofs.route.Ways.{moved, route-after, route-end, route-length}
 
 module _ {g : Graph} {d : List ℕ} (fall : Fall g d) where
   Some : List ℕ → ℕ → Type 0

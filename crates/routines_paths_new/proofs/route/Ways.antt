@@ -3,7 +3,7 @@ use mathlib.Core.Path.{_≡_, refl, sym, ap, _∙_}
 use mathlib.Core.List.{List, [], _∷_, _++_, append-assoc}
 use Prim.Native.Nat.{ℕ, suc, _+_, _*_, _≤_, _<_}
 use native.Mathlib.Omega.{arith}
-use lib.ListN.{length, getD, drop, length-append}
+use lib.ListN.{length, getD, length-append}
 use Rattle.graph.specs.Graph.{Graph}
 use Rattle.graph_search.proofs.Zeros.{marked-lt}
 use Rattle.routines_paths_new.specs.Way.{pending, Positive, Falls, ends, forks, calls, Fall, Move, to-next, to-other, into, back, Route, last, move, Roomy, Writing, Written}
