@@ -1,10 +1,9 @@
 // The handler bound: the most cycles that any path of the flow rules takes from an address to RTI, the greatest depth of its calls, and a path for each.
-use bound_plain::Plain;
-use bound_plain::bound_plain;
-use bound_routed::bound_routed;
+use bound_numbered::explore;
 use device::Device;
 use device::image_size;
 use device::is_banked;
+use graph::PLACES;
 use numbers::ADDRESS_OVER_8191;
 use numbers::BOUND_OVER_65535;
 use numbers::EXCLUDED_INSTRUCTION_REACHABLE;
@@ -17,10 +16,12 @@ use numbers::REPETITION_REACHABLE;
 use reader::p3_given;
 use routines_bound::Found;
 use routines_bound::Greatest;
+use routines_bound::bound_words;
 ghost use mathlib.Core.Path.{_≡_};
 ghost use Prim.Native.Nat.{_+_, _*_, _%_, _<_, _≤_};
 ghost use lib.ListN.{length};
 ghost use Rattle.device.specs.Device.{romOf, windowEnd};
+ghost use Rattle.graph_search.specs.Marks.{Blank};
 ghost use Rattle.reader.specs.Answer.{p3Given};
 ghost use Rattle.routines.specs.Answer.{Answer};
 ghost use Rattle.routines_bound.specs.Handler.{foundOf};
@@ -43,20 +44,34 @@ pub enum Bounded {
     Bounds(Greatest),
 }
 
-// The bound from an address of the image. Where the outer routine reaches no call it is the whole handler.
+// The same as found, with arrays of zeros lent to number the places in.
+fn found_in(
+    d: Device,
+    image: &[u8],
+    p3: u8,
+    address: usize,
+    path: &mut [u8],
+    deep: &mut [u8],
+    map: &mut [u16],
+    words: &mut [u64],
+) -> Found
+    requires { ⌜ (windowEnd p3 ≤ length (now image)) × (address < 8192) × Blank (now map) × (length (now map) ≡ 16384) × Blank (now words) × (length (now words) ≡ 16384) ⌝ }
+    ensures { λ r. ⌜ Answer (callFlow d (romOf (now (image .entry)) p3) address) (callCycles d (romOf (now (image .entry)) p3)) addressOf
+        (now (path .entry)) (now (path .exit)) (now (deep .entry)) (now (deep .exit)) (foundOf r) ⌝ }
+{
+    let n = explore(d, image, p3, address, map, words);
+    bound_words(words, map, n, path, deep)
+}
+
+// The bound from an address of the image.
 fn found(d: Device, image: &[u8], p3: u8, address: usize, path: &mut [u8], deep: &mut [u8]) -> Found
     requires { ⌜ (windowEnd p3 ≤ length (now image)) × (address < 8192) ⌝ }
     ensures { λ r. ⌜ Answer (callFlow d (romOf (now (image .entry)) p3) address) (callCycles d (romOf (now (image .entry)) p3)) addressOf
         (now (path .entry)) (now (path .exit)) (now (deep .entry)) (now (deep .exit)) (foundOf r) ⌝ }
 {
-    let plain = bound_plain(d, image, p3, address, path, deep);
-    match plain {
-        Plain::Calls => bound_routed(d, image, p3, address, path, deep),
-        Plain::Excluded(at) => Found::Excluded(at),
-        Plain::Repeats(at) => Found::Repeats(at),
-        Plain::Short(bytes) => Found::Short(bytes),
-        Plain::Longest(cycles) => Found::Bounds(Greatest { cycles, depth: 0 }),
-    }
+    let mut map = [0u16; PLACES];
+    let mut words = [0u64; PLACES];
+    found_in(d, image, p3, address, path, deep, &mut map, &mut words)
 }
 
 fn answer(found: Found) -> Bounded

@@ -75,7 +75,7 @@ module _ (d : Device) (rom : ℕ → ℕ) (bytes : (at : ℕ) → rom at < 256) 
     into = λ v h k. rw (first-is v h k) (a .explored .holds v h .into k);
   }
 
-  calls : (v : ℕ) → flowAt x m .kind v ≡ 3 → v < n
+  pub calls : (v : ℕ) → flowAt x m .kind v ≡ 3 → v < n
   unfolding flowAt nodesIn nodeIn
   calls v k = go (decLt v n)
     where
@@ -95,6 +95,13 @@ module _ (d : Device) (rom : ℕ → ℕ) (bytes : (at : ℕ) → rom at < 256) 
 
   pub region : Region (flowAt x m) (λ v. v < n)
   region = shape.region numbered
+
+  -- what is not excluded costs something
+  pub pays : (v : ℕ) → v < n → 1 ≤ nodesIn x v .kind → nodesIn x v .kind ≤ 4 → 0 < nodesIn x v .cost
+  unfolding callFlow callCycles
+  pays v h i j =
+      let w = a .explored .holds v h in
+      omega (arith, w .cost, call-node-good d rom bytes (nameIn x v) (name-lt x v) .pos (omega (arith, i, w .kind)) (omega (arith, j, w .kind)))
 
   -- 24, 21, 22, 25, 23 or N with the depth, with the same bytes
   pub answer-of-image : {p p′ q q′ : List ℕ} {r : Found} → Answer (flowAt x m) (λ v. nodesIn x v .cost) (addressIn x) p p′ q q′ r → Answer f (callCycles d rom) addressOf p p′ q q′ r

@@ -1,145 +1,112 @@
 -- A sound handler whose sums and depths are settled: 25, 23, or N and the depth with their paths.
-use mathlib.Core.Path.{_≡_, refl, sym, subst}
-use mathlib.Core.Bool.{Bool}
+use mathlib.Core.Path.{_≡_, refl, sym}
 use mathlib.Core.List.{List, []}
-use Prim.Native.Nat.{ℕ, _+_, _*_, _/_, _≤_, _<_}
+use Prim.Native.Nat.{ℕ, _*_, _≤_, _<_}
 use native.Mathlib.Omega.{arith}
 use lib.ListN.{length, getD, drop}
-use Rattle.graph.specs.Graph.{Graph, here, sum}
-use Rattle.graph.specs.Laid.{graphOf, costOf}
-use Rattle.routines.specs.Calling.{Flow, Routine, outer, In, Live, handler, HandlerPath, depth}
+use Rattle.graph.specs.Graph.{Graph, sum}
+use Rattle.graph_search.proofs.Zeros.{marked-lt}
+use Rattle.routines.specs.Calling.{Flow, Routine, outer, unknown, In, Live, IsBad, IsLoop, HandlerPath, depth, FirstOf}
 use Rattle.routines.specs.Answer as answer
-use Rattle.routines.specs.Answer.{bytesOf, HasBound, Kept, PathAnswer, gives-25, gives-23, gives-23-depth, gives-N, FlowAnswer, bounded}
-use Rattle.routines.proofs.Done.{Done, done}
-use Rattle.routines.proofs.Exists.{has-bound}
-use Rattle.routines.specs.Joined.{code}
-use Rattle.routines.specs.Losing.{knownBy}
-use Rattle.routines_marks.specs.Marking.{flowIn}
-use Rattle.routines_judge.specs.Judging.{flowFrom, marksOf}
-use Rattle.routines_coded.specs.Nodes.{CodedTo}
-use Rattle.routines_route.specs.Way as way
-use Rattle.routines_deep.specs.Deep as deep
-use Rattle.routines_deep.proofs.Some.{deep-route}
-use Rattle.routines_sweep.specs.Dist.{Dist, IdleFrom}
-use Rattle.routines_whole.specs.Coded.{outOf, Shaped}
-use Rattle.routines_whole.specs.Paths.{PathOf}
-use Rattle.routines_whole.proofs.Chain.{depths, route-is-path, n-over, fall-all}
-use Rattle.routines_whole.proofs.Deepest.{route-is-deepest}
-use Rattle.routines_whole.proofs.AllHave.{all-have, idle-all}
+use Rattle.routines.specs.Answer.{bytesOf, HasBound, gives-21, gives-22, gives-25, gives-23, gives-23-depth, gives-N, FlowAnswer, bounded}
+use Rattle.routines.proofs.Done.{Done, done, in-lt}
+use Rattle.routines.proofs.Exists.{first-of-handler}
+use Rattle.routines_joined.specs.Words.{flowAt}
+use Rattle.routines_joined.specs.Refused.{addressIn, Judges}
+use Rattle.routines_joined.specs.declared.Judgement.{Judgement}
+use Rattle.routines_joined.proofs.Nodes.{small}
+use Rattle.routines_sums.specs.Dist.{Dist, Idle}
+use Rattle.routines_sums.specs.Ways.{waysIn, costsIn, Priced, IdleTo}
+use Rattle.routines_sums.proofs.Settling.{cost-pos}
+use Rattle.routines_paths.specs.Way as way
+use Rattle.routines_paths.specs.Way.{Fall}
+use Rattle.routines_paths.specs.Deep as deep
 use Rattle.routines_paths.specs.Paths.{Paths, first-short, second-short, written}
-use Rattle.routines_bound.specs.Handler.{foundOf, Measures, Comes, ToSettle, SettledTo}
+use Rattle.routines_bound.specs.Handler.{foundOf, Words, Settles, JudgedBy, Comes, Measured}
 use Rattle.routines_bound.specs.declared.Found.{Found}
-use Rattle.routines_bound.proofs.Joins.{small, on-queue, queue-fits, shaped, nodes, costly, cost-at, pays, place-of}
+use Rattle.routines_bound.proofs.Ways.{Ways, ways-of}
+use Rattle.routines_bound.proofs.Settled.{fall-of, sums-of, depths-of, over}
+use Rattle.routines_bound.proofs.Routes.{longest-is, deepest-is}
 
-module _ (k nx o en c losing q : List ℕ) (count s : ℕ) (measures : Measures k nx o en c losing q count s) (ck cn co cc : List ℕ)
-    (coded : CodedTo (flowIn k nx o en) (knownBy (flowIn k nx o en) (marksOf losing)) c q count ck cn co cc) (d dep : List ℕ)
-    (dist : Dist (graphOf ck cn co) (costOf cc) d dep) (idle : IdleFrom (graphOf ck cn co) d q 2048 count) where
+-- what settling and the paths ask for
+pub priced : {x m : List ℕ} {n : ℕ} → Words x m n → Priced x n
+priced w = record { words = w .laid .words; few = w .laid .few; links = w .laid .links; pos = w .pays }
+
+pub falls : {x d dep : List ℕ} → Priced x (length d) → Dist (waysIn x) (costsIn x) d dep → Fall (waysIn x) d
+falls {d = d} p dist = fall-of dist (λ v h. cost-pos p v (marked-lt d v h))
+
+-- 21 and 22
+module _ {x m : List ℕ} {j : Judgement} (by : JudgedBy x m j) (p q : List ℕ) where
+  pub excluded-answer : {a : ℕ} → j ≡ Judgement.Excluded a → FlowAnswer (flowAt x m) (costsIn x) (addressIn x) p p q q unknown (answer.excluded a)
+  unfolding Judges
+  excluded-answer e = let w = rw e at (by .is) in gives-21 (w .lowest) (record { first = refl; second = refl })
+
+  pub repeats-answer : {a : ℕ} → j ≡ Judgement.Repeats a → FlowAnswer (flowAt x m) (costsIn x) (addressIn x) p p q q unknown (answer.repetition a)
+  unfolding Judges
+  repeats-answer e = let w = rw e at (by .is) in gives-22 (w .no-bad) (w .lowest) (record { first = refl; second = refl })
+
+module _ (x m : List ℕ) {n : ℕ} (settles : Settles x m n) (no-bad : (v : ℕ) → IsBad (flowAt x m) unknown v → ⊥) (no-loop : (v : ℕ) → IsLoop (flowAt x m) unknown v → ⊥) where
   abbrev f : Flow
-  f = flowFrom k nx o en s
+  f = flowAt x m
 
-  abbrev K : ℕ → Bool
-  K = knownBy f (marksOf losing)
+  ways : Ways f unknown (waysIn x)
+  ways = ways-of x m (settles .words .laid) (settles .words .first) no-bad
 
-  abbrev g : Graph
-  g = graphOf ck cn co
+  ends : Done f unknown outer (f .start)
+  ends = done f unknown (small x m (settles .words .laid)) (settles .words .widens) (settles .none) no-bad no-loop
 
-  shape : Shaped f K g
-  shape = shaped k nx o en losing s c q count measures ck cn co cc coded
+  -- some first path by any measure
+  bound-of : {l t : List ℕ} → FirstOf f (HandlerPath f unknown) (sum (costsIn x)) l → FirstOf f (HandlerPath f unknown) (depth f) t → HasBound f (costsIn x) unknown (sum (costsIn x) l) (depth f t) l t
+  bound-of a b = record { no-bad = no-bad; no-loop = no-loop; longest = a; sum = refl; deepest = b; depth = refl }
 
-  ends : Done f K outer (f .start)
-  ends = done f K (small k nx o en losing s (measures .flow) (measures .start)) (measures .widens) (measures .judged .no-recursion) (measures .sound .no-bad) (measures .sound .no-loop)
+  module _ (d dep : List ℕ) (dist : Dist (waysIn x) (costsIn x) d dep) where
+    too-large : IdleTo (waysIn x) (costsIn x) d n → (p q : List ℕ) → getD d (f .start) 0 ≡ 0 → FlowAnswer f (costsIn x) (addressIn x) p p q q unknown answer.too-large
+    too-large idle p q z =
+        let a = first-of-handler ends (sum (costsIn x)) in
+        let b = first-of-handler ends (depth f) in
+        let y = over f unknown (waysIn x) (costsIn x) d dep ways dist (λ r v l i. idle .at v (in-lt f unknown (small x m (settles .words .laid)) l i)) ends z in
+        bounded (bound-of (a .1) (b .1)) (gives-25 (omega (arith, a .1 .most (y .0) (y .1), y .2)) (record { first = refl; second = refl }))
 
-  pub has : (r : Routine) (v : ℕ) → Live f K r → In f K r v → 0 < getD d (code 0 r v) 0
-  has = all-have f K g d shape (idle-all f K (on-queue k nx o en losing s c q count measures) idle) ends
+    module _ (has : 0 < getD d (f .start) 0) where
+      path-of : {l : List ℕ} → way.Route (waysIn x) d [] (f .start) l → FirstOf f (HandlerPath f unknown) (sum (costsIn x)) l × (sum (costsIn x) l ≡ getD d (f .start) 0)
+      path-of p = longest-is f unknown (waysIn x) d ways (sums-of f unknown (waysIn x) (costsIn x) d dep ways dist has) p
 
-  costs : (r : Routine) (v : ℕ) → Live f K r → In f K r v → costOf cc (code 0 r v) ≡ costOf c v
-  costs = cost-at k nx o en losing s c q count measures ck cn co cc coded
+      deep-of : {l : List ℕ} → deep.Route (waysIn x) dep (getD dep (f .start) 0) 0 [] (f .start) l → FirstOf f (HandlerPath f unknown) (depth f) l × (depth f l ≡ getD dep (f .start) 0)
+      deep-of p = deepest-is f unknown (waysIn x) dep ways (depths-of f unknown (waysIn x) (costsIn x) d dep ways dist has) p
 
-  abbrev N : ℕ
-  N = outOf d (f .start)
+      module _ (p p′ q q′ : List ℕ) (k : ℕ) where
+        short : Paths (waysIn x) (addressIn x) d dep (f .start) p p′ q q′ k → (k ≡ 0 → ⊥) → FlowAnswer f (costsIn x) (addressIn x) p p′ q q′ unknown (answer.short k)
+        short (first-short l e h a b) ne =
+            let y = path-of (l .is) in
+            let size : k ≡ 2 * length (l .route) = omega (arith, e, l .len) in
+            rw size (bounded (bound-of (y .0) (first-of-handler ends (depth f) .1)) (gives-23 (omega (arith, y .1, dist .fits (f .start))) (omega (arith, h, size)) (record { first = a; second = b })))
+        short (second-short l room w e h a b) ne =
+            let y = path-of (l .is) in
+            let t = deep-of (w .is) in
+            let size : k ≡ 2 * length (w .route) = omega (arith, e, w .len) in
+            rw size (bounded (bound-of (y .0) (t .0)) (gives-23-depth (omega (arith, y .1, dist .fits (f .start))) (omega (arith, room, l .len)) (omega (arith, h, size)) (record { first = a; second = b })))
+        short (written e w t) ne = absurd (ne e)
 
-  abbrev D : ℕ
-  D = outOf dep (f .start)
-
-  pub has-start : 0 < N
-  has-start = has outer (f .start) handler here
-
-  -- where N is over 65,535
-  pub too-large : (p r : List ℕ) → 65536 ≤ N → FlowAnswer f (costOf c) (λ v. v / 2) p p r r K answer.too-large
-  too-large p r high =
-      let h = has-bound f (costOf c) K (small k nx o en losing s (measures .flow) (measures .start)) (measures .widens) (measures .judged) (measures .sound .no-bad) (measures .sound .no-loop) in
-      let x = n-over f K g (costOf cc) (costOf c) d dep shape costs (measures .sound .no-bad) dist has ends high in
-      bounded (h .4) (gives-25 (omega (arith, h .4 .sum, h .4 .longest .most (x .0) (x .1), x .2)) (record { first = refl; second = refl }))
-
-  module _ (low : N < 65536) where
-    pub fall : way.Fall g d
-    fall =
-        fall-all f K g (costOf cc) (costOf c) d dep shape costs (measures .sound .no-bad) dist has
-        (pays k nx o en losing s c q count measures ck cn co cc coded d dep dist)
-        (place-of k nx o en losing s c q count measures ck cn co cc coded d dep dist)
-        low
-
-    path-of : {route : List ℕ} → way.Route g d [] (code 0 outer (f .start)) route → PathOf f K (sum (costOf c)) N route
-    path-of is = route-is-path f K g (costOf cc) (costOf c) d dep shape costs (measures .sound .no-bad) dist has low is
-
-    deep-of : {route : List ℕ} → deep.Route g dep D 0 [] (code 0 outer (f .start)) route → PathOf f K (depth f) D route
-    deep-of is = route-is-deepest f K g dep shape (measures .sound .no-bad) (depths f K g (costOf cc) (costOf c) d dep shape costs (measures .sound .no-bad) dist has) is
-
-    bound-of : {a b : List ℕ} (x : PathOf f K (sum (costOf c)) N a) (y : PathOf f K (depth f) D b) → HasBound f (costOf c) K N D (x .path) (y .path)
-    bound-of x y =
-        record { no-bad = measures .sound .no-bad; no-loop = measures .sound .no-loop; longest = x .first; sum = sym (x .value); deepest = y .first; depth = sym (y .value) }
-
-    some-deep : (route : List ℕ) × deep.Route g dep D 0 [] (code 0 outer (f .start)) route
-    some-deep = let x = deep-route fall dep D (code 0 outer (f .start)) has-start in (x .0, x .1)
-
-    module _ (p p′ r r′ : List ℕ) (n : ℕ) where
-      pub short : Paths g d dep (code 0 outer (f .start)) p p′ r r′ n → (n ≡ 0 → ⊥) → FlowAnswer f (costOf c) (λ v. v / 2) p p′ r r′ K (answer.short n)
-      short (first-short l e h a b) ne =
-          let x = path-of (l .is) in
-          let y = deep-of (some-deep .1) in
-          let size : n ≡ 2 * length (x .path) = omega (arith, e, l .len, x .long) in
-          rw size (bounded (bound-of x y) (gives-23 (omega arith) (omega (arith, h, size)) (record { first = a; second = b })))
-      short (second-short l room w e h a b) ne =
-          let x = path-of (l .is) in
-          let y = deep-of (w .is) in
-          let size : n ≡ 2 * length (y .path) = omega (arith, e, w .len, y .long) in
-          rw size (bounded (bound-of x y) (gives-23-depth (omega arith) (omega (arith, room, l .len, x .long)) (omega (arith, h, size)) (record { first = a; second = b })))
-      short (written e w x) ne = absurd (ne e)
-
-      pub both : Paths g d dep (code 0 outer (f .start)) p p′ r r′ n → n ≡ 0 → FlowAnswer f (costOf c) (λ v. v / 2) p p′ r r′ K (answer.bounds N D)
-      both (first-short l e h a b) z = absurd (omega (arith, h, z))
-      both (second-short l room w e h a b) z = absurd (omega (arith, h, z))
-      both (written e w t) z =
-          let x = path-of (w .is) in
-          let y = deep-of (t .is) in
-          bounded (bound-of x y)
-          (gives-N (omega arith) (omega (arith, w .room, x .long)) (omega (arith, t .room, y .long)) (rw (← x .bytes, x .long) (w .bytes)) (rw (← y .bytes, y .long) (t .bytes)))
+        both : Paths (waysIn x) (addressIn x) d dep (f .start) p p′ q q′ k → k ≡ 0 → FlowAnswer f (costsIn x) (addressIn x) p p′ q q′ unknown (answer.bounds (getD d (f .start) 0) (getD dep (f .start) 0))
+        both (first-short l e h a b) z = absurd (omega (arith, h, z))
+        both (second-short l room w e h a b) z = absurd (omega (arith, h, z))
+        both (written e w t) z =
+            let y = path-of (w .is) in
+            let u = deep-of (t .is) in
+            rw (← y .1, ← u .1) (bounded (bound-of (y .0) (u .0)) (gives-N (omega (arith, y .1, dist .fits (f .start))) (w .room) (t .room) (w .bytes) (t .bytes)))
 
   -- what the code comes to is the answer
-  pub answered : {p p′ r r′ : List ℕ} {x : Found} → Comes g d dep (code 0 outer s) p p′ r r′ x → FlowAnswer f (costOf c) (λ v. v / 2) p p′ r r′ K (foundOf x)
-  unfolding flowFrom
-  answered {p} {r = r} (Comes.too-large h a b) = rw (a, b) (too-large p r h)
-  answered {p} {p′} {r} {r′} (Comes.short {n} low w ne) = short low p p′ r r′ n w ne
-  answered {p} {p′} {r} {r′} (Comes.bounds {n = n} low w z a b) = rw (a, b) (both low p p′ r r′ n w z)
+  pub measured-answer : {p p′ q q′ : List ℕ} {r : Found} → Measured x n p p′ q q′ r → FlowAnswer f (costsIn x) (addressIn x) p p′ q q′ unknown (foundOf r)
+  unfolding flowAt
+  measured-answer {p} {p′} {q} {q′} w = go (w .comes)
+    where
+      go : {r : Found} → Comes (waysIn x) (addressIn x) (w .d) (w .dep) p p′ q q′ r → FlowAnswer f (costsIn x) (addressIn x) p p′ q q′ unknown (foundOf r)
+      go (Comes.too-large h a b) = rw (a, b) (too-large (w .d) (w .dep) (w .dist) (w .idle) p q h)
+      go (Comes.short {n = k} h y ne) = short (w .d) (w .dep) (w .dist) h p p′ q q′ k y ne
+      go (Comes.bounds {n = k} h y z a b) = rw (a, b) (both (w .d) (w .dep) (w .dist) h p p′ q q′ k y z)
 
-module _ (k nx o en c losing q : List ℕ) (count s : ℕ) (measures : Measures k nx o en c losing q count s) (ck cn co cc : List ℕ)
-    (coded : CodedTo (flowIn k nx o en) (knownBy (flowIn k nx o en) (marksOf losing)) c q count ck cn co cc) where
-  start-is : code 0 outer s ≡ 2 * s + 1
-  start-is = omega arith
-
-  pub to-settle : ToSettle ck cn co cc q count (2 * s + 1)
-  unfolding flowFrom
-  to-settle =
-      record {
-        nodes = nodes k nx o en losing s c q count measures ck cn co cc coded;
-        costly = costly k nx o en losing s c q count measures ck cn co cc coded;
-        queue = queue-fits k nx o en losing s c q count measures;
-        inside = omega (arith, measures .start);
-        has = λ d dep dist idle. subst (λ a. 0 < getD d a 0) start-is (has-start k nx o en c losing q count s measures ck cn co cc coded d dep dist idle);
-        falls = λ d dep dist idle low. fall k nx o en c losing q count s measures ck cn co cc coded d dep dist idle (subst (λ a. getD d a 0 < 65536) (sym start-is) low);
-      }
-
-  pub from-settled : {p p′ r r′ : List ℕ} {x : Found} → SettledTo (graphOf ck cn co) (costOf cc) q count (2 * s + 1) p p′ r r′ x
-      → FlowAnswer (flowFrom k nx o en s) (costOf c) (λ v. v / 2) p p′ r r′ (knownBy (flowFrom k nx o en s) (marksOf losing)) (foundOf x)
-  from-settled {p} {p′} {r} {r′} {x} t =
-      answered k nx o en c losing q count s measures ck cn co cc coded (t .d) (t .dep) (t .dist) (t .idle) (subst (λ a. Comes (graphOf ck cn co) (t .d) (t .dep) a p p′ r r′ x) (sym start-is) (t .comes))
+-- where it is judged sound
+pub sound-answer : {x m : List ℕ} {n k : ℕ} {j : Judgement} → Settles x m n → JudgedBy x m j → j ≡ Judgement.Sound k → {p p′ q q′ : List ℕ} {r : Found} → Measured x n p p′ q q′ r
+    → FlowAnswer (flowAt x m) (costsIn x) (addressIn x) p p′ q q′ unknown (foundOf r)
+unfolding Judges
+sound-answer {x} {m} settles by e w = let s = rw e at (by .is) in measured-answer x m settles (s .no-bad) (s .no-loop) w

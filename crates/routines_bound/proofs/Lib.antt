@@ -1,3 +1,6 @@
-pub mod Joins
+pub mod Ways
+pub mod Settled
+pub mod Routes
 pub mod Answers
-pub mod Known
+pub mod Calls
+pub mod Parts

@@ -1,30 +1,29 @@
-// The bound of a handler that may call, of its flow in arrays: 24, 21, 22, 25, 23, or N and the depth with a path for each.
+// The bound of a handler whose routines are words by number: 24, 21, 22, 25, 23, or N and the depth with a path for each.
+// The arrays of each part are gone before the next begins, so that no more than 512 KiB are in use with the words and the map.
 use graph::PLACES;
-use routines_coded::lay_coded;
-use routines_judge::ENTRIES;
-use routines_judge::Judgement;
-use routines_judge::NODES;
-use routines_judge::judge;
-use routines_judge::recursion;
-use routines_marks::mark_losing;
+use routines_joined::ENTRIES;
+use routines_joined::Judgement;
+use routines_joined::NODES;
+use routines_joined::judge;
+use routines_joined::recursion;
+use routines_known::choose;
+use routines_known::mark_losing;
+use routines_numbered::kind_of;
 use routines_paths::write_paths;
-use routines_sweep::sums;
+use routines_sums::sums;
 ghost use mathlib.Core.Path.{_≡_};
-ghost use Prim.Native.Nat.{_/_, _<_};
-ghost use lib.ListN.{length, getD};
-ghost use Rattle.graph.specs.Laid.{places, mostNodes, graphOf, costOf};
-ghost use Rattle.graph_search.specs.Marks.{Blank, Queue};
-ghost use Rattle.routines.specs.Shape.{Widens};
+ghost use mathlib.Core.Bool.{false};
+ghost use Prim.Native.Nat.{_<_, _≤_};
+ghost use lib.ListN.{length};
+ghost use Rattle.graph_search.specs.Marks.{Blank};
+ghost use Rattle.routines.specs.Calling.{unknown};
 ghost use Rattle.routines.specs.Answer.{FlowAnswer, Answer};
-ghost use Rattle.routines.specs.Losing.{knownBy};
-ghost use Rattle.routines_marks.specs.Marking.{flowIn, AllLose, IdleOn};
-ghost use Rattle.routines_judge.specs.Judging.{FlowLaid, flowFrom, marksOf};
-ghost use Rattle.routines_judge.specs.Answers.{NothingRecurs, Recursion, Judges};
-ghost use Rattle.routines_route.specs.Arrays.{Nodes};
-ghost use Rattle.routines_route.specs.Way.{Fall};
-ghost use Rattle.routines_sweep.specs.Dist.{Costly, Dist, IdleFrom};
-ghost use Rattle.routines_coded.specs.Nodes.{Sized};
-ghost use Rattle.routines_bound.specs.Handler.{foundOf, HandlerLaid, CallsJudged, Measures, Comes, ToSettle, SettledTo};
+ghost use Rattle.routines_joined.specs.Words.{flowAt, Laid, Works};
+ghost use Rattle.routines_joined.specs.Refused.{Recursion, addressIn};
+ghost use Rattle.routines_known.specs.Marking.{Sized};
+ghost use Rattle.routines_sums.specs.Dist.{Dist};
+ghost use Rattle.routines_sums.specs.Ways.{waysIn, costsIn, Priced, IdleTo};
+ghost use Rattle.routines_bound.specs.Handler.{foundOf, NoCall, HandlerWords, Settles, JudgedBy, ChosenBy, Comes, Measured};
 
 // The greatest of what is spent, and of the calls that are open at once.
 pub struct Greatest {
@@ -42,449 +41,294 @@ pub enum Found {
     Bounds(Greatest),
 }
 
-// A place has at most three edges to others.
+// A number has at most three edges to others.
 const EDGES: usize = 49152;
 
-// A place is two nodes, one in called routines and one in the outer one.
-const BOTH: usize = 32768;
-
-// Settles the sums and depths of the nodes of the queue.
-fn settle_nodes(
-    kind: &[u8],
-    next: &[u16],
-    other: &[u16],
-    cost: &[u32],
-    at: usize,
-    queue: &[u16],
-    count: usize,
-    d: &mut [u32],
-    dep: &mut [u16],
-)
-    requires { ⌜ Nodes (now kind) (now next) (now other) 32768 × Costly (now kind) (now cost) 32768 × (at < 32768) × Queue (now queue) count mostNodes
-        × (length (now d) ≡ 32768) × Blank (now d) × (length (now dep) ≡ 32768) × Blank (now dep) ⌝ }
-    ensures { λ _. ⌜ Dist (graphOf (now (kind .entry)) (now (next .entry)) (now (other .entry))) (costOf (now (cost .entry))) (now (d .exit)) (now (dep .exit))
-        × IdleFrom (graphOf (now (kind .entry)) (now (next .entry)) (now (other .entry))) (now (d .exit)) (now (queue .entry)) 2048 count ⌝ }
+// Whether one of the first n words is a call.
+fn has_call(words: &[u64], n: usize) -> bool
+    requires { ⌜ n ≤ length (now words) ⌝ }
+    ensures { λ r. ⌜ (r ≡ false → NoCall (now (words .entry)) n) ⌝ }
 {
-    let mut stage = [0u8; BOTH];
-    let mut back = [0u16; BOTH];
-    sums(
-        kind,
-        next,
-        other,
-        cost,
-        at,
-        queue,
-        ENTRIES,
-        count,
-        d,
-        dep,
-        &mut stage,
+    let mut v = 0;
+    while v < n {
+        if kind_of(words[v]) == 3 {
+            return true;
+        }
+        v += 1;
+    }
+    false
+}
+
+// The same as lowest_recursion, with arrays lent for all nodes that there can be.
+fn recursion_in(
+    words: &[u64],
+    map: &[u16],
+    n: usize,
+    marks: &mut [u8],
+    queue: &mut [u16],
+    rank: &mut [u16],
+    number: &mut [u16],
+    back: &mut [u16],
+    stage: &mut [u8],
+) -> usize
+    requires { ⌜ Laid (now words) (now map) n × (length (now marks) ≡ 34816) × Works (now marks) (now queue) (now rank) (now number) (now back) (now stage) ⌝ }
+    ensures { λ r. ⌜ Recursion (flowAt (now (words .entry)) (now (map .entry))) r ⌝ }
+{
+    let nodes = ENTRIES + 2 * n;
+    recursion(
+        words,
+        map,
+        &mut marks[..nodes],
+        &mut queue[..nodes],
+        &mut rank[..nodes],
+        &mut number[..nodes],
+        &mut back[..nodes],
+        &mut stage[..nodes],
+    )
+}
+
+// The lowest entry that recurs, or 2,048 or more.
+fn lowest_recursion(words: &[u64], map: &[u16], n: usize) -> usize
+    requires { ⌜ Laid (now words) (now map) n ⌝ }
+    ensures { λ r. ⌜ Recursion (flowAt (now (words .entry)) (now (map .entry))) r ⌝ }
+{
+    let mut marks = [0u8; NODES];
+    let mut queue = [0u16; NODES];
+    let mut rank = [0u16; NODES];
+    let mut number = [0u16; NODES];
+    let mut back = [0u16; NODES];
+    let mut stage = [0u8; NODES];
+    recursion_in(
+        words,
+        map,
+        n,
+        &mut marks,
+        &mut queue,
+        &mut rank,
+        &mut number,
         &mut back,
-    );
+        &mut stage,
+    )
+}
+
+// The same as judged, with arrays lent for all nodes that there can be.
+fn judged_in(
+    words: &[u64],
+    map: &[u16],
+    n: usize,
+    marks: &mut [u8],
+    queue: &mut [u16],
+    rank: &mut [u16],
+    number: &mut [u16],
+    back: &mut [u16],
+    stage: &mut [u8],
+) -> Judgement
+    requires { ⌜ Settles (now words) (now map) n × (length (now marks) ≡ 34816) × Works (now marks) (now queue) (now rank) (now number) (now back) (now stage) ⌝ }
+    ensures { λ r. ⌜ JudgedBy (now (words .entry)) (now (map .entry)) r ⌝ }
+{
+    let nodes = ENTRIES + 2 * n;
+    judge(
+        words,
+        map,
+        &mut marks[..nodes],
+        &mut queue[..nodes],
+        &mut rank[..nodes],
+        &mut number[..nodes],
+        &mut back[..nodes],
+        &mut stage[..nodes],
+    )
+}
+
+// 21, 22, or neither.
+fn judged(words: &[u64], map: &[u16], n: usize) -> Judgement
+    requires { ⌜ Settles (now words) (now map) n ⌝ }
+    ensures { λ r. ⌜ JudgedBy (now (words .entry)) (now (map .entry)) r ⌝ }
+{
+    let mut marks = [0u8; NODES];
+    let mut queue = [0u16; NODES];
+    let mut rank = [0u16; NODES];
+    let mut number = [0u16; NODES];
+    let mut back = [0u16; NODES];
+    let mut stage = [0u8; NODES];
+    judged_in(
+        words,
+        map,
+        n,
+        &mut marks,
+        &mut queue,
+        &mut rank,
+        &mut number,
+        &mut back,
+        &mut stage,
+    )
+}
+
+// Has each call's word say where it goes on; marks, of zeros, one a number, and the others are to work in.
+fn choose_by(
+    words: &mut [u64],
+    first: &mut [u32],
+    link: &mut [u32],
+    stack: &mut [u16],
+    marks: &mut [u8],
+)
+    requires { ⌜ Sized (now words) (length (now marks)) × Blank (now marks) ⌝ }
+    ensures { λ _. ⌜ ChosenBy (now (words .entry)) (length (now (marks .entry))) (now (words .exit)) ⌝ }
+{
+    mark_losing(words, first, link, stack, marks);
+    choose(words, marks);
+}
+
+// The same as choose_calls, with arrays of zeros lent for all numbers that there can be.
+fn choose_in(
+    words: &mut [u64],
+    n: usize,
+    first: &mut [u32],
+    link: &mut [u32],
+    stack: &mut [u16],
+    marks: &mut [u8],
+)
+    requires { ⌜ Sized (now words) n × (length (now marks) ≡ 16384) × Blank (now marks) ⌝ }
+    ensures { λ _. ⌜ ChosenBy (now (words .entry)) n (now (words .exit)) ⌝ }
+{
+    choose_by(words, first, link, stack, &mut marks[..n]);
+}
+
+// Has the word of each call say where it goes on.
+fn choose_calls(words: &mut [u64], n: usize)
+    requires { ⌜ Sized (now words) n ⌝ }
+    ensures { λ _. ⌜ ChosenBy (now (words .entry)) n (now (words .exit)) ⌝ }
+{
+    let mut first = [0u32; PLACES];
+    let mut link = [0u32; EDGES];
+    let mut stack = [0u16; PLACES];
+    let mut marks = [0u8; PLACES];
+    choose_in(words, n, &mut first, &mut link, &mut stack, &mut marks);
 }
 
 // What the settled sums and depths come to.
-fn answer_of(
-    kind: &[u8],
-    next: &[u16],
-    other: &[u16],
-    d: &[u32],
-    dep: &[u16],
-    at: usize,
-    path: &mut [u8],
-    deep: &mut [u8],
-) -> Found
-    requires { ⌜ Nodes (now kind) (now next) (now other) (length (now d)) × (0 < getD (now d) at 0) × (length (now dep) ≡ length (now d))
-        × (getD (now d) at 0 < 65536 → Fall (graphOf (now kind) (now next) (now other)) (now d)) ⌝ }
-    ensures { λ r. ⌜ Comes (graphOf (now (kind .entry)) (now (next .entry)) (now (other .entry))) (now (d .entry)) (now (dep .entry)) at
+fn answer_of(words: &[u64], d: &[u32], dep: &[u16], path: &mut [u8], deep: &mut [u8]) -> Found
+    requires { ⌜ Priced (now words) (length (now d)) × (0 < length (now d)) × (length (now dep) ≡ length (now d)) × Dist (waysIn (now words)) (costsIn (now words)) (now d) (now dep) ⌝ }
+    ensures { λ r. ⌜ Comes (waysIn (now (words .entry))) (addressIn (now (words .entry))) (now (d .entry)) (now (dep .entry))
         (now (path .entry)) (now (path .exit)) (now (deep .entry)) (now (deep .exit)) r ⌝ }
 {
-    let cycles = d[at];
-    if 65535 < cycles {
+    let cycles = d[0];
+    if cycles == 0 {
         return Found::TooLarge;
     }
-    let short = write_paths(kind, next, other, d, dep, at, path, deep);
+    let short = write_paths(words, d, dep, path, deep);
     if short != 0 {
         return Found::Short(short);
     }
     Found::Bounds(Greatest {
         cycles: cycles as usize,
-        depth: dep[at] as usize,
+        depth: dep[0] as usize,
     })
 }
 
-// The same as settled, with arrays of zeros lent to settle in.
-fn settled_in(
-    kind: &[u8],
-    next: &[u16],
-    other: &[u16],
-    cost: &[u32],
-    at: usize,
-    queue: &[u16],
-    count: usize,
-    path: &mut [u8],
-    deep: &mut [u8],
+// The same as settle, with arrays of zeros lent for all numbers that there can be.
+fn settle_in(words: &[u64], d: &mut [u32], dep: &mut [u16], stage: &mut [u8], back: &mut [u16])
+    requires { ⌜ Priced (now words) (length (now d)) × (0 < length (now d)) × Blank (now d) × Blank (now dep) × (length (now dep) ≡ length (now d))
+        × (length (now stage) ≡ 16384) × (length (now back) ≡ 16384) × Blank (now back) ⌝ }
+    ensures { λ _. ⌜ Dist (waysIn (now (words .entry))) (costsIn (now (words .entry))) (now (d .exit)) (now (dep .exit))
+        × IdleTo (waysIn (now (words .entry))) (costsIn (now (words .entry))) (now (d .exit)) (length (now (d .exit))) ⌝ }
+{
+    let n = d.len();
+    sums(words, 0, d, dep, &mut stage[..n], &mut back[..n]);
+}
+
+// Settles the sums and the depths, in arrays of zeros.
+fn settle(words: &[u64], d: &mut [u32], dep: &mut [u16])
+    requires { ⌜ Priced (now words) (length (now d)) × (0 < length (now d)) × Blank (now d) × Blank (now dep) × (length (now dep) ≡ length (now d)) ⌝ }
+    ensures { λ _. ⌜ Dist (waysIn (now (words .entry))) (costsIn (now (words .entry))) (now (d .exit)) (now (dep .exit))
+        × IdleTo (waysIn (now (words .entry))) (costsIn (now (words .entry))) (now (d .exit)) (length (now (d .exit))) ⌝ }
+{
+    let mut stage = [0u8; PLACES];
+    let mut back = [0u16; PLACES];
+    settle_in(words, d, dep, &mut stage, &mut back);
+}
+
+// Settles sums and depths, in arrays of zeros, one element a number, and says what they come to.
+fn measured_by(
+    words: &[u64],
     d: &mut [u32],
     dep: &mut [u16],
-) -> Found
-    requires { ⌜ ToSettle (now kind) (now next) (now other) (now cost) (now queue) count at
-        × (length (now d) ≡ 32768) × Blank (now d) × (length (now dep) ≡ 32768) × Blank (now dep) ⌝ }
-    ensures { λ r. ⌜ SettledTo (graphOf (now (kind .entry)) (now (next .entry)) (now (other .entry))) (costOf (now (cost .entry))) (now (queue .entry)) count at
-        (now (path .entry)) (now (path .exit)) (now (deep .entry)) (now (deep .exit)) r ⌝ }
-{
-    settle_nodes(kind, next, other, cost, at, queue, count, d, dep);
-    answer_of(kind, next, other, d, dep, at, path, deep)
-}
-
-// Settles sums and depths, and says what they come to.
-fn settled(
-    kind: &[u8],
-    next: &[u16],
-    other: &[u16],
-    cost: &[u32],
-    at: usize,
-    queue: &[u16],
-    count: usize,
     path: &mut [u8],
     deep: &mut [u8],
 ) -> Found
-    requires { ⌜ ToSettle (now kind) (now next) (now other) (now cost) (now queue) count at ⌝ }
-    ensures { λ r. ⌜ SettledTo (graphOf (now (kind .entry)) (now (next .entry)) (now (other .entry))) (costOf (now (cost .entry))) (now (queue .entry)) count at
-        (now (path .entry)) (now (path .exit)) (now (deep .entry)) (now (deep .exit)) r ⌝ }
+    requires { ⌜ Priced (now words) (length (now d)) × (0 < length (now d)) × Blank (now d) × Blank (now dep) × (length (now dep) ≡ length (now d)) ⌝ }
+    ensures { λ r. ⌜ Measured (now (words .entry)) (length (now (d .entry))) (now (path .entry)) (now (path .exit)) (now (deep .entry)) (now (deep .exit)) r ⌝ }
 {
-    let mut d = [0u32; BOTH];
-    let mut dep = [0u16; BOTH];
-    settled_in(
-        kind,
-        next,
-        other,
-        cost,
-        at,
-        queue,
-        count,
-        path,
-        deep,
-        &mut d,
-        &mut dep,
-    )
+    settle(words, d, dep);
+    answer_of(words, d, dep, path, deep)
 }
 
-// The same as measured, with arrays of zeros lent to lay the nodes in.
+// The same as measured, with arrays of zeros lent for all numbers that there can be.
 fn measured_in(
-    kind: &[u8],
-    next: &[u16],
-    other: &[u16],
-    entry: &[u16],
-    cost: &[u32],
-    losing: &[u8],
-    queue: &[u16],
-    count: usize,
-    s: usize,
-    path: &mut [u8],
-    deep: &mut [u8],
-    ckind: &mut [u8],
-    cnext: &mut [u16],
-    cother: &mut [u16],
-    ccost: &mut [u32],
-) -> Found
-    requires { ⌜ Measures (now kind) (now next) (now other) (now entry) (now cost) (now losing) (now queue) count s
-        × Sized (now ckind) (now cnext) (now cother) (now ccost) × Blank (now ckind) × Blank (now cnext) × Blank (now cother) × Blank (now ccost) ⌝ }
-    ensures { λ r. ⌜ FlowAnswer (flowFrom (now (kind .entry)) (now (next .entry)) (now (other .entry)) (now (entry .entry)) s) (costOf (now (cost .entry))) (λ v. v / 2)
-        (now (path .entry)) (now (path .exit)) (now (deep .entry)) (now (deep .exit))
-        (knownBy (flowFrom (now (kind .entry)) (now (next .entry)) (now (other .entry)) (now (entry .entry)) s) (marksOf (now (losing .entry)))) (foundOf r) ⌝ }
-{
-    lay_coded(
-        kind,
-        next,
-        other,
-        entry,
-        cost,
-        losing,
-        queue,
-        count,
-        ckind,
-        cnext,
-        cother,
-        ccost,
-    );
-    settled(
-        ckind,
-        cnext,
-        cother,
-        ccost,
-        2 * s + 1,
-        queue,
-        count,
-        path,
-        deep,
-    )
-}
-
-// The bound of a handler that is judged and sound, of which queue lists the nodes that are reached.
-fn measured(
-    kind: &[u8],
-    next: &[u16],
-    other: &[u16],
-    entry: &[u16],
-    cost: &[u32],
-    losing: &[u8],
-    queue: &[u16],
-    count: usize,
-    s: usize,
+    words: &[u64],
+    n: usize,
+    d: &mut [u32],
+    dep: &mut [u16],
     path: &mut [u8],
     deep: &mut [u8],
 ) -> Found
-    requires { ⌜ Measures (now kind) (now next) (now other) (now entry) (now cost) (now losing) (now queue) count s ⌝ }
-    ensures { λ r. ⌜ FlowAnswer (flowFrom (now (kind .entry)) (now (next .entry)) (now (other .entry)) (now (entry .entry)) s) (costOf (now (cost .entry))) (λ v. v / 2)
-        (now (path .entry)) (now (path .exit)) (now (deep .entry)) (now (deep .exit))
-        (knownBy (flowFrom (now (kind .entry)) (now (next .entry)) (now (other .entry)) (now (entry .entry)) s) (marksOf (now (losing .entry)))) (foundOf r) ⌝ }
+    requires { ⌜ Priced (now words) n × (0 < n) × (length (now d) ≡ 16384) × Blank (now d) × (length (now dep) ≡ 16384) × Blank (now dep) ⌝ }
+    ensures { λ r. ⌜ Measured (now (words .entry)) n (now (path .entry)) (now (path .exit)) (now (deep .entry)) (now (deep .exit)) r ⌝ }
 {
-    let mut ckind = [0u8; BOTH];
-    let mut cnext = [0u16; BOTH];
-    let mut cother = [0u16; BOTH];
-    let mut ccost = [0u32; BOTH];
-    measured_in(
-        kind,
-        next,
-        other,
-        entry,
-        cost,
-        losing,
-        queue,
-        count,
-        s,
-        path,
-        deep,
-        &mut ckind,
-        &mut cnext,
-        &mut cother,
-        &mut ccost,
-    )
+    measured_by(words, &mut d[..n], &mut dep[..n], path, deep)
 }
 
-// The lowest entry that recurs, or 2,048 or more.
-fn lowest_recursion(kind: &[u8], next: &[u16], other: &[u16], entry: &[u16], s: usize) -> usize
-    requires { ⌜ FlowLaid (now kind) (now next) (now other) (now entry) × (s < places) ⌝ }
-    ensures { λ r. ⌜ Recursion (flowFrom (now (kind .entry)) (now (next .entry)) (now (other .entry)) (now (entry .entry)) s) r ⌝ }
+// The bound of a handler that is judged and sound.
+fn measured(words: &[u64], n: usize, path: &mut [u8], deep: &mut [u8]) -> Found
+    requires { ⌜ Priced (now words) n × (0 < n) ⌝ }
+    ensures { λ r. ⌜ Measured (now (words .entry)) n (now (path .entry)) (now (path .exit)) (now (deep .entry)) (now (deep .exit)) r ⌝ }
 {
-    let mut losing = [0u8; PLACES];
-    let mut jkind = [0u8; NODES];
-    let mut jnext = [0u16; NODES];
-    let mut jother = [0u16; NODES];
-    let mut marks = [0u8; NODES];
-    let mut queue = [0u16; NODES];
-    let mut rank = [0u16; NODES];
-    let mut number = [0u16; NODES];
-    let mut below = [0u16; NODES];
-    let mut back = [0u16; NODES];
-    let mut stage = [0u8; NODES];
-    recursion(
-        kind,
-        next,
-        other,
-        entry,
-        s,
-        &mut losing,
-        &mut jkind,
-        &mut jnext,
-        &mut jother,
-        &mut marks,
-        &mut queue,
-        &mut rank,
-        &mut number,
-        &mut below,
-        &mut back,
-        &mut stage,
-    )
+    let mut d = [0u32; PLACES];
+    let mut dep = [0u16; PLACES];
+    measured_in(words, n, &mut d, &mut dep, path, deep)
 }
 
-// Judges a handler in which nothing recurs; marks and queue come to tell the nodes that are reached.
-fn judged(
-    kind: &[u8],
-    next: &[u16],
-    other: &[u16],
-    entry: &[u16],
-    losing: &[u8],
-    s: usize,
-    marks: &mut [u8],
-    queue: &mut [u16],
-) -> Judgement
-    requires { ⌜ FlowLaid (now kind) (now next) (now other) (now entry) × (s < places) × (length (now losing) ≡ places) × (length (now marks) ≡ mostNodes) × (length (now queue) ≡ mostNodes)
-        × Widens (flowFrom (now kind) (now next) (now other) (now entry) s) × NothingRecurs (flowFrom (now kind) (now next) (now other) (now entry) s) ⌝ }
-    ensures { λ r. ⌜ Judges (flowFrom (now (kind .entry)) (now (next .entry)) (now (other .entry)) (now (entry .entry)) s)
-        (knownBy (flowFrom (now (kind .entry)) (now (next .entry)) (now (other .entry)) (now (entry .entry)) s) (marksOf (now (losing .entry)))) (now (marks .exit)) (now (queue .exit)) r ⌝ }
+// The bound of a handler in which nothing recurs and whose words say where their calls go on: 21, 22, 25, 23, or N and the depth.
+fn answer_judged(words: &[u64], map: &[u16], n: usize, path: &mut [u8], deep: &mut [u8]) -> Found
+    requires { ⌜ Settles (now words) (now map) n ⌝ }
+    ensures { λ r. ⌜ FlowAnswer (flowAt (now (words .entry)) (now (map .entry))) (costsIn (now (words .entry))) (addressIn (now (words .entry)))
+        (now (path .entry)) (now (path .exit)) (now (deep .entry)) (now (deep .exit)) unknown (foundOf r) ⌝ }
 {
-    let mut jkind = [0u8; NODES];
-    let mut jnext = [0u16; NODES];
-    let mut jother = [0u16; NODES];
-    let mut rank = [0u16; NODES];
-    let mut number = [0u16; NODES];
-    let mut below = [0u16; NODES];
-    let mut back = [0u16; NODES];
-    let mut stage = [0u8; NODES];
-    judge(
-        kind,
-        next,
-        other,
-        entry,
-        losing,
-        s,
-        &mut jkind,
-        &mut jnext,
-        &mut jother,
-        marks,
-        queue,
-        &mut rank,
-        &mut number,
-        &mut below,
-        &mut back,
-        &mut stage,
-    )
-}
-
-// The bound of a handler whose calls are judged: 21, 22, 25, 23, or N and the depth. marks and nodes are to work in.
-fn answer_judged(
-    kind: &[u8],
-    next: &[u16],
-    other: &[u16],
-    entry: &[u16],
-    cost: &[u32],
-    losing: &[u8],
-    s: usize,
-    path: &mut [u8],
-    deep: &mut [u8],
-    marks: &mut [u8],
-    nodes: &mut [u16],
-) -> Found
-    requires { ⌜ CallsJudged (now kind) (now next) (now other) (now entry) (now cost) (now losing) s × (length (now marks) ≡ mostNodes) × (length (now nodes) ≡ mostNodes) ⌝ }
-    ensures { λ r. ⌜ FlowAnswer (flowFrom (now (kind .entry)) (now (next .entry)) (now (other .entry)) (now (entry .entry)) s) (costOf (now (cost .entry))) (λ v. v / 2)
-        (now (path .entry)) (now (path .exit)) (now (deep .entry)) (now (deep .exit))
-        (knownBy (flowFrom (now (kind .entry)) (now (next .entry)) (now (other .entry)) (now (entry .entry)) s) (marksOf (now (losing .entry)))) (foundOf r) ⌝ }
-{
-    match judged(kind, next, other, entry, losing, s, marks, nodes) {
+    let judgement = judged(words, map, n);
+    match judgement {
         Judgement::Excluded(address) => Found::Excluded(address),
         Judgement::Repeats(address) => Found::Repeats(address),
-        Judgement::Sound(count) => measured(
-            kind,
-            next,
-            other,
-            entry,
-            cost,
-            losing,
-            nodes,
-            count,
-            s,
-            path,
-            deep,
-        ),
+        Judgement::Sound(_) => measured(words, n, path, deep),
     }
 }
 
-// Marks the places of the queue that lose SF.
-fn find_losing(
-    kind: &[u8],
-    next: &[u16],
-    other: &[u16],
-    entry: &[u16],
-    queue: &[u16],
-    count: usize,
-    losing: &mut [u8],
-)
-    requires { ⌜ FlowLaid (now kind) (now next) (now other) (now entry) × (length (now losing) ≡ places) × Queue (now queue) count places × Blank (now losing) ⌝ }
-    ensures { λ _. ⌜ AllLose (flowIn (now (kind .entry)) (now (next .entry)) (now (other .entry)) (now (entry .entry))) (now (losing .exit))
-        × IdleOn (flowIn (now (kind .entry)) (now (next .entry)) (now (other .entry)) (now (entry .entry))) (now (losing .exit)) (now (queue .entry)) count ⌝ }
-{
-    let mut first = [0u32; PLACES];
-    let mut link = [0u32; EDGES];
-    let mut stack = [0u16; PLACES];
-    mark_losing(
-        kind,
-        next,
-        other,
-        entry,
-        queue,
-        count,
-        &mut first,
-        &mut link,
-        &mut stack,
-        losing,
-    );
-}
-
-// The bound of a handler in which nothing recurs. losing, of zeros, marks and nodes are to work in.
-fn answer_known(
-    kind: &[u8],
-    next: &[u16],
-    other: &[u16],
-    entry: &[u16],
-    cost: &[u32],
-    queue: &[u16],
-    count: usize,
-    s: usize,
-    path: &mut [u8],
-    deep: &mut [u8],
-    losing: &mut [u8],
-    marks: &mut [u8],
-    nodes: &mut [u16],
-) -> Found
-    requires { ⌜ HandlerLaid (now kind) (now next) (now other) (now entry) (now cost) (now queue) count s × NothingRecurs (flowFrom (now kind) (now next) (now other) (now entry) s)
-        × (length (now losing) ≡ places) × Blank (now losing) × (length (now marks) ≡ mostNodes) × (length (now nodes) ≡ mostNodes) ⌝ }
-    ensures { λ r. ⌜ Answer (flowFrom (now (kind .entry)) (now (next .entry)) (now (other .entry)) (now (entry .entry)) s) (costOf (now (cost .entry))) (λ v. v / 2)
+// The bound of a handler that calls: 24 first.
+fn answer_calls(words: &mut [u64], map: &[u16], n: usize, path: &mut [u8], deep: &mut [u8]) -> Found
+    requires { ⌜ HandlerWords (now words) (now map) n ⌝ }
+    ensures { λ r. ⌜ Answer (flowAt (now (words .entry)) (now (map .entry))) (costsIn (now (words .entry))) (addressIn (now (words .entry)))
         (now (path .entry)) (now (path .exit)) (now (deep .entry)) (now (deep .exit)) (foundOf r) ⌝ }
 {
-    find_losing(kind, next, other, entry, queue, count, losing);
-    answer_judged(
-        kind,
-        next,
-        other,
-        entry,
-        cost,
-        losing,
-        s,
-        path,
-        deep,
-        marks,
-        nodes,
-    )
-}
-
-// The bound of a handler that starts at place s; queue lists the places that its routines may reach.
-pub fn bound_routines(
-    kind: &[u8],
-    next: &[u16],
-    other: &[u16],
-    entry: &[u16],
-    cost: &[u32],
-    queue: &[u16],
-    count: usize,
-    s: usize,
-    path: &mut [u8],
-    deep: &mut [u8],
-) -> Found
-    requires { ⌜ HandlerLaid (now kind) (now next) (now other) (now entry) (now cost) (now queue) count s ⌝ }
-    ensures { λ r. ⌜ Answer (flowFrom (now (kind .entry)) (now (next .entry)) (now (other .entry)) (now (entry .entry)) s) (costOf (now (cost .entry))) (λ v. v / 2)
-        (now (path .entry)) (now (path .exit)) (now (deep .entry)) (now (deep .exit)) (foundOf r) ⌝ }
-{
-    let lowest = lowest_recursion(kind, next, other, entry, s);
+    let lowest = lowest_recursion(words, map, n);
     if lowest < ENTRIES {
         return Found::Recursion(lowest);
     }
-    let mut losing = [0u8; PLACES];
-    let mut marks = [0u8; NODES];
-    let mut nodes = [0u16; NODES];
-    answer_known(
-        kind,
-        next,
-        other,
-        entry,
-        cost,
-        queue,
-        count,
-        s,
-        path,
-        deep,
-        &mut losing,
-        &mut marks,
-        &mut nodes,
-    )
+    choose_calls(words, n);
+    answer_judged(words, map, n, path, deep)
+}
+
+// The bound of a handler of n numbers, of which the start's is 0. Its calls' words come to say where they go on; without calls nothing is paid for them but the test.
+pub fn bound_words(
+    words: &mut [u64],
+    map: &[u16],
+    n: usize,
+    path: &mut [u8],
+    deep: &mut [u8],
+) -> Found
+    requires { ⌜ HandlerWords (now words) (now map) n ⌝ }
+    ensures { λ r. ⌜ Answer (flowAt (now (words .entry)) (now (map .entry))) (costsIn (now (words .entry))) (addressIn (now (words .entry)))
+        (now (path .entry)) (now (path .exit)) (now (deep .entry)) (now (deep .exit)) (foundOf r) ⌝ }
+{
+    if has_call(words, n) {
+        return answer_calls(words, map, n, path, deep);
+    }
+    answer_judged(words, map, n, path, deep)
 }

@@ -12,7 +12,7 @@ use borrow.Author.Tests.{eq-eqb, ne-eqb, lt-ltb, le-ltb}
 use Rattle.laws.specs.Choice.{pick, either}
 use Rattle.graph.specs.Graph.{Graph, Edge, Excluded}
 use Rattle.graph.specs.Laid.{Inside}
-use Rattle.graph_loops.specs.Loops.{After}
+use Rattle.routines_joined.specs.Ranks.{After}
 use Rattle.routines.specs.Calling.{after}
 use Rattle.routines.specs.Joined.{placeOf, endAt, joined}
 use Rattle.routines.specs.Shape.{Small}

@@ -8,8 +8,8 @@ use lib.ListN.{length, getD}
 use Rattle.graph.specs.Graph.{Graph, Edge, Reach, ReachPlus, Excluded, Bad, Loops, Least}
 use Rattle.graph_search.specs.Marks.{Marked, OnQ, Listed}
 use Rattle.graph_search.specs.Search.{Reached}
-use Rattle.graph_loops.specs.Loops.{NeverRises}
-use Rattle.graph_loops.proofs.Ranks.{steady-of}
+use Rattle.routines_joined.specs.Ranks.{NeverRises}
+use Rattle.routines_joined.proofs.Ranks.{steady-of}
 use Rattle.routines.specs.Calling.{Flow, Routine, outer, called, unknown, Recurs, IsBad, IsLoop}
 use Rattle.routines.specs.Answer.{LowestAddress}
 use Rattle.routines.specs.Shape.{Widens}

@@ -7,7 +7,7 @@ use Prim.Native.Nat.{ℕ, _≤_, _<_}
 use lib.ListN.{getD}
 use Rattle.graph.specs.Graph.{Graph}
 use Rattle.graph_search.specs.Marks.{Marked, OnQ}
-use Rattle.graph_loops.specs.Loops.{Steady}
+use Rattle.routines_joined.specs.Ranks.{Steady}
 use Rattle.routines_joined.specs.Words.{keyAt}
 
 -- among marked nodes, y of them, no rank rises

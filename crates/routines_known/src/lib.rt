@@ -1,7 +1,4 @@
 // After which calls SF is known: marks, by number, the places from which a RET at an unknown place is reached, all routines at once.
-use routines_marks::Spot;
-use routines_marks::head;
-use routines_marks::lead;
 use routines_numbered::Links;
 use routines_numbered::cost_of;
 use routines_numbered::into_of;
@@ -78,6 +75,28 @@ fn sweep(words: &[u64], marks: &mut [u8]) -> usize
     changed
 }
 
+// What stands at an index of a list, 0 past its end.
+fn head(list: &[u32], at: usize) -> usize {
+    if list.len() <= at {
+        return 0;
+    }
+    list[at] as usize
+}
+
+// Puts an edge before those that lead to w. In a list an edge is its number and one, and 0 ends it.
+fn lead(first: &mut [u32], link: &mut [u32], w: usize, edge: usize)
+    requires { ⌜ edge < 4294967295 ⌝ }
+{
+    if first.len() <= w {
+        return;
+    }
+    if link.len() <= edge {
+        return;
+    }
+    link[edge] = first[w];
+    first[w] = (edge + 1) as u32;
+}
+
 // The edges of v, listed by where they lead: to the places after it, and of a call to the first of its routine.
 fn enter(words: &[u64], first: &mut [u32], link: &mut [u32], v: usize)
     requires { ⌜ (v < length (now words)) × (v < 65536) ⌝ }
@@ -93,6 +112,12 @@ fn enter(words: &[u64], first: &mut [u32], link: &mut [u32], v: usize)
     if kind == 3 {
         lead(first, link, into_of(word), edge + 2);
     }
+}
+
+// How many numbers wait on the stack, and the edge to be followed back, 0 for none.
+struct Spot {
+    top: usize,
+    edge: usize,
 }
 
 // Settles v; where that marks it, it waits on the stack.

@@ -1,18 +1,12 @@
--- A stack of zeros, and the room that the ways need.
-use mathlib.Core.Path.{_≡_}
+-- The room that the ways need.
 use mathlib.Core.List.{List}
 use Prim.Native.Nat.{ℕ, _*_, _≤_, _<_}
 use native.Mathlib.Omega.{arith}
 use lib.ListN.{length, getD}
 use Rattle.graph.specs.Graph.{Graph}
-use Rattle.graph_search.specs.Marks.{Blank}
-use Rattle.routines_route.specs.Arrays.{Stacked}
-use Rattle.routines_route.specs.Way as way
-use Rattle.routines_deep.specs.Deep as deep
-use Rattle.routines_deep.proofs.Some.{deep-route}
-
-pub stacked-zeros : {l : List ℕ} {n : ℕ} → Blank l → 0 < n → Stacked l n
-stacked-zeros b h = record { below = λ i _. omega (arith, b .at i, h) }
+use Rattle.routines_paths.specs.Way as way
+use Rattle.routines_paths.specs.Deep as deep
+use Rattle.routines_paths.proofs.deepest.Some.{deep-route}
 
 pub way-roomy : {g : Graph} {d : List ℕ} {s n : ℕ} (p : List ℕ) → way.LengthIs g d s n → getD d s 0 < 65536 → 2 * n ≤ length p → way.Roomy g d s p 32768
 way-roomy p l low h = record { route = l .route; is = l .is; fits = omega (arith, l .len); few = omega (arith, l .len, l .most) }

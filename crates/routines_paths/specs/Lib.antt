@@ -1,1 +1,4 @@
+pub mod Open
+pub mod Way
+pub mod Deep
 pub mod Paths

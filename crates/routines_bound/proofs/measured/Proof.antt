@@ -11,14 +11,10 @@ slice-aggregate-measured-in c = search needs
 slice-aggregate-measured-in-2 : tie.Need-slice-aggregate-measured-in-2
 slice-aggregate-measured-in-2 c = search needs
 
-slice-aggregate-measured-in-3 : tie.Need-slice-aggregate-measured-in-3
-slice-aggregate-measured-in-3 c = search needs
-
-slice-aggregate-measured-in-4 : tie.Need-slice-aggregate-measured-in-4
-slice-aggregate-measured-in-4 c = search needs
-
 measured-in-requires : tie.Need-measured-in-requires
-measured-in-requires c κs = (c .before .before .before .before .before .before .before .before .before .before .before .before .before .before .before .pre, record { kinds = refl; nexts = refl; others = refl; costs = refl }, blank-zeros 32768, blank-zeros 32768, blank-zeros 32768, blank-zeros 32768)
+measured-in-requires c κs =
+    let pre = c .before .before .before .before .before .before .before .pre in
+    (pre .0, pre .1, refl, blank-zeros 16384, refl, blank-zeros 16384)
 
 same-length : tie.Need-same-length
 same-length c = search needs
@@ -35,8 +31,6 @@ measured-spec =
     (tie.spec
     slice-aggregate-measured-in
     slice-aggregate-measured-in-2
-    slice-aggregate-measured-in-3
-    slice-aggregate-measured-in-4
     measured-in-requires
     same-length
     same-length-2

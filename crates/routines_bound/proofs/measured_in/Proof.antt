@@ -1,21 +1,36 @@
 -- `routines_bound::measured_in` meets its contract.
-use Rattle.routines_bound.proofs.Joins.{queue-fits}
-use Rattle.routines_bound.proofs.Answers.{to-settle, from-settled}
+use mathlib.Core.Path.{sym, _∙_}
+use native.Mathlib.Omega.{arith}
+use denote.Ref.{now}
+use Rattle.routines_sums.proofs.Settling.{priced-at}
+use Rattle.routines_bound.proofs.Parts.{part-length, part-blank}
 use borrow.Author.Needs.{needs}
 use Rattle.routines_bound.proofs.measured_in.Statement.{statement}
 use Rattle.routines_bound.proofs.measured_in.Tie as tie
 
-lay-coded-requires : tie.Need-lay-coded-requires
-lay-coded-requires c κs = (c .before .before .before .before .before .before .before .before .before .before .before .before .before .before .before .before .before .pre .0 .flow, c .before .before .before .before .before .before .before .before .before .before .before .before .before .before .before .before .before .pre .0 .prices .costs, c .before .before .before .before .before .before .before .before .before .before .before .before .before .before .before .before .before .pre .0 .marks, queue-fits (c .before .before .before .before .before .before .before .before .before .before .before .before .before .before .before .before .before .args .kind .now) (c .before .before .before .before .before .before .before .before .before .before .before .before .before .before .before .before .before .args .next .now) (c .before .before .before .before .before .before .before .before .before .before .before .before .before .before .before .before .before .args .other .now) (c .before .before .before .before .before .before .before .before .before .before .before .before .before .before .before .before .before .args .entry .now) (c .before .before .before .before .before .before .before .before .before .before .before .before .before .before .before .before .before .args .losing .now) (c .before .before .before .before .before .before .before .before .before .before .before .before .before .before .before .before .before .args .s) (c .before .before .before .before .before .before .before .before .before .before .before .before .before .before .before .before .before .args .cost .now) (c .before .before .before .before .before .before .before .before .before .before .before .before .before .before .before .before .before .args .queue .now) (c .before .before .before .before .before .before .before .before .before .before .before .before .before .before .before .before .before .args .count) (c .before .before .before .before .before .before .before .before .before .before .before .before .before .before .before .before .before .pre .0), c .before .before .before .before .before .before .before .before .before .before .before .before .before .before .before .before .before .pre .1, c .before .before .before .before .before .before .before .before .before .before .before .before .before .before .before .before .before .pre .2, c .before .before .before .before .before .before .before .before .before .before .before .before .before .before .before .before .before .pre .3, c .before .before .before .before .before .before .before .before .before .before .before .before .before .before .before .before .before .pre .4, c .before .before .before .before .before .before .before .before .before .before .before .before .before .before .before .before .before .pre .5)
+slice-relend-prefix-measured-by : tie.Need-slice-relend-prefix-measured-by
+slice-relend-prefix-measured-by c = search needs
 
-mul-settled : tie.Need-mul-settled
-mul-settled c = search needs
+slice-aggregate-measured-by : tie.Need-slice-aggregate-measured-by
+slice-aggregate-measured-by c =
+    let args = c .before .before .before .before .before .before .args in
+    let pre = c .before .before .before .before .before .before .pre in
+    part-length (args .n) (now (args .d)) (pre .2) (pre .0 .few)
 
-add-settled : tie.Need-add-settled
-add-settled c = search needs
+slice-relend-prefix-measured-by-2 : tie.Need-slice-relend-prefix-measured-by-2
+slice-relend-prefix-measured-by-2 c = search needs
 
-settled-requires : tie.Need-settled-requires
-settled-requires c κs = to-settle (c .before .before .before .before .before .before .before .before .before .before .before .before .before .before .before .before .before .before .before .before .before .before .before .before .before .before .before .before .before .before .before .before .args .kind .now) (c .before .before .before .before .before .before .before .before .before .before .before .before .before .before .before .before .before .before .before .before .before .before .before .before .before .before .before .before .before .before .before .before .args .next .now) (c .before .before .before .before .before .before .before .before .before .before .before .before .before .before .before .before .before .before .before .before .before .before .before .before .before .before .before .before .before .before .before .before .args .other .now) (c .before .before .before .before .before .before .before .before .before .before .before .before .before .before .before .before .before .before .before .before .before .before .before .before .before .before .before .before .before .before .before .before .args .entry .now) (c .before .before .before .before .before .before .before .before .before .before .before .before .before .before .before .before .before .before .before .before .before .before .before .before .before .before .before .before .before .before .before .before .args .cost .now) (c .before .before .before .before .before .before .before .before .before .before .before .before .before .before .before .before .before .before .before .before .before .before .before .before .before .before .before .before .before .before .before .before .args .losing .now) (c .before .before .before .before .before .before .before .before .before .before .before .before .before .before .before .before .before .before .before .before .before .before .before .before .before .before .before .before .before .before .before .before .args .queue .now) (c .before .before .before .before .before .before .before .before .before .before .before .before .before .before .before .before .before .before .before .before .before .before .before .before .before .before .before .before .before .before .before .before .args .count) (c .before .before .before .before .before .before .before .before .before .before .before .before .before .before .before .before .before .before .before .before .before .before .before .before .before .before .before .before .before .before .before .before .args .s) (c .before .before .before .before .before .before .before .before .before .before .before .before .before .before .before .before .before .before .before .before .before .before .before .before .before .before .before .before .before .before .before .before .pre .0) _ _ _ _ (c .before .before .before .before .before .before .before .before .before .before .before .before .before .before .lay-coded .ensures)
+slice-aggregate-measured-by-2 : tie.Need-slice-aggregate-measured-by-2
+slice-aggregate-measured-by-2 c =
+    let args = c .before .before .before .before .before .before .before .args in
+    let pre = c .before .before .before .before .before .before .before .pre in
+    part-length (args .n) (now (args .dep)) (pre .4) (pre .0 .few)
+
+measured-by-requires : tie.Need-measured-by-requires
+measured-by-requires c κs =
+    let args = c .before .before .before .before .before .before .before .before .before .args in
+    let pre = c .before .before .before .before .before .before .before .before .before .pre in
+    (priced-at (sym (part-length (args .n) (now (args .d)) (pre .2) (pre .0 .few))) (pre .0), omega (arith, pre .1, part-length (args .n) (now (args .d)) (pre .2) (pre .0 .few)), part-blank (args .n) (now (args .d)) (omega (arith, pre .2, pre .0 .few)) (pre .3), part-blank (args .n) (now (args .dep)) (omega (arith, pre .4, pre .0 .few)) (pre .5), sym (part-length (args .n) (now (args .dep)) (pre .4) (pre .0 .few)) ∙ part-length (args .n) (now (args .d)) (pre .2) (pre .0 .few))
 
 same-length : tie.Need-same-length
 same-length c = search needs
@@ -29,27 +44,24 @@ same-length-3 c = search needs
 same-length-4 : tie.Need-same-length-4
 same-length-4 c = search needs
 
-same-length-5 : tie.Need-same-length-5
-same-length-5 c = search needs
-
-same-length-6 : tie.Need-same-length-6
-same-length-6 c = search needs
-
 returns : tie.Need-returns
-returns c = from-settled (c .before .before .before .before .before .before .before .before .before .before .before .before .before .before .before .before .before .before .before .before .before .before .before .before .before .before .before .before .before .before .before .before .before .before .before .before .before .args .kind .now) (c .before .before .before .before .before .before .before .before .before .before .before .before .before .before .before .before .before .before .before .before .before .before .before .before .before .before .before .before .before .before .before .before .before .before .before .before .before .args .next .now) (c .before .before .before .before .before .before .before .before .before .before .before .before .before .before .before .before .before .before .before .before .before .before .before .before .before .before .before .before .before .before .before .before .before .before .before .before .before .args .other .now) (c .before .before .before .before .before .before .before .before .before .before .before .before .before .before .before .before .before .before .before .before .before .before .before .before .before .before .before .before .before .before .before .before .before .before .before .before .before .args .entry .now) (c .before .before .before .before .before .before .before .before .before .before .before .before .before .before .before .before .before .before .before .before .before .before .before .before .before .before .before .before .before .before .before .before .before .before .before .before .before .args .cost .now) (c .before .before .before .before .before .before .before .before .before .before .before .before .before .before .before .before .before .before .before .before .before .before .before .before .before .before .before .before .before .before .before .before .before .before .before .before .before .args .losing .now) (c .before .before .before .before .before .before .before .before .before .before .before .before .before .before .before .before .before .before .before .before .before .before .before .before .before .before .before .before .before .before .before .before .before .before .before .before .before .args .queue .now) (c .before .before .before .before .before .before .before .before .before .before .before .before .before .before .before .before .before .before .before .before .before .before .before .before .before .before .before .before .before .before .before .before .before .before .before .before .before .args .count) (c .before .before .before .before .before .before .before .before .before .before .before .before .before .before .before .before .before .before .before .before .before .before .before .before .before .before .before .before .before .before .before .before .before .before .before .before .before .args .s) (c .before .before .before .before .before .before .before .before .before .before .before .before .before .before .before .before .before .before .before .before .before .before .before .before .before .before .before .before .before .before .before .before .before .before .before .before .before .pre .0) _ _ _ _ (c .before .before .before .before .before .before .before .before .before .before .before .before .before .before .before .before .before .before .before .lay-coded .ensures) (c .before .before .before .before .settled .ensures)
+returns c =
+    let args = c .before .before .before .before .before .before .before .before .before .before .before .before .before .before .before .before .before .before .args in
+    let pre = c .before .before .before .before .before .before .before .before .before .before .before .before .before .before .before .before .before .before .pre in
+    let measured-by = c .before .before .before .before .before .before .before .before .measured-by in
+    rw (← part-length (args .n) (now (args .d)) (pre .2) (pre .0 .few)) at (measured-by .ensures)
 
 pub measured-in-spec : {M : Type 1} → statement M
 measured-in-spec =
     tie.close
     (tie.spec
-    lay-coded-requires
-    mul-settled
-    add-settled
-    settled-requires
+    slice-relend-prefix-measured-by
+    slice-aggregate-measured-by
+    slice-relend-prefix-measured-by-2
+    slice-aggregate-measured-by-2
+    measured-by-requires
     same-length
     same-length-2
     same-length-3
     same-length-4
-    same-length-5
-    same-length-6
     returns)

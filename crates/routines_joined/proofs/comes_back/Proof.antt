@@ -1,8 +1,7 @@
 -- `routines_joined::comes_back` meets its contract.
 use mathlib.Core.Path.{sym, _∙_}
 use native.Mathlib.Omega.{arith}
-use Rattle.graph_loops.proofs.Back.{back-next, back-other}
-use Rattle.graph_loops.proofs.Scans.{tells-not}
+use Rattle.routines_joined.proofs.Back.{tells-not, back-next, back-other}
 use Rattle.routines_joined.proofs.Nodes.{asked, step-lt, spans-at}
 use borrow.Author.Needs.{needs}
 use Rattle.routines_joined.proofs.comes_back.Statement.{statement}

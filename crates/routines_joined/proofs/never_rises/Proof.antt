@@ -1,8 +1,8 @@
 -- `routines_joined::never_rises` meets its contract.
 use Prim.Native.Nat.{_-_, _≤_}
 use native.Mathlib.Omega.{arith}
-use Rattle.graph_loops.specs.Loops.{NeverRises}
-use Rattle.graph_loops.proofs.Ranks.{rises-none, rises-more, rises-end}
+use Rattle.routines_joined.specs.Ranks.{NeverRises}
+use Rattle.routines_joined.proofs.Ranks.{rises-none, rises-more, rises-end}
 use Rattle.graph_search.proofs.Zeros.{wide16}
 use Rattle.routines_joined.specs.Words.{joinedAt}
 use Rattle.routines_joined.proofs.never_rises.Statement.{statement}

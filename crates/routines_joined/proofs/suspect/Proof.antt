@@ -1,6 +1,6 @@
 -- `routines_joined::suspect` meets its contract.
 use native.Mathlib.Omega.{arith}
-use Rattle.graph_loops.proofs.Ranks.{no-return}
+use Rattle.routines_joined.proofs.Ranks.{no-return}
 use borrow.Author.Needs.{needs}
 use Rattle.routines_joined.proofs.suspect.Statement.{statement}
 use Rattle.routines_joined.proofs.suspect.Tie as tie

@@ -1,8 +1,6 @@
 -- `routines_paths::way_len` meets its contract.
-use mathlib.Core.Path.{refl}
 use native.Mathlib.Omega.{arith}
-use Rattle.graph_search.proofs.Zeros.{blank-zeros, marked-lt, wide16}
-use Rattle.routines_paths.proofs.Fits.{stacked-zeros}
+use Rattle.graph_search.proofs.Zeros.{blank-zeros, marked-lt, within-blank}
 use borrow.Author.Needs.{needs}
 use Rattle.routines_paths.proofs.way_len.Statement.{statement}
 use Rattle.routines_paths.proofs.way_len.Tie as tie
@@ -11,7 +9,9 @@ slice-aggregate-path-len : tie.Need-slice-aggregate-path-len
 slice-aggregate-path-len c = search needs
 
 path-len-requires : tie.Need-path-len-requires
-path-len-requires c κs = (c .before .before .before .before .before .pre .0, c .before .before .before .before .before .pre .1, c .before .before .before .before .before .pre .2, stacked-zeros (blank-zeros 32768) (omega (arith, marked-lt (c .before .before .before .before .before .args .d .now) (c .before .before .before .before .before .args .s) (c .before .before .before .before .before .pre .2))), omega (arith, c .before .before .before .before .before .pre .3))
+path-len-requires c κs =
+    let pre = c .before .before .before .pre in
+    (pre .0, pre .1, pre .2, within-blank (omega (arith, marked-lt (c .before .before .before .args .d .now) 0 (pre .2))) (blank-zeros 32768), omega (arith, pre .3))
 
 returns : tie.Need-returns
 returns c = search needs

@@ -2,6 +2,7 @@
 use mathlib.Core.Path.{refl}
 use native.Mathlib.Omega.{arith}
 use Rattle.graph_search.proofs.Zeros.{marked-lt}
+use Rattle.routines_sums.proofs.Settling.{priced-at}
 use Rattle.routines_paths.specs.Paths.{first-short, second-short, written}
 use Rattle.routines_paths.proofs.Fits.{way-roomy, deep-short, deep-roomy}
 use borrow.Author.Needs.{needs}
@@ -18,19 +19,27 @@ returns : tie.Need-returns
 returns c = first-short (c .before .way-len .ensures) refl (c .if1 .taken) refl refl
 
 deep-way-len-requires : tie.Need-deep-way-len-requires
-deep-way-len-requires c κs = (rw (c .before .before .before .before .before .before .before .before .before .pre .4) (c .before .before .before .before .before .before .before .before .before .pre .0), omega (arith, c .before .before .before .before .before .before .before .before .before .pre .4, marked-lt (c .before .before .before .before .before .before .before .before .before .args .d .now) (c .before .before .before .before .before .before .before .before .before .args .s) (c .before .before .before .before .before .before .before .before .before .pre .2)), deep-short (c .before .before .before .before .before .before .before .before .before .pre .1) _ _ _ (c .before .before .before .before .before .before .before .before .before .pre .2) (c .before .before .before .before .before .before .before .before .before .pre .3))
+deep-way-len-requires c κs =
+    let pre = c .before .before .before .before .before .before .before .pre in
+    let lt = marked-lt (c .before .before .before .before .before .before .before .args .d .now) 0 (pre .2) in
+    (priced-at (pre .4) (pre .0), omega (arith, pre .4, lt), deep-short (pre .1) _ _ _ (pre .2) (pre .3))
 
 mul-m : tie.Need-mul-m
-mul-m c = omega (arith, c .deep-way-len .ensures .len, c .deep-way-len .ensures .few)
+mul-m c = search needs
 
 returns-2 : tie.Need-returns-2
 returns-2 c = second-short (c .before .before .before .way-len .ensures) (c .before .before .if1 .left) (c .before .deep-way-len .ensures) refl (c .if2 .taken) refl refl
 
 put-way-requires : tie.Need-put-way-requires
-put-way-requires c κs = (c .before .before .before .before .before .before .before .before .before .before .before .before .pre .0, c .before .before .before .before .before .before .before .before .before .before .before .before .pre .1, c .before .before .before .before .before .before .before .before .before .before .before .before .pre .2, way-roomy _ (c .before .before .before .before .way-len .ensures) (c .before .before .before .before .before .before .before .before .before .before .before .before .pre .3) (c .before .before .before .if1 .left))
+put-way-requires c κs =
+    let pre = c .before .before .before .before .before .before .before .before .before .before .pre in
+    (pre .0, pre .1, pre .2, way-roomy _ (c .before .before .before .before .way-len .ensures) (pre .3) (c .before .before .before .if1 .left))
 
 put-deep-way-requires : tie.Need-put-deep-way-requires
-put-deep-way-requires c κs = (rw (c .before .before .before .before .before .before .before .before .before .before .before .before .before .before .before .before .pre .4) (c .before .before .before .before .before .before .before .before .before .before .before .before .before .before .before .before .pre .0), omega (arith, c .before .before .before .before .before .before .before .before .before .before .before .before .before .before .before .before .pre .4, marked-lt (c .before .before .before .before .before .before .before .before .before .before .before .before .before .before .before .before .args .d .now) (c .before .before .before .before .before .before .before .before .before .before .before .before .before .before .before .before .args .s) (c .before .before .before .before .before .before .before .before .before .before .before .before .before .before .before .before .pre .2)), deep-roomy _ (c .before .before .before .before .before .before .deep-way-len .ensures) (c .before .before .before .before .before .if2 .left))
+put-deep-way-requires c κs =
+    let pre = c .before .before .before .before .before .before .before .before .before .before .before .before .before .before .pre in
+    let lt = marked-lt (c .before .before .before .before .before .before .before .before .before .before .before .before .before .before .args .d .now) 0 (pre .2) in
+    (priced-at (pre .4) (pre .0), omega (arith, pre .4, lt), deep-roomy _ (c .before .before .before .before .before .before .deep-way-len .ensures) (c .before .before .before .before .before .if2 .left))
 
 same-length : tie.Need-same-length
 same-length c = search needs

@@ -1,3 +1,0 @@
-pub mod Queued
-pub mod Outer
-pub mod Answers

@@ -1,2 +1,0 @@
-pub mod PlainAnswer
-pub mod Named

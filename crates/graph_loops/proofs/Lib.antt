@@ -1,4 +1,0 @@
-pub mod Scans
-pub mod Ranks
-pub mod Back
-pub mod Least

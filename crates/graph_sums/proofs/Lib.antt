@@ -1,4 +1,0 @@
-pub mod Settling
-pub mod Sweeps
-pub mod Meaning
-pub mod Stuck

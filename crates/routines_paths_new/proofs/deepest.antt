@@ -1,4 +1,0 @@
-pub mod Moves
-pub mod Ways
-pub mod Along
-pub mod Some

@@ -1,4 +1,0 @@
-pub mod Open
-pub mod Way
-pub mod Deep
-pub mod Paths
