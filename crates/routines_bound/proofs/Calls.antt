@@ -1,7 +1,7 @@
 -- Calls are judged before the rest: where there are none, there is nothing to judge; else the words that say where their calls go on have the answers of those that they were chosen from.
 use mathlib.Core.Path.{_≡_, refl, sym, ap, fun-ext, _∙_}
 use mathlib.Core.List.{List}
-use Prim.Native.Nat.{ℕ, _<_}
+use Prim.Native.Nat.{ℕ, _≤_, _<_}
 use native.Mathlib.Omega.{arith}
 use lib.ListN.{length}
 use Rattle.routines.specs.Calling.{Flow, Routine, called, unknown, Live, handler, call, Recurs}
@@ -10,14 +10,14 @@ use Rattle.routines.proofs.Chosen.{chosen-recurs, chosen-widens, flow-answer-to
 use Rattle.routines.proofs.Done.{in-lt}
 use Rattle.routines_numbered.specs.Packed.{nodesIn}
 use Rattle.routines_joined.specs.Words.{flowAt, Laid}
-use Rattle.routines_joined.specs.Refused.{NothingRecurs, addressIn}
+use Rattle.routines_joined.specs.Refused.{NothingRecurs, Recursion, addressIn}
 use Rattle.routines_joined.proofs.Nodes.{small}
 use Rattle.routines_known.specs.Choosing.{ChosenTo}
 use Rattle.routines_known.specs.Marking.{flowOn, AllLose, IdleTo}
 use Rattle.routines_known.proofs.Known.{calls-judged}
 use Rattle.routines_known.proofs.Choice.{chosen, chosen-laid, chosen-cost, chosen-address, chosen-others, chosen-into, chosen-kind}
 use Rattle.routines_sums.specs.Ways.{costsIn}
-use Rattle.routines_bound.specs.Handler.{Words, HandlerWords, Settles}
+use Rattle.routines_bound.specs.Handler.{Words, HandlerWords, Settles, CallsJudged}
 
 -- no call
 module _ (x m : List ℕ) {n : ℕ} (words : Words x m n) (no-call : (v : ℕ) → v < n → nodesIn x v .kind ≡ 3 → ⊥) where
@@ -28,11 +28,14 @@ module _ (x m : List ℕ) {n : ℕ} (words : Words x m n) (no-call : (v : ℕ) �
   plain-judged : Judged (flowAt x m) unknown
   plain-judged = record { no-recursion = λ e w. not-called (w .0); knows = record { yes-if = λ e l h. absurd (not-called l); only-if = λ e l h. absurd (not-called l) } }
 
-  pub plain-settles : Settles x m n
-  plain-settles = record { words = words; none = plain-judged .no-recursion }
-
-  pub plain-answer : {p p′ q q′ : List ℕ} {r : Found} → FlowAnswer (flowAt x m) (costsIn x) (addressIn x) p p′ q q′ unknown r → Answer (flowAt x m) (costsIn x) (addressIn x) p p′ q q′ r
-  plain-answer a = judged plain-judged a
+  -- nothing is below 2,048
+  pub plain-calls : CallsJudged x m n x 2048
+  plain-calls =
+      record {
+        lowest = λ h. absurd (omega (arith, h));
+        settles = λ h. record { words = words; none = plain-judged .no-recursion };
+        answers = λ h p p′ q q′ r a. judged plain-judged a;
+      }
 
 -- calls, of which l marks the numbers that lose SF, and x′ says where they go on
 module _ (x m l x′ : List ℕ) {n : ℕ} (h : HandlerWords x m n) (none : NothingRecurs (flowAt x m)) (len : length l ≡ n) (all : AllLose (flowOn x) l) (idle : IdleTo (flowOn x) l n) (c : ChosenTo x l n x′) where
@@ -46,7 +49,7 @@ module _ (x m l x′ : List ℕ) {n : ℕ} (h : HandlerWords x m n) (none : Noth
       let w = chosen x m l x′ (h .words .laid) (h .calls) c (h .words .first) in
       ap (λ (e : ℕ). flowAt x m .from e) (w .entry v k) ∙ h .words .first v i (sym (w .kind v) ∙ k) ∙ sym (chosen-into x m l x′ (h .words .laid) (h .calls) c (h .words .first) v)
 
-  pub chosen-settles : Settles x′ m n
+  chosen-settles : Settles x′ m n
   chosen-settles =
       let w = chosen x m l x′ (h .words .laid) (h .calls) c (h .words .first) in
       record {
@@ -68,7 +71,14 @@ module _ (x m l x′ : List ℕ) {n : ℕ} (h : HandlerWords x m n) (none : Noth
   address-same : addressIn x′ ≡ addressIn x
   address-same = fun-ext (chosen-address x m l x′ (h .words .laid) (h .calls) c (h .words .first))
 
-  pub chosen-answer : {p p′ q q′ : List ℕ} {r : Found} → FlowAnswer (flowAt x′ m) (costsIn x′) (addressIn x′) p p′ q q′ unknown r → Answer (flowAt x m) (costsIn x) (addressIn x) p p′ q q′ r
+  chosen-answer : {p p′ q q′ : List ℕ} {r : Found} → FlowAnswer (flowAt x′ m) (costsIn x′) (addressIn x′) p p′ q q′ unknown r → Answer (flowAt x m) (costsIn x) (addressIn x) p p′ q q′ r
   chosen-answer a =
       judged (calls-judged x m (h .words .laid) (h .words .first) l len all idle (h .region) (h .words .widens) (h .known-after) none)
       (flow-answer-to (chosen x m l x′ (h .words .laid) (h .calls) c (h .words .first)) (rw (costs-same, address-same) at a))
+
+  pub chosen-calls : {r : ℕ} → 2048 ≤ r → CallsJudged x m n x′ r
+  chosen-calls le = record { lowest = λ h. absurd (omega (arith, h, le)); settles = λ h. chosen-settles; answers = λ h p p′ q q′ r a. chosen-answer a }
+
+-- one recurs
+pub recursive-calls : {x m x′ : List ℕ} {n r : ℕ} → r < 2048 → Recursion (flowAt x m) r → CallsJudged x m n x′ r
+recursive-calls lt w = record { lowest = w .lowest; settles = λ h. absurd (omega (arith, h, lt)); answers = λ h. absurd (omega (arith, h, lt)) }

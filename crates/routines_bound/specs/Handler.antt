@@ -3,8 +3,10 @@ use mathlib.Core.Path.{_≡_}
 use mathlib.Core.List.{List}
 use Prim.Native.Nat.{ℕ, _≤_, _<_}
 use lib.ListN.{length, getD}
-use Rattle.graph.specs.Graph.{Graph}
+use Rattle.graph.specs.Graph.{Graph, Least}
+use Rattle.routines.specs.Calling.{unknown, Recurs}
 use Rattle.routines.specs.Answer as answer
+use Rattle.routines.specs.Answer.{FlowAnswer, Answer}
 use Rattle.routines.specs.Shape.{Widens}
 use Rattle.routines.specs.Losing.{Region, KnownAfter}
 use Rattle.routines_numbered.specs.Packed.{nodesIn}
@@ -61,6 +63,13 @@ pub record ChosenBy (x : List ℕ) (n : ℕ) (x′ : List ℕ) : Type 0 where
   pub all : AllLose (flowOn x) l
   pub idle : marking.IdleTo (flowOn x) l n
   pub chosen : ChosenTo x l n x′
+
+-- r is the lowest entry that recurs; or it is 2,048 or more and none does: then x became x′, which says where its calls go on, and what is answered by x′ is answered
+pub record CallsJudged (x m : List ℕ) (n : ℕ) (x′ : List ℕ) (r : ℕ) : Type 0 where
+  pub lowest : r < 2048 → Least (Recurs (flowAt x m)) r
+  pub settles : 2048 ≤ r → Settles x′ m n
+  pub answers : 2048 ≤ r → (p p′ q q′ : List ℕ) (a : answer.Found) → FlowAnswer (flowAt x′ m) (costsIn x′) (addressIn x′) p p′ q q′ unknown a
+      → Answer (flowAt x m) (costsIn x) (addressIn x) p p′ q q′ a
 
 -- what settled sums and depths come to: too much; a buffer that is short; or both paths, with what they spend and how many calls are open
 pub data Comes (g : Graph) (address : ℕ → ℕ) (d dep : List ℕ) (p p′ q q′ : List ℕ) : Found → Type 0 where

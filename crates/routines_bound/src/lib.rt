@@ -23,7 +23,7 @@ ghost use Rattle.routines_joined.specs.Refused.{Recursion, addressIn};
 ghost use Rattle.routines_known.specs.Marking.{Sized};
 ghost use Rattle.routines_sums.specs.Dist.{Dist};
 ghost use Rattle.routines_sums.specs.Ways.{waysIn, costsIn, Priced, IdleTo};
-ghost use Rattle.routines_bound.specs.Handler.{foundOf, NoCall, HandlerWords, Settles, JudgedBy, ChosenBy, Comes, Measured};
+ghost use Rattle.routines_bound.specs.Handler.{foundOf, NoCall, HandlerWords, Settles, JudgedBy, ChosenBy, CallsJudged, Comes, Measured};
 
 // The greatest of what is spent, and of the calls that are open at once.
 pub struct Greatest {
@@ -301,21 +301,23 @@ fn answer_judged(words: &[u64], map: &[u16], n: usize, path: &mut [u8], deep: &m
     }
 }
 
-// The bound of a handler that calls: 24 first.
-fn answer_calls(words: &mut [u64], map: &[u16], n: usize, path: &mut [u8], deep: &mut [u8]) -> Found
+// The lowest entry that recurs, or 2,048 or more: then the word of each call says where it goes on. Without calls nothing is paid for them but the test.
+fn judge_calls(words: &mut [u64], map: &[u16], n: usize) -> usize
     requires { ⌜ HandlerWords (now words) (now map) n ⌝ }
-    ensures { λ r. ⌜ Answer (flowAt (now (words .entry)) (now (map .entry))) (costsIn (now (words .entry))) (addressIn (now (words .entry)))
-        (now (path .entry)) (now (path .exit)) (now (deep .entry)) (now (deep .exit)) (foundOf r) ⌝ }
+    ensures { λ r. ⌜ CallsJudged (now (words .entry)) (now (map .entry)) n (now (words .exit)) r ⌝ }
 {
+    if !has_call(words, n) {
+        return ENTRIES;
+    }
     let lowest = lowest_recursion(words, map, n);
     if lowest < ENTRIES {
-        return Found::Recursion(lowest);
+        return lowest;
     }
     choose_calls(words, n);
-    answer_judged(words, map, n, path, deep)
+    lowest
 }
 
-// The bound of a handler of n numbers, of which the start's is 0. Its calls' words come to say where they go on; without calls nothing is paid for them but the test.
+// The bound of a handler of n numbers, of which the start's is 0.
 pub fn bound_words(
     words: &mut [u64],
     map: &[u16],
@@ -327,8 +329,9 @@ pub fn bound_words(
     ensures { λ r. ⌜ Answer (flowAt (now (words .entry)) (now (map .entry))) (costsIn (now (words .entry))) (addressIn (now (words .entry)))
         (now (path .entry)) (now (path .exit)) (now (deep .entry)) (now (deep .exit)) (foundOf r) ⌝ }
 {
-    if has_call(words, n) {
-        return answer_calls(words, map, n, path, deep);
+    let lowest = judge_calls(words, map, n);
+    if lowest < ENTRIES {
+        return Found::Recursion(lowest);
     }
     answer_judged(words, map, n, path, deep)
 }

@@ -1,7 +1,8 @@
 -- `routines_bound::measured_in` meets its contract.
-use mathlib.Core.Path.{sym, _∙_}
+use mathlib.Core.Path.{_≡_, sym, _∙_}
 use native.Mathlib.Omega.{arith}
 use denote.Ref.{now}
+use lib.ListN.{length, take}
 use Rattle.routines_sums.proofs.Settling.{priced-at}
 use Rattle.routines_bound.proofs.Parts.{part-length, part-blank}
 use borrow.Author.Needs.{needs}
@@ -30,7 +31,14 @@ measured-by-requires : tie.Need-measured-by-requires
 measured-by-requires c κs =
     let args = c .before .before .before .before .before .before .before .before .before .args in
     let pre = c .before .before .before .before .before .before .before .before .before .pre in
-    (priced-at (sym (part-length (args .n) (now (args .d)) (pre .2) (pre .0 .few))) (pre .0), omega (arith, pre .1, part-length (args .n) (now (args .d)) (pre .2) (pre .0 .few)), part-blank (args .n) (now (args .d)) (omega (arith, pre .2, pre .0 .few)) (pre .3), part-blank (args .n) (now (args .dep)) (omega (arith, pre .4, pre .0 .few)) (pre .5), sym (part-length (args .n) (now (args .dep)) (pre .4) (pre .0 .few)) ∙ part-length (args .n) (now (args .d)) (pre .2) (pre .0 .few))
+    let sums : args .n ≡ length (take (args .n) (now (args .d))) = part-length (args .n) (now (args .d)) (pre .2) (pre .0 .few) in
+    let depths = part-length (args .n) (now (args .dep)) (pre .4) (pre .0 .few) in (
+      priced-at (sym sums) (pre .0),
+      omega (arith, pre .1, sums),
+      part-blank (args .n) (now (args .d)) (omega (arith, pre .2, pre .0 .few)) (pre .3),
+      part-blank (args .n) (now (args .dep)) (omega (arith, pre .4, pre .0 .few)) (pre .5),
+      sym depths ∙ sums,
+    )
 
 same-length : tie.Need-same-length
 same-length c = search needs
