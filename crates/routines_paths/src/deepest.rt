@@ -1,4 +1,5 @@
 // Request Q-9: the depth's path through the calls, from number 0, written with a stack of where the open calls go on and what can be reached there.
+use crate::place::latest;
 use crate::place::more;
 use crate::place::put;
 use routines_sums::Way;
@@ -88,10 +89,9 @@ fn deep_on(
     if way.kind == 3 {
         return enter(dep, stack, pend, here, way);
     }
-    let t = top - 1;
     Deep {
-        v: stack[t] as usize,
-        top: t,
+        v: latest(stack, top),
+        top: top - 1,
         reached: here.reached,
     }
 }

@@ -1,9 +1,9 @@
-// What both ways do at a number: whether the way is over there, and its address in two bytes.
+// What both ways do at a number: whether the way is over there, where it goes back to, and its address in two bytes.
 use routines_numbered::place_of;
 use routines_sums::way_of;
 ghost use mathlib.Core.Path.{_≡_};
-ghost use Prim.Native.Nat.{_+_, _/_, _%_, _<_, _≤_};
-ghost use lib.ListN.{length, set};
+ghost use Prim.Native.Nat.{_+_, _-_, _/_, _%_, _<_, _≤_};
+ghost use lib.ListN.{length, getD, set};
 ghost use Rattle.routines_joined.specs.Refused.{addressIn};
 ghost use Rattle.routines_sums.specs.Ways.{waysIn};
 ghost use Rattle.routines_paths.specs.Open.{More};
@@ -18,6 +18,14 @@ pub fn more(words: &[u64], v: usize, top: usize) -> bool
         return true;
     }
     0 < top
+}
+
+// Where the latest call goes on, of so many that are open.
+pub fn latest(stack: &[u16], top: usize) -> usize
+    requires { ⌜ (0 < top) × (top < length (now stack)) ⌝ }
+    ensures { λ r. ⌜ r ≡ getD (now (stack .entry)) (top - 1) 0 ⌝ }
+{
+    stack[top - 1] as usize
 }
 
 // The address of v, low byte first.

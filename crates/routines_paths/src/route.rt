@@ -1,4 +1,5 @@
 // Request Q-9: N's path through the calls, from number 0, written with a stack of where the open calls go on.
+use crate::place::latest;
 use crate::place::more;
 use crate::place::put;
 use routines_sums::Way;
@@ -52,10 +53,9 @@ fn move_on(words: &[u64], d: &[u32], stack: &mut [u16], here: At) -> At
             top: top + 1,
         };
     }
-    let t = top - 1;
     At {
-        v: stack[t] as usize,
-        top: t,
+        v: latest(stack, top),
+        top: top - 1,
     }
 }
 

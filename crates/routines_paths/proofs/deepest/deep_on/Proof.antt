@@ -1,7 +1,6 @@
 -- `routines_paths::deepest::deep_on` meets its contract.
 use mathlib.Core.Path.{refl}
 use native.Mathlib.Omega.{arith}
-use Rattle.graph_search.proofs.Zeros.{wide16}
 use Rattle.routines_sums.proofs.Settling.{way-lt}
 use Rattle.routines_paths.proofs.Open.{third}
 use Rattle.routines_paths.proofs.deepest.Moves.{turned, turned-lt, entered, moved-back, working-pop}
@@ -50,26 +49,27 @@ returns-2 c =
     let e = c .before .before .before .before .enter .ensures in
     (entered way _ _ (c .before .before .before .before .before .before .before .if2 .taken) (e .0) (e .1) (e .2), e .3, rw (e .0) (lt .0))
 
-sub-t : tie.Need-sub-t
-sub-t c =
-    let pre = c .before .before .before .before .before .before .before .before .before .pre in
-    let end = third (pre .4) (c .before .before .before .before .way-of .ensures .kind) (c .before .before .if1 .left) (c .if2 .left) in
+latest-requires : tie.Need-latest-requires
+latest-requires c κs =
+    let pre = c .before .before .before .before .before .before .before .before .before .before .pre in
+    let end = third (pre .4) (c .before .before .before .before .before .way-of .ensures .kind) (c .before .before .before .if1 .left) (c .before .if2 .left) in
+    (end .1, pre .2)
+
+sub-t20 : tie.Need-sub-t20
+sub-t20 c =
+    let pre = c .before .before .before .before .before .before .before .before .before .before .before .pre in
+    let end = third (pre .4) (c .before .before .before .before .before .before .way-of .ensures .kind) (c .before .before .before .before .if1 .left) (c .before .before .if2 .left) in
     omega (arith, end .1)
 
-mul-t18 : tie.Need-mul-t18
-mul-t18 c = search needs
-
-slice-read-t20 : tie.Need-slice-read-t20
-slice-read-t20 c = search needs
-
-cast-t21 : tie.Need-cast-t21
-cast-t21 c = wide16 (c .slice-known5 .given _)
+same-length-4 : tie.Need-same-length-4
+same-length-4 c = search needs
 
 returns-3 : tie.Need-returns-3
 returns-3 c =
-    let pre = c .before .before .before .before .before .before .before .before .before .before .pre in
-    let end = third (pre .4) (c .before .before .before .before .before .way-of .ensures .kind) (c .before .before .before .if1 .left) (c .before .if2 .left) in
-    (moved-back _ (end .0) (end .1), working-pop (omega arith) (pre .3), pre .3 .stacked .at _)
+    let pre = c .before .before .before .before .before .before .before .before .before .before .before .pre in
+    let end = third (pre .4) (c .before .before .before .before .before .before .way-of .ensures .kind) (c .before .before .before .before .if1 .left) (c .before .before .if2 .left) in
+    let e = c .latest .ensures in
+    (rw e (moved-back _ (end .0) (end .1)), working-pop (omega arith) (pre .3), rw e (pre .3 .stacked .at _))
 
 pub deep-on-spec : {M : Type 1} → statement M
 deep-on-spec =
@@ -83,8 +83,7 @@ deep-on-spec =
     same-length-2
     same-length-3
     returns-2
-    sub-t
-    mul-t18
-    slice-read-t20
-    cast-t21
+    latest-requires
+    sub-t20
+    same-length-4
     returns-3)

@@ -1,6 +1,6 @@
 -- `routines_paths::route::move_on` meets its contract.
 use native.Mathlib.Omega.{arith}
-use Rattle.graph_search.proofs.Zeros.{wide16, within-set}
+use Rattle.graph_search.proofs.Zeros.{within-set}
 use Rattle.routines_sums.proofs.Settling.{way-lt}
 use Rattle.routines_paths.proofs.Open.{third, fits16}
 use Rattle.routines_paths.proofs.route.Moves.{moved-on, moved-in, moved-back}
@@ -32,8 +32,8 @@ mul-stack c = search needs
 slice-write-stack : tie.Need-slice-write-stack
 slice-write-stack c = search needs
 
-add-t11 : tie.Need-add-t11
-add-t11 c = search needs
+add-t10 : tie.Need-add-t10
+add-t10 c = search needs
 
 same-length : tie.Need-same-length
 same-length c = search needs
@@ -45,26 +45,26 @@ returns-2 c =
     let lt = way-lt (pre .0) _ (pre .1) way in
     (moved-in _ way _ _ (c .before .if2 .taken) (pre .2), within-set _ _ (pre .2) (lt .1) (pre .3))
 
-sub-t : tie.Need-sub-t
-sub-t c =
-    let pre = c .before .before .before .before .before .before .before .before .pre in
-    let end = third (pre .4) (c .before .before .before .before .way-of .ensures .kind) (c .before .before .if1 .left) (c .if2 .left) in
+latest-requires : tie.Need-latest-requires
+latest-requires c κs =
+    let pre = c .before .before .before .before .before .before .before .before .before .pre in
+    let end = third (pre .4) (c .before .before .before .before .before .way-of .ensures .kind) (c .before .before .before .if1 .left) (c .before .if2 .left) in
+    (end .1, pre .2)
+
+sub-t15 : tie.Need-sub-t15
+sub-t15 c =
+    let pre = c .before .before .before .before .before .before .before .before .before .before .pre in
+    let end = third (pre .4) (c .before .before .before .before .before .before .way-of .ensures .kind) (c .before .before .before .before .if1 .left) (c .before .before .if2 .left) in
     omega (arith, end .1)
 
-mul-t13 : tie.Need-mul-t13
-mul-t13 c = search needs
-
-slice-read-t15 : tie.Need-slice-read-t15
-slice-read-t15 c = search needs
-
-cast-t16 : tie.Need-cast-t16
-cast-t16 c = wide16 (c .slice-known2 .given _)
+same-length-2 : tie.Need-same-length-2
+same-length-2 c = search needs
 
 returns-3 : tie.Need-returns-3
 returns-3 c =
-    let pre = c .before .before .before .before .before .before .before .before .before .pre in
-    let end = third (pre .4) (c .before .before .before .before .before .way-of .ensures .kind) (c .before .before .before .if1 .left) (c .before .if2 .left) in
-    (moved-back _ _ (end .0) (end .1), pre .3)
+    let pre = c .before .before .before .before .before .before .before .before .before .before .pre in
+    let end = third (pre .4) (c .before .before .before .before .before .before .way-of .ensures .kind) (c .before .before .before .before .if1 .left) (c .before .before .if2 .left) in
+    (rw (c .latest .ensures) (moved-back _ _ (end .0) (end .1)), pre .3)
 
 pub move-on-spec : {M : Type 1} → statement M
 move-on-spec =
@@ -76,11 +76,10 @@ move-on-spec =
     cast-stack
     mul-stack
     slice-write-stack
-    add-t11
+    add-t10
     same-length
     returns-2
-    sub-t
-    mul-t13
-    slice-read-t15
-    cast-t16
+    latest-requires
+    sub-t15
+    same-length-2
     returns-3)
