@@ -1,4 +1,4 @@
-// Intel HEX on numbers and byte buffers, for C and for whatever calls C: include/em73862_hex.h declares the calls.
+// Intel HEX on numbers and byte buffers, for C and for whatever calls C: include/em73862_hex.h and include/em73p982_hex.h declare the calls.
 // Two answers of a call to the same inputs are equal: proofs/OneAnswer.antt.
 pub mod state;
 
@@ -12,8 +12,13 @@ use hex_chunks::finish;
 use hex_chunks::refusal_of;
 use hex_chunks::start;
 use hex_reader::read_hex;
+use hex_reader::read_p982_hex;
+use hex_reader::work::IMAGE_SIZE;
+use hex_reader::work::P982_IMAGE_SIZE;
 use hex_writer::write_hex;
+use hex_writer::write_p982_hex;
 ghost use mathlib.Core.Path.{_≡_};
+ghost use Prim.Native.Nat.{_≤_};
 ghost use Rattle.hex_calls.specs.Chunks.{numberOf, lineOf, StartCall, FeedBytes, EndBytes};
 ghost use Rattle.hex_calls.specs.Calls.{ReadCall, WriteCall};
 
@@ -23,25 +28,10 @@ const NO_STATE: u8 = 2;
 // Nothing is told yet.
 const MORE: u8 = 255;
 
-#[no_mangle]
-pub extern "C" fn em73862_hex_read(text: &[u8], image: &mut [u8], line: &mut usize) -> u8
-    ensures { λ r. ⌜ ReadCall (now (text .entry)) (now (image .entry)) r (now (line .exit)) (now (image .exit)) ⌝ }
-{
-    let answer = read_hex(text, image);
-    *line = answer.line;
-    answer.number
-}
-
-#[no_mangle]
-pub extern "C" fn em73862_hex_write(image: &[u8], text: &mut [u8]) -> u8
-    ensures { λ r. ⌜ WriteCall (now (image .entry)) (now (text .entry)) r (now (text .exit)) ⌝ }
-{
-    write_hex(image, text)
-}
-
-#[no_mangle]
-pub extern "C" fn em73862_hex_start(state: &mut [u8]) -> u8
-    ensures { λ r. ⌜ StartCall (now (state .entry)) (now (state .exit)) r ⌝ }
+// A new state is one for either device.
+fn start_state(state: &mut [u8]) -> u8
+    ensures { λ r. ⌜ StartCall 8192 (now (state .entry)) (now (state .exit)) r ⌝ }
+    ensures { λ r. ⌜ StartCall 16384 (now (state .entry)) (now (state .exit)) r ⌝ }
 {
     if state.len() != STATE_SIZE {
         return NO_STATE;
@@ -70,6 +60,82 @@ fn line_of(told: Told) -> usize
     }
 }
 
+// A chunk is fed to the reader of a device whose image has the size.
+fn feed_sized(
+    size: usize,
+    state: &mut [u8],
+    chunk: &[u8],
+    work: &mut [u8],
+    image: &[u8],
+    line: &mut usize,
+) -> u8
+    requires { ⌜ size ≤ 65536 ⌝ }
+    ensures { λ r. ⌜ FeedBytes size (now (state .entry)) (now (state .exit)) (now (chunk .entry)) (now (work .entry)) (now (work .exit)) (now (image .entry)) r (now (line .exit)) ⌝ }
+{
+    *line = 0;
+    let refusal = refusal_of(size, work, image);
+    if refusal != 0 {
+        return refusal;
+    }
+    if !is_state(state) {
+        return NO_STATE;
+    }
+    let fed = feed(unpack(state), chunk, size, work, image);
+    let told = fed.told;
+    pack(fed.state, state);
+    *line = line_of(told);
+    number_of(told)
+}
+
+// The end is declared to it.
+fn end_sized(
+    size: usize,
+    state: &mut [u8],
+    work: &mut [u8],
+    image: &mut [u8],
+    line: &mut usize,
+) -> u8
+    requires { ⌜ size ≤ 65536 ⌝ }
+    ensures { λ r. ⌜ EndBytes size (now (state .entry)) (now (state .exit)) (now (work .entry)) (now (work .exit)) (now (image .entry)) (now (image .exit)) r (now (line .exit)) ⌝ }
+{
+    *line = 0;
+    let refusal = refusal_of(size, work, image);
+    if refusal != 0 {
+        return refusal;
+    }
+    if !is_state(state) {
+        return NO_STATE;
+    }
+    let last = finish(unpack(state), size, work, image);
+    let told = last.told;
+    pack(last.state, state);
+    *line = line_of(told);
+    number_of(told)
+}
+
+#[no_mangle]
+pub extern "C" fn em73862_hex_read(text: &[u8], image: &mut [u8], line: &mut usize) -> u8
+    ensures { λ r. ⌜ ReadCall 8192 (now (text .entry)) (now (image .entry)) r (now (line .exit)) (now (image .exit)) ⌝ }
+{
+    let answer = read_hex(text, image);
+    *line = answer.line;
+    answer.number
+}
+
+#[no_mangle]
+pub extern "C" fn em73862_hex_write(image: &[u8], text: &mut [u8]) -> u8
+    ensures { λ r. ⌜ WriteCall 8192 (now (image .entry)) (now (text .entry)) r (now (text .exit)) ⌝ }
+{
+    write_hex(image, text)
+}
+
+#[no_mangle]
+pub extern "C" fn em73862_hex_start(state: &mut [u8]) -> u8
+    ensures { λ r. ⌜ StartCall 8192 (now (state .entry)) (now (state .exit)) r ⌝ }
+{
+    start_state(state)
+}
+
 #[no_mangle]
 pub extern "C" fn em73862_hex_feed(
     state: &mut [u8],
@@ -78,21 +144,9 @@ pub extern "C" fn em73862_hex_feed(
     image: &[u8],
     line: &mut usize,
 ) -> u8
-    ensures { λ r. ⌜ FeedBytes (now (state .entry)) (now (state .exit)) (now (chunk .entry)) (now (work .entry)) (now (work .exit)) (now (image .entry)) r (now (line .exit)) ⌝ }
+    ensures { λ r. ⌜ FeedBytes 8192 (now (state .entry)) (now (state .exit)) (now (chunk .entry)) (now (work .entry)) (now (work .exit)) (now (image .entry)) r (now (line .exit)) ⌝ }
 {
-    *line = 0;
-    let refusal = refusal_of(work, image);
-    if refusal != 0 {
-        return refusal;
-    }
-    if !is_state(state) {
-        return NO_STATE;
-    }
-    let fed = feed(unpack(state), chunk, work, image);
-    let told = fed.told;
-    pack(fed.state, state);
-    *line = line_of(told);
-    number_of(told)
+    feed_sized(IMAGE_SIZE, state, chunk, work, image, line)
 }
 
 #[no_mangle]
@@ -102,19 +156,55 @@ pub extern "C" fn em73862_hex_end(
     image: &mut [u8],
     line: &mut usize,
 ) -> u8
-    ensures { λ r. ⌜ EndBytes (now (state .entry)) (now (state .exit)) (now (work .entry)) (now (work .exit)) (now (image .entry)) (now (image .exit)) r (now (line .exit)) ⌝ }
+    ensures { λ r. ⌜ EndBytes 8192 (now (state .entry)) (now (state .exit)) (now (work .entry)) (now (work .exit)) (now (image .entry)) (now (image .exit)) r (now (line .exit)) ⌝ }
 {
-    *line = 0;
-    let refusal = refusal_of(work, image);
-    if refusal != 0 {
-        return refusal;
-    }
-    if !is_state(state) {
-        return NO_STATE;
-    }
-    let last = finish(unpack(state), work, image);
-    let told = last.told;
-    pack(last.state, state);
-    *line = line_of(told);
-    number_of(told)
+    end_sized(IMAGE_SIZE, state, work, image, line)
+}
+
+#[no_mangle]
+pub extern "C" fn em73p982_hex_read(text: &[u8], image: &mut [u8], line: &mut usize) -> u8
+    ensures { λ r. ⌜ ReadCall 16384 (now (text .entry)) (now (image .entry)) r (now (line .exit)) (now (image .exit)) ⌝ }
+{
+    let read = read_p982_hex(text, image);
+    *line = read.line;
+    read.number
+}
+
+#[no_mangle]
+pub extern "C" fn em73p982_hex_write(image: &[u8], text: &mut [u8]) -> u8
+    ensures { λ r. ⌜ WriteCall 16384 (now (image .entry)) (now (text .entry)) r (now (text .exit)) ⌝ }
+{
+    write_p982_hex(image, text)
+}
+
+#[no_mangle]
+pub extern "C" fn em73p982_hex_start(state: &mut [u8]) -> u8
+    ensures { λ r. ⌜ StartCall 16384 (now (state .entry)) (now (state .exit)) r ⌝ }
+{
+    start_state(state)
+}
+
+#[no_mangle]
+pub extern "C" fn em73p982_hex_feed(
+    state: &mut [u8],
+    chunk: &[u8],
+    work: &mut [u8],
+    image: &[u8],
+    line: &mut usize,
+) -> u8
+    ensures { λ r. ⌜ FeedBytes 16384 (now (state .entry)) (now (state .exit)) (now (chunk .entry)) (now (work .entry)) (now (work .exit)) (now (image .entry)) r (now (line .exit)) ⌝ }
+{
+    feed_sized(P982_IMAGE_SIZE, state, chunk, work, image, line)
+}
+
+#[no_mangle]
+pub extern "C" fn em73p982_hex_end(
+    state: &mut [u8],
+    work: &mut [u8],
+    image: &mut [u8],
+    line: &mut usize,
+) -> u8
+    ensures { λ r. ⌜ EndBytes 16384 (now (state .entry)) (now (state .exit)) (now (work .entry)) (now (work .exit)) (now (image .entry)) (now (image .exit)) r (now (line .exit)) ⌝ }
+{
+    end_sized(P982_IMAGE_SIZE, state, work, image, line)
 }

@@ -4,6 +4,7 @@ use mathlib.Core.List.{List, [], _∷_, _++_}
 use Prim.Native.Nat.{ℕ, _+_, _^_, _<_}
 use native.Mathlib.Omega.{arith}
 use lib.ListN.{length, length-append}
+use Rattle.hex_reader.specs.Work.{workSize}
 use Rattle.hex_reader.specs.Progress.{Progress, going, ended, stopped, Reading, good, refused, afterLines, readOf}
 use Rattle.hex_chunks.specs.Cut.{Session, fed, told, completed, byProgress, fedTo, afterChunk, afterEnd, afterChunks, imageOfReading, imageAtEnd, joined}
 use Rattle.hex_chunks.specs.Carries.{Carries, Tells, Fits}
@@ -23,15 +24,6 @@ open-by text (going ds) = tt
 open-by text (ended ds) = tt
 open-by text (stopped number line) = tt
 
-open-chunk : (session : Session) (chunk : List ℕ) → Open session → Open (afterChunk session chunk)
-unfolding fedTo
-open-chunk (fed text) chunk o = open-by (text ++ chunk) (afterLines (going []) 1 (completed [] (text ++ chunk)))
-open-chunk (told r) chunk o = o
-
-open-chunks : (session : Session) (chunks : List (List ℕ)) → Open session → Open (afterChunks session chunks)
-open-chunks session [] o = o
-open-chunks session (c ∷ cs) o = open-chunks (afterChunk session c) cs (open-chunk session c o)
-
 -- the chunks that are left fit
 abbrev pub FitsAll : Session → List (List ℕ) → Type 0
 FitsAll (fed text) chunks = length text + length (joined chunks) < 2 ^ 64
@@ -42,27 +34,37 @@ fits-by text (going ds) chunks h = h
 fits-by text (ended ds) chunks h = h
 fits-by text (stopped number line) chunks h = tt
 
-pub fits-one : (session : Session) (c : List ℕ) (cs : List (List ℕ)) → FitsAll session (c ∷ cs) → Fits session c × FitsAll (afterChunk session c) cs
-unfolding fedTo
-fits-one (fed text) c cs h = (
-  omega (arith, length-append c (joined cs)),
-  fits-by (text ++ c) (afterLines (going []) 1 (completed [] (text ++ c))) cs (omega (arith, length-append c (joined cs), length-append text c)),
-)
-fits-one (told r) c cs h = (tt, tt)
+module _ (imageSize : ℕ) where
+  open-chunk : (session : Session) (chunk : List ℕ) → Open session → Open (afterChunk imageSize session chunk)
+  unfolding fedTo
+  open-chunk (fed text) chunk o = open-by (text ++ chunk) (afterLines imageSize (going []) 1 (completed [] (text ++ chunk)))
+  open-chunk (told r) chunk o = o
 
-run-from : {s : HexChunks} {work image imageAfter : List ℕ} {chunks : List (List ℕ)} {t : Told} (session : Session) → Carries s work session → FitsAll session chunks → length work ≡ 9216 → length image ≡ 8192 → Run s work image chunks t imageAfter → Tells t (afterEnd (afterChunks session chunks)) × (imageAfter ≡ imageAtEnd (afterChunks session chunks) image)
-run-from session c f w i (ends e) = (e .ends w i session c .tells, e .written w i session c)
-run-from {chunks = d ∷ ds} session c f w i (feeds e r) =
-    let g = fits-one session d ds f in
-    run-from (afterChunk session d) (e .feeds w i session c (g .0) .carries) (g .1) (e .size ∙ w) i r
+  open-chunks : (session : Session) (chunks : List (List ℕ)) → Open session → Open (afterChunks imageSize session chunks)
+  open-chunks session [] o = o
+  open-chunks session (c ∷ cs) o = open-chunks (afterChunk imageSize session c) cs (open-chunk session c o)
 
-image-by : (session : Session) (image : List ℕ) (r : Reading) → Open session → afterEnd session ≡ told r → imageAtEnd session image ≡ imageOfReading image r
-image-by (fed text) image r o e = let q : readOf text ≡ r = cc in rw q
-image-by (told (good ds)) image r o e = absurd o
-image-by (told (refused number line)) image r o e = let q : r ≡ refused number line = cc in rw q
+  pub fits-one : (session : Session) (c : List ℕ) (cs : List (List ℕ)) → FitsAll session (c ∷ cs) → Fits session c × FitsAll (afterChunk imageSize session c) cs
+  unfolding fedTo
+  fits-one (fed text) c cs h = (
+    omega (arith, length-append c (joined cs)),
+    fits-by (text ++ c) (afterLines imageSize (going []) 1 (completed [] (text ++ c))) cs (omega (arith, length-append c (joined cs), length-append text c)),
+  )
+  fits-one (told r) c cs h = (tt, tt)
+
+  run-from : {s : HexChunks} {work image imageAfter : List ℕ} {chunks : List (List ℕ)} {t : Told} (session : Session) → Carries imageSize s work session → FitsAll session chunks → length work ≡ workSize imageSize → length image ≡ imageSize → Run imageSize s work image chunks t imageAfter → Tells t (afterEnd imageSize (afterChunks imageSize session chunks)) × (imageAfter ≡ imageAtEnd imageSize (afterChunks imageSize session chunks) image)
+  run-from session c f w i (ends e) = (e .ends w i session c .tells, e .written w i session c)
+  run-from {chunks = d ∷ ds} session c f w i (feeds e r) =
+      let g = fits-one session d ds f in
+      run-from (afterChunk imageSize session d) (e .feeds w i session c (g .0) .carries) (g .1) (e .size ∙ w) i r
+
+  image-by : (session : Session) (image : List ℕ) (r : Reading) → Open session → afterEnd imageSize session ≡ told r → imageAtEnd imageSize session image ≡ imageOfReading imageSize image r
+  image-by (fed text) image r o e = let q : readOf imageSize text ≡ r = cc in rw q
+  image-by (told (good ds)) image r o e = absurd o
+  image-by (told (refused number line)) image r o e = let q : r ≡ refused number line = cc in rw q
 
 pub run-as-whole : RunAsWhole
-run-as-whole s work image imageAfter chunks t c w i h r =
-    let q = run-from (fed []) c (omega arith) w i r in
-    let e = any-cutting chunks in
-    (subst (Tells t) e (q .0), q .1 ∙ image-by (afterChunks (fed []) chunks) image (readOf (joined chunks)) (open-chunks (fed []) chunks tt) e)
+run-as-whole imageSize s work image imageAfter chunks t c w i h r =
+    let q = run-from imageSize (fed []) c (omega arith) w i r in
+    let e = any-cutting imageSize chunks in
+    (subst (Tells t) e (q .0), q .1 ∙ image-by imageSize (afterChunks imageSize (fed []) chunks) image (readOf imageSize (joined chunks)) (open-chunks imageSize (fed []) chunks tt) e)

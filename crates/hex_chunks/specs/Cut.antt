@@ -1,4 +1,4 @@
--- Document 02, Q-10: a text that comes in chunks, and what is told of it. The lines, their faults and the image are Q-3's.
+-- Document 02, Q-10: a text that comes in chunks, and what is told of it. The lines, their faults and the image are Q-3's, for the size of the device's image.
 use Prim.Native.Nat.{ℕ}
 use mathlib.Core.Path.{_≡_}
 use mathlib.Core.List.{List, [], _∷_, _++_}
@@ -29,32 +29,32 @@ byProgress text (going ds) = fed text
 byProgress text (ended ds) = fed text
 byProgress text (stopped number line) = told (refused number line)
 
-unfoldable pub fedTo : List ℕ → Session
-fedTo text = byProgress text (afterLines (going []) 1 (completed [] text))
+unfoldable pub fedTo : ℕ → List ℕ → Session
+fedTo imageSize text = byProgress text (afterLines imageSize (going []) 1 (completed [] text))
 
 -- the end is declared: what is told is what Q-3's reader says of the whole text
-abbrev pub afterEnd : Session → Session
-afterEnd (fed text) = told (readOf text)
-afterEnd (told r) = told r
+abbrev pub afterEnd : ℕ → Session → Session
+afterEnd imageSize (fed text) = told (readOf imageSize text)
+afterEnd imageSize (told r) = told r
 
 -- a chunk is fed; "Once the end is declared or one of 40 to 45 given, later calls repeat that answer"
-abbrev pub afterChunk : Session → List ℕ → Session
-afterChunk (fed text) chunk = fedTo (text ++ chunk)
-afterChunk (told r) chunk = told r
+abbrev pub afterChunk : ℕ → Session → List ℕ → Session
+afterChunk imageSize (fed text) chunk = fedTo imageSize (text ++ chunk)
+afterChunk imageSize (told r) chunk = told r
 
 -- "The image buffer is written only when the end is declared and the whole text is good."
-abbrev pub imageOfReading : List ℕ → Reading → List ℕ
-imageOfReading before (good ds) = imageOf ds
-imageOfReading before (refused number line) = before
+abbrev pub imageOfReading : ℕ → List ℕ → Reading → List ℕ
+imageOfReading imageSize before (good ds) = imageOf imageSize ds
+imageOfReading imageSize before (refused number line) = before
 
-abbrev pub imageAtEnd : Session → List ℕ → List ℕ
-imageAtEnd (fed text) before = imageOfReading before (readOf text)
-imageAtEnd (told r) before = before
+abbrev pub imageAtEnd : ℕ → Session → List ℕ → List ℕ
+imageAtEnd imageSize (fed text) before = imageOfReading imageSize before (readOf imageSize text)
+imageAtEnd imageSize (told r) before = before
 
 -- chunks fed one after the other
-abbrev pub afterChunks : Session → List (List ℕ) → Session
-afterChunks s [] = s
-afterChunks s (c ∷ cs) = afterChunks (afterChunk s c) cs
+abbrev pub afterChunks : ℕ → Session → List (List ℕ) → Session
+afterChunks imageSize s [] = s
+afterChunks imageSize s (c ∷ cs) = afterChunks imageSize (afterChunk imageSize s c) cs
 
 abbrev pub joined : List (List ℕ) → List ℕ
 joined [] = []
@@ -62,4 +62,4 @@ joined (c ∷ cs) = c ++ joined cs
 
 -- "must end with the image, refusal and line number of Q-3's reader on the whole text, for every cutting"
 abbrev pub AnyCutting : Type 0
-AnyCutting = (chunks : List (List ℕ)) → afterEnd (afterChunks (fed []) chunks) ≡ told (readOf (joined chunks))
+AnyCutting = (imageSize : ℕ) (chunks : List (List ℕ)) → afterEnd imageSize (afterChunks imageSize (fed []) chunks) ≡ told (readOf imageSize (joined chunks))

@@ -19,7 +19,7 @@ pub record Kept (held : List ℕ) (count : ℕ) (line : List ℕ) : Type 0 where
   pub most : count ≤ suc heldSize
 
 -- line n is complete, whatever was reached before it; a line that stops nothing has eleven characters at least
-pub record Completes (line : List ℕ) (n : ℕ) (stage : Stage) (before after : List ℕ) (r : Stage) : Type 0 where
+pub record Completes (imageSize : ℕ) (line : List ℕ) (n : ℕ) (stage : Stage) (before after : List ℕ) (r : Stage) : Type 0 where
   pub size : length after ≡ length before
-  pub reached : (p : Progress) → Reached stage before p → Reached r after (afterLine p n line)
-  pub long : (p : Progress) → Reached stage before p → isStopped r ≡ false → 11 ≤ length line
+  pub reached : (p : Progress) → Reached imageSize stage before p → Reached imageSize r after (afterLine imageSize p n line)
+  pub long : (p : Progress) → Reached imageSize stage before p → isStopped r ≡ false → 11 ≤ length line

@@ -9,6 +9,7 @@ ghost use mathlib.Core.Path.{_≡_};
 ghost use mathlib.Core.List.{List, [], _∷_, _++_};
 ghost use Prim.Native.Nat.{ℕ, _≤_};
 ghost use lib.ListN.{length};
+ghost use Rattle.hex_reader.specs.Work.{workSize};
 ghost use Rattle.hex_reader.specs.Lines.{withoutCR};
 ghost use Rattle.hex_chunks.specs.Kept.{Kept, Completes};
 
@@ -46,45 +47,59 @@ pub fn hold(held: &mut [u8], count: usize, part: &[u8]) -> usize
 }
 
 // Line n, without its ending.
-fn complete(line: &[u8], n: usize, stage: Stage, work: &mut [u8]) -> Stage
-    requires { ⌜ length (now work) ≡ 9216 ⌝ }
-    ensures { λ r. ⌜ Completes (now (line .entry)) n stage (now (work .entry)) (now (work .exit)) r ⌝ }
+fn complete(line: &[u8], n: usize, stage: Stage, size: usize, work: &mut [u8]) -> Stage
+    requires { ⌜ length (now work) ≡ workSize size ⌝ }
+    ensures { λ r. ⌜ Completes size (now (line .entry)) n stage (now (work .entry)) (now (work .exit)) r ⌝ }
 {
     let judged = judge(line);
-    after_line(line, judged, n, stage, work)
+    after_line(line, judged, n, stage, size, work)
 }
 
 // Line n, which is too long to be a record.
-fn complete_long(n: usize, stage: Stage, work: &mut [u8]) -> Stage
-    requires { ⌜ length (now work) ≡ 9216 ⌝ }
-    ensures { λ _. ⌜ length (now (work .exit)) ≡ 9216 ⌝ }
-    ensures { λ r. ⌜ ((line : List ℕ) → 522 ≤ length line → Completes line n stage (now (work .entry)) (now (work .exit)) r) ⌝ }
+fn complete_long(n: usize, stage: Stage, size: usize, work: &mut [u8]) -> Stage
+    requires { ⌜ length (now work) ≡ workSize size ⌝ }
+    ensures { λ _. ⌜ length (now (work .exit)) ≡ workSize size ⌝ }
+    ensures { λ r. ⌜ ((line : List ℕ) → 522 ≤ length line → Completes size line n stage (now (work .entry)) (now (work .exit)) r) ⌝ }
 {
     let judged = Line::Fault(MALFORMED_OR_END_WITH_BYTES);
-    after_line(b"", judged, n, stage, work)
+    after_line(b"", judged, n, stage, size, work)
 }
 
 // Line n is complete with its LF.
-pub fn complete_line(held: &[u8], count: usize, n: usize, stage: Stage, work: &mut [u8]) -> Stage
-    requires { ⌜ (length (now held) ≡ 522) × (length (now work) ≡ 9216) ⌝ }
-    ensures { λ _. ⌜ length (now (work .exit)) ≡ 9216 ⌝ }
-    ensures { λ r. ⌜ ((line : List ℕ) → Kept (now (held .entry)) count line → Completes (withoutCR line) n stage (now (work .entry)) (now (work .exit)) r) ⌝ }
+pub fn complete_line(
+    held: &[u8],
+    count: usize,
+    n: usize,
+    stage: Stage,
+    size: usize,
+    work: &mut [u8],
+) -> Stage
+    requires { ⌜ (length (now held) ≡ 522) × (length (now work) ≡ workSize size) ⌝ }
+    ensures { λ _. ⌜ length (now (work .exit)) ≡ workSize size ⌝ }
+    ensures { λ r. ⌜ ((line : List ℕ) → Kept (now (held .entry)) count line → Completes size (withoutCR line) n stage (now (work .entry)) (now (work .exit)) r) ⌝ }
 {
     if HELD_SIZE < count {
-        return complete_long(n, stage, work);
+        return complete_long(n, stage, size, work);
     }
-    let size = without_cr(&held[..count]);
-    complete(&held[..size], n, stage, work)
+    let end = without_cr(&held[..count]);
+    complete(&held[..end], n, stage, size, work)
 }
 
 // Line n is the last, and ends in nothing.
-pub fn complete_last(held: &[u8], count: usize, n: usize, stage: Stage, work: &mut [u8]) -> Stage
-    requires { ⌜ (length (now held) ≡ 522) × (length (now work) ≡ 9216) ⌝ }
-    ensures { λ _. ⌜ length (now (work .exit)) ≡ 9216 ⌝ }
-    ensures { λ r. ⌜ ((line : List ℕ) → Kept (now (held .entry)) count line → Completes line n stage (now (work .entry)) (now (work .exit)) r) ⌝ }
+pub fn complete_last(
+    held: &[u8],
+    count: usize,
+    n: usize,
+    stage: Stage,
+    size: usize,
+    work: &mut [u8],
+) -> Stage
+    requires { ⌜ (length (now held) ≡ 522) × (length (now work) ≡ workSize size) ⌝ }
+    ensures { λ _. ⌜ length (now (work .exit)) ≡ workSize size ⌝ }
+    ensures { λ r. ⌜ ((line : List ℕ) → Kept (now (held .entry)) count line → Completes size line n stage (now (work .entry)) (now (work .exit)) r) ⌝ }
 {
     if HELD_SIZE < count {
-        return complete_long(n, stage, work);
+        return complete_long(n, stage, size, work);
     }
-    complete(&held[..count], n, stage, work)
+    complete(&held[..count], n, stage, size, work)
 }

@@ -8,19 +8,19 @@ use hex_reader::progress::Outcome;
 use hex_reader::progress::Stage;
 use hex_reader::progress::conclude;
 use hex_reader::progress::is_stopped;
-use hex_reader::work::IMAGE_SIZE;
-use hex_reader::work::WORK_SIZE;
 use hex_reader::work::clear;
 use hex_reader::work::copy_image;
+use hex_reader::work::work_size;
 use numbers::IMAGE_OF_ANOTHER_SIZE;
 use numbers::WORK_BUFFER_IS_NOT_9216_BYTES;
 use text::script::line_end;
 ghost use mathlib.Core.Path.{_≡_};
 ghost use mathlib.Core.Bool.{true, false};
 ghost use mathlib.Core.List.{List, [], _++_};
-ghost use Prim.Native.Nat.{ℕ, _+_, _-_, _^_, _<_};
+ghost use Prim.Native.Nat.{ℕ, _+_, _-_, _^_, _<_, _≤_};
 ghost use lib.ListN.{length};
 ghost use Rattle.laws.specs.Choice.{either};
+ghost use Rattle.hex_reader.specs.Work.{workSize};
 ghost use Rattle.hex_reader.specs.Progress.{readOf};
 ghost use Rattle.hex_reader.specs.Reached.{Concluded, isStopped};
 ghost use Rattle.hex_chunks.specs.Cut.{fed};
@@ -48,7 +48,7 @@ pub struct Fed {
 }
 
 pub fn start() -> HexChunks
-    ensures { λ r. ⌜ ((work : List ℕ) → Carries r work (fed [])) ⌝ }
+    ensures { λ r. ⌜ ((imageSize : ℕ) (work : List ℕ) → Carries imageSize r work (fed [])) ⌝ }
 {
     HexChunks {
         held: [0; 522],
@@ -84,22 +84,22 @@ fn reading(held: [u8; 522], count: usize, line: usize, stage: Stage) -> HexChunk
 }
 
 // The work buffer may have any contents before the first call.
-fn make_ready(begun: bool, work: &mut [u8])
-    requires { ⌜ length (now work) ≡ 9216 ⌝ }
-    ensures { λ _. ⌜ length (now (work .exit)) ≡ 9216 ⌝ }
-    ensures { λ _. ⌜ Readied begun (now (work .entry)) (now (work .exit)) ⌝ }
+fn make_ready(begun: bool, size: usize, work: &mut [u8])
+    requires { ⌜ length (now work) ≡ workSize size ⌝ }
+    ensures { λ _. ⌜ length (now (work .exit)) ≡ workSize size ⌝ }
+    ensures { λ _. ⌜ Readied size begun (now (work .entry)) (now (work .exit)) ⌝ }
 {
     if begun {
         return;
     }
-    clear(work);
+    clear(work, size);
 }
 
 // The characters of a chunk, line by line, up to the first fault.
-fn take_chunk(s: HexChunks, chunk: &[u8], work: &mut [u8]) -> HexChunks
-    requires { ⌜ length (now work) ≡ 9216 ⌝ }
-    ensures { λ _. ⌜ length (now (work .exit)) ≡ 9216 ⌝ }
-    ensures { λ r. ⌜ ((text : List ℕ) → Along text (s .held) (s .count) (s .line) (s .stage) (now (work .entry)) → length text + length (now (chunk .entry)) < 2 ^ 64 → Chunked (text ++ now (chunk .entry)) r (now (work .exit))) ⌝ }
+fn take_chunk(s: HexChunks, chunk: &[u8], size: usize, work: &mut [u8]) -> HexChunks
+    requires { ⌜ length (now work) ≡ workSize size ⌝ }
+    ensures { λ _. ⌜ length (now (work .exit)) ≡ workSize size ⌝ }
+    ensures { λ r. ⌜ ((text : List ℕ) → Along size text (s .held) (s .count) (s .line) (s .stage) (now (work .entry)) → length text + length (now (chunk .entry)) < 2 ^ 64 → Chunked size (text ++ now (chunk .entry)) r (now (work .exit))) ⌝ }
 {
     let mut held = s.held;
     let mut count = s.count;
@@ -112,7 +112,7 @@ fn take_chunk(s: HexChunks, chunk: &[u8], work: &mut [u8]) -> HexChunks
         if lf == chunk.len() {
             return reading(held, count, n, stage);
         }
-        stage = complete_line(&held, count, n, stage, work);
+        stage = complete_line(&held, count, n, stage, size, work);
         if is_stopped(stage) {
             return reading(held, count, n, stage);
         }
@@ -123,15 +123,22 @@ fn take_chunk(s: HexChunks, chunk: &[u8], work: &mut [u8]) -> HexChunks
 }
 
 // The end of the text: the line that is begun is the last, if it has a character.
-fn conclude_text(held: &[u8], count: usize, n: usize, stage: Stage, work: &mut [u8]) -> Outcome
-    requires { ⌜ (length (now held) ≡ 522) × (length (now work) ≡ 9216) ⌝ }
-    ensures { λ _. ⌜ length (now (work .exit)) ≡ 9216 ⌝ }
-    ensures { λ r. ⌜ ((text : List ℕ) → Along text (now (held .entry)) count n stage (now (work .entry)) → length text < 2 ^ 64 → Concluded r (now (work .exit)) (readOf text)) ⌝ }
+fn conclude_text(
+    held: &[u8],
+    count: usize,
+    n: usize,
+    stage: Stage,
+    size: usize,
+    work: &mut [u8],
+) -> Outcome
+    requires { ⌜ (length (now held) ≡ 522) × (length (now work) ≡ workSize size) ⌝ }
+    ensures { λ _. ⌜ length (now (work .exit)) ≡ workSize size ⌝ }
+    ensures { λ r. ⌜ ((text : List ℕ) → Along size text (now (held .entry)) count n stage (now (work .entry)) → length text < 2 ^ 64 → Concluded size r (now (work .exit)) (readOf size text)) ⌝ }
 {
     if count == 0 {
         return conclude(stage, n, work);
     }
-    let last = complete_last(held, count, n, stage, work);
+    let last = complete_last(held, count, n, stage, size, work);
     conclude(last, following(n), work)
 }
 
@@ -187,32 +194,34 @@ fn refuse(s: HexChunks, number: u8) -> Fed
     )
 }
 
-// The refusal of the buffers, 0 where both are right: the work buffer's comes first.
-pub fn refusal_of(work: &[u8], image: &[u8]) -> u8
-    ensures { λ r. ⌜ Sized (now (work .entry)) (now (image .entry)) r ⌝ }
+// The refusal of the buffers by the size of the device's image, 0 where both are right: the work buffer's comes first.
+pub fn refusal_of(size: usize, work: &[u8], image: &[u8]) -> u8
+    requires { ⌜ size ≤ 65536 ⌝ }
+    ensures { λ r. ⌜ Sized size (now (work .entry)) (now (image .entry)) r ⌝ }
 {
-    if work.len() != WORK_SIZE {
+    if work.len() != work_size(size) {
         return WORK_BUFFER_IS_NOT_9216_BYTES;
     }
-    if image.len() != IMAGE_SIZE {
+    if image.len() != size {
         return IMAGE_OF_ANOTHER_SIZE;
     }
     0
 }
 
 // A chunk, which may be empty.
-pub fn feed(s: HexChunks, chunk: &[u8], work: &mut [u8], image: &[u8]) -> Fed
-    ensures { λ r. ⌜ FeedCall s (now (chunk .entry)) (now (work .entry)) (now (work .exit)) (now (image .entry)) r ⌝ }
+pub fn feed(s: HexChunks, chunk: &[u8], size: usize, work: &mut [u8], image: &[u8]) -> Fed
+    requires { ⌜ size ≤ 65536 ⌝ }
+    ensures { λ r. ⌜ FeedCall size s (now (chunk .entry)) (now (work .entry)) (now (work .exit)) (now (image .entry)) r ⌝ }
 {
-    let refusal = refusal_of(work, image);
+    let refusal = refusal_of(size, work, image);
     if refusal != 0 {
         return refuse(s, refusal);
     }
     if is_final(s) {
         return answer(s, told_of(s));
     }
-    make_ready(s.begun, work);
-    let after = take_chunk(s, chunk, work);
+    make_ready(s.begun, size, work);
+    let after = take_chunk(s, chunk, size, work);
     answer(after, told_of(after))
 }
 
@@ -247,20 +256,21 @@ fn refused_end(s: HexChunks, number: u8, line: usize) -> Fed
 }
 
 // The end is declared. The image is written where the whole text is good.
-pub fn finish(s: HexChunks, work: &mut [u8], image: &mut [u8]) -> Fed
-    ensures { λ r. ⌜ EndCall s (now (work .entry)) (now (work .exit)) (now (image .entry)) (now (image .exit)) r ⌝ }
+pub fn finish(s: HexChunks, size: usize, work: &mut [u8], image: &mut [u8]) -> Fed
+    requires { ⌜ size ≤ 65536 ⌝ }
+    ensures { λ r. ⌜ EndCall size s (now (work .entry)) (now (work .exit)) (now (image .entry)) (now (image .exit)) r ⌝ }
 {
-    let refusal = refusal_of(work, image);
+    let refusal = refusal_of(size, work, image);
     if refusal != 0 {
         return refuse(s, refusal);
     }
     if is_final(s) {
         return answer(s, told_of(s));
     }
-    make_ready(s.begun, work);
+    make_ready(s.begun, size, work);
     let held = s.held;
     let stage = s.stage;
-    match conclude_text(&held, s.count, s.line, stage, work) {
+    match conclude_text(&held, s.count, s.line, stage, size, work) {
         Outcome::Good => {
             copy_image(work, image);
             good_end(s)

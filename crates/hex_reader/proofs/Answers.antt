@@ -10,24 +10,24 @@ use Rattle.hex_reader.specs.Reached.{Held}
 use Rattle.hex_reader.specs.Reader.{Result, readInto, ReadHex}
 use Rattle.hex_reader.specs.declared.HexRead.{HexRead}
 
-module _ (text before : List ℕ) where
-  pub wrong-size : (length before ≡ 8192 → ⊥) → ReadHex text before before (record { number = 1; line = 0 })
+module _ (imageSize : ℕ) (text before : List ℕ) where
+  pub wrong-size : (length before ≡ imageSize → ⊥) → ReadHex imageSize text before before (record { number = 1; line = 0 })
   unfolding readInto
-  wrong-size n = rw (ne-eqb (length before) 8192 n)
+  wrong-size n = rw (ne-eqb (length before) imageSize n)
 
-  pub refuses : (number line : ℕ) → length before ≡ 8192 → readOf text ≡ refused number line → ReadHex text before before (record { number = number; line = line })
+  pub refuses : (number line : ℕ) → length before ≡ imageSize → readOf imageSize text ≡ refused number line → ReadHex imageSize text before before (record { number = number; line = line })
   unfolding readInto
-  refuses number line e r = rw (eq-eqb (length before) 8192 e, r)
+  refuses number line e r = rw (eq-eqb (length before) imageSize e, r)
 
-  pub reads : (work after : List ℕ) → length before ≡ 8192 → Held good work (readOf text) → after ≡ take 8192 work → ReadHex text before after (record { number = 0; line = 0 })
+  pub reads : (work after : List ℕ) → length before ≡ imageSize → Held imageSize good work (readOf imageSize text) → after ≡ take (length before) work → ReadHex imageSize text before after (record { number = 0; line = 0 })
   unfolding readInto
-  reads work after e h c = rw (eq-eqb (length before) 8192 e, h .is, c, held-image work (h .records) (h .holds))
+  reads work after e h c = rw (eq-eqb (length before) imageSize e, h .is, c, e, held-image imageSize work (h .records) (h .holds))
 
 numbersOf : Result → HexRead
 numbersOf x = record { number = x .number; line = x .line }
 
 -- any two answers to the same text and buffer are equal, and leave the same bytes
-pub one-answer : (text before after other : List ℕ) (r q : HexRead) → ReadHex text before after r → ReadHex text before other q → (r ≡ q) × (after ≡ other)
+pub one-answer : (imageSize : ℕ) (text before after other : List ℕ) (r q : HexRead) → ReadHex imageSize text before after r → ReadHex imageSize text before other q → (r ≡ q) × (after ≡ other)
 unfolding numbersOf
-one-answer text before after other r q f g =
+one-answer imageSize text before after other r q f g =
     let e = f ∙ sym g in (ap numbersOf e, ap (λ (x : Result). x .image) e)

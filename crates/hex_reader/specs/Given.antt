@@ -1,4 +1,5 @@
 -- Document 02, Q-3: what the data records of a text give, and the image of it.
+-- imageSize is the size of the device's image: document 01, "Image: exactly 8,192 bytes."; Q-6, "an image of 16,384 bytes". Q-3 speaks of the first; each definition is over the size.
 use Prim.Native.Nat.{ℕ, zero, suc, _+_, _-_}
 use mathlib.Core.Bool.{Bool, false}
 use mathlib.Core.List.{List, [], _∷_}
@@ -31,26 +32,22 @@ abbrev pub bytesFrom : List Given → ℕ → ℕ → List ℕ
 bytesFrom ds a zero = []
 bytesFrom ds a (suc n) = byteAt ds a ∷ bytesFrom ds (suc a) n
 
--- document 01: "Image: exactly 8,192 bytes."
-abbrev pub imageSize : ℕ
-imageSize = 8192
-
-unfoldable pub imageOf : List Given → List ℕ
-imageOf ds = bytesFrom ds 0 imageSize
+unfoldable pub imageOf : ℕ → List Given → List ℕ
+imageOf imageSize ds = bytesFrom ds 0 imageSize
 
 -- one of the numbers below n passes a test
 abbrev pub some : ℕ → (ℕ → Bool) → Bool
 some zero f = false
 some (suc n) f = either (f n) (some n f)
 
--- "43 data byte past 1FFFh"
-abbrev pub isPast : Given → Bool
-isPast d = some (length (d .bytes)) (λ k. ltb 0x1FFF (d .address + k))
+-- "43 data byte past 1FFFh", the last address of 8,192 bytes: the image's size is the first address past it
+abbrev pub isPast : ℕ → Given → Bool
+isPast imageSize d = some (length (d .bytes)) (λ k. leb imageSize (d .address + k))
 
 -- "44 byte given twice"
 abbrev pub isTwice : List Given → Given → Bool
 isTwice ds d = some (length (d .bytes)) (λ k. isGiven ds (d .address + k))
 
 -- the refusal of a data record after others, in the request's order; 0 where it is taken
-unfoldable pub refusalOf : List Given → Given → ℕ
-refusalOf ds d = pick (isPast d) data-byte-past-1FFFh (pick (isTwice ds d) byte-given-twice 0)
+unfoldable pub refusalOf : ℕ → List Given → Given → ℕ
+refusalOf imageSize ds d = pick (isPast imageSize d) data-byte-past-1FFFh (pick (isTwice ds d) byte-given-twice 0)

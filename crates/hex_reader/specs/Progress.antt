@@ -21,24 +21,24 @@ pub data Reading : Type 0 where
   refused : ℕ → ℕ → Reading
 
 -- line n is a data record, and comes after others
-abbrev pub afterData : List Given → ℕ → Given → Progress
-afterData ds n d = pick (eqb (refusalOf ds d) 0) (going (d ∷ ds)) (stopped (refusalOf ds d) n)
+abbrev pub afterData : ℕ → List Given → ℕ → Given → Progress
+afterData imageSize ds n d = pick (eqb (refusalOf imageSize ds d) 0) (going (d ∷ ds)) (stopped (refusalOf imageSize ds d) n)
 
-abbrev pub afterJudged : List Given → ℕ → Judged → Progress
-afterJudged ds n (data-record address bytes) = afterData ds n (record { address = address; bytes = bytes })
-afterJudged ds n end-record = ended ds
-afterJudged ds n (faulty number) = stopped number n
+abbrev pub afterJudged : ℕ → List Given → ℕ → Judged → Progress
+afterJudged imageSize ds n (data-record address bytes) = afterData imageSize ds n (record { address = address; bytes = bytes })
+afterJudged imageSize ds n end-record = ended ds
+afterJudged imageSize ds n (faulty number) = stopped number n
 
 -- line n: "by first faulty line", and after the end record "any text .., not judged further"
-abbrev pub afterLine : Progress → ℕ → List ℕ → Progress
-afterLine (going ds) n line = afterJudged ds n (lineOf line)
-afterLine (ended ds) n line = stopped end-missing-or-text-after-it n
-afterLine (stopped number at) n line = stopped number at
+abbrev pub afterLine : ℕ → Progress → ℕ → List ℕ → Progress
+afterLine imageSize (going ds) n line = afterJudged imageSize ds n (lineOf line)
+afterLine imageSize (ended ds) n line = stopped end-missing-or-text-after-it n
+afterLine imageSize (stopped number at) n line = stopped number at
 
 -- lines from line n on
-abbrev pub afterLines : Progress → ℕ → List (List ℕ) → Progress
-afterLines p n [] = p
-afterLines p n (l ∷ ls) = afterLines (afterLine p n l) (suc n) ls
+abbrev pub afterLines : ℕ → Progress → ℕ → List (List ℕ) → Progress
+afterLines imageSize p n [] = p
+afterLines imageSize p n (l ∷ ls) = afterLines imageSize (afterLine imageSize p n l) (suc n) ls
 
 -- no line n: "end record missing (counted at the line where it would stand)"
 abbrev pub atEnd : Progress → ℕ → Reading
@@ -47,8 +47,8 @@ atEnd (ended ds) n = good ds
 atEnd (stopped number at) n = refused number at
 
 -- lines from line n on, and then the end
-abbrev pub readLines : Progress → ℕ → List (List ℕ) → Reading
-readLines p n ls = atEnd (afterLines p n ls) (n + length ls)
+abbrev pub readLines : ℕ → Progress → ℕ → List (List ℕ) → Reading
+readLines imageSize p n ls = atEnd (afterLines imageSize p n ls) (n + length ls)
 
-unfoldable pub readOf : List ℕ → Reading
-readOf text = readLines (going []) 1 (hexLines text)
+unfoldable pub readOf : ℕ → List ℕ → Reading
+readOf imageSize text = readLines imageSize (going []) 1 (hexLines text)

@@ -16,19 +16,19 @@ use Rattle.hex_reader.specs.declared.progress.Outcome.{Outcome}
 use Rattle.hex_reader.specs.declared.progress.Outcome.the-variants.{Good, Refused}
 
 -- the records that the buffer holds
-pub record Held {A : Type 0} (with-records : List Given → A) (work : List ℕ) (p : A) : Type 0 where
+pub record Held (imageSize : ℕ) {A : Type 0} (with-records : List Given → A) (work : List ℕ) (p : A) : Type 0 where
   pub records : List Given
   pub is : p ≡ with-records records
-  pub holds : Holds work records
+  pub holds : Holds imageSize work records
 
-abbrev pub Reached : Stage → List ℕ → Progress → Type 0
-Reached Going work p = Held going work p
-Reached Ended work p = Held ended work p
-Reached (Stopped number line) work p = p ≡ stopped number line
+abbrev pub Reached : ℕ → Stage → List ℕ → Progress → Type 0
+Reached imageSize Going work p = Held imageSize going work p
+Reached imageSize Ended work p = Held imageSize ended work p
+Reached imageSize (Stopped number line) work p = p ≡ stopped number line
 
-abbrev pub Concluded : Outcome → List ℕ → Reading → Type 0
-Concluded Good work r = Held good work r
-Concluded (Refused number line) work r = r ≡ refused number line
+abbrev pub Concluded : ℕ → Outcome → List ℕ → Reading → Type 0
+Concluded imageSize Good work r = Held imageSize good work r
+Concluded imageSize (Refused number line) work r = r ≡ refused number line
 
 -- "40 malformed line" to "45 end record missing": the number of a fault
 abbrev pub IsFault : ℕ → Type 0
@@ -40,6 +40,6 @@ isStopped Ended = false
 isStopped (Stopped number line) = true
 
 -- line n takes the stage on, whatever was reached before, and whatever line the answer about it means
-pub record Advances (text : List ℕ) (line : Line) (n : ℕ) (stage : Stage) (before after : List ℕ) (r : Stage) : Type 0 where
+pub record Advances (imageSize : ℕ) (text : List ℕ) (line : Line) (n : ℕ) (stage : Stage) (before after : List ℕ) (r : Stage) : Type 0 where
   pub size : length after ≡ length before
-  pub reached : (p : Progress) → Reached stage before p → (l : List ℕ) → meaningOf text line ≡ lineOf l → Reached r after (afterLine p n l)
+  pub reached : (p : Progress) → Reached imageSize stage before p → (l : List ℕ) → meaningOf text line ≡ lineOf l → Reached imageSize r after (afterLine imageSize p n l)

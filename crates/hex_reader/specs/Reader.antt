@@ -6,7 +6,7 @@ use lib.Dec.{eqb}
 use lib.ListN.{length}
 use Rattle.laws.specs.Choice.{pick}
 use Rattle.numbers.specs.ComesBack.{image-of-another-size}
-use Rattle.hex_reader.specs.Given.{imageSize, imageOf}
+use Rattle.hex_reader.specs.Given.{imageOf}
 use Rattle.hex_reader.specs.Progress.{Reading, good, refused, readOf}
 use Rattle.hex_reader.specs.declared.HexRead.{HexRead}
 
@@ -17,16 +17,16 @@ pub record Result : Type 0 where
   pub image : List ℕ
 
 -- "A refused read leaves the image buffer unchanged."
-abbrev pub resultOf : List ℕ → Reading → Result
-resultOf before (good ds) = record { number = 0; line = 0; image = imageOf ds }
-resultOf before (refused number line) = record { number = number; line = line; image = before }
+abbrev pub resultOf : ℕ → List ℕ → Reading → Result
+resultOf imageSize before (good ds) = record { number = 0; line = 0; image = imageOf imageSize ds }
+resultOf imageSize before (refused number line) = record { number = number; line = line; image = before }
 
 -- document 01's refusal 1 is of the buffer and comes first: it has no line
-unfoldable pub readInto : List ℕ → List ℕ → Result
-readInto text before =
-    pick (eqb (length before) imageSize) (resultOf before (readOf text))
+unfoldable pub readInto : ℕ → List ℕ → List ℕ → Result
+readInto imageSize text before =
+    pick (eqb (length before) imageSize) (resultOf imageSize before (readOf imageSize text))
     (record { number = image-of-another-size; line = 0; image = before })
 
 -- what the call answers and leaves is that
-abbrev pub ReadHex : List ℕ → List ℕ → List ℕ → HexRead → Type 0
-ReadHex text before after r = record { number = r .number; line = r .line; image = after } ≡ readInto text before
+abbrev pub ReadHex : ℕ → List ℕ → List ℕ → List ℕ → HexRead → Type 0
+ReadHex imageSize text before after r = record { number = r .number; line = r .line; image = after } ≡ readInto imageSize text before

@@ -12,7 +12,7 @@ abbrev pub recordAt : List ℕ → ℕ → ℕ → ℕ → Given
 recordAt text address count first = record { address = address; bytes = bytesAt text first count }
 
 -- whatever the records before it were
-pub record Takes (before after : List ℕ) (d : Given) (r : ℕ) : Type 0 where
+pub record Takes (imageSize : ℕ) (before after : List ℕ) (d : Given) (r : ℕ) : Type 0 where
   pub size : length after ≡ length before
-  pub answer : (ds : List Given) → Holds before ds → r ≡ refusalOf ds d
-  pub held : (ds : List Given) → Holds before ds → r ≡ 0 → Holds after (d ∷ ds)
+  pub answer : (ds : List Given) → Holds imageSize before ds → r ≡ refusalOf imageSize ds d
+  pub held : (ds : List Given) → Holds imageSize before ds → r ≡ 0 → Holds imageSize after (d ∷ ds)

@@ -14,12 +14,15 @@ use crate::progress::after_line;
 use crate::progress::conclude;
 use crate::progress::is_stopped;
 use crate::work::IMAGE_SIZE;
+use crate::work::P982_IMAGE_SIZE;
+use crate::work::P982_WORK_SIZE;
 use crate::work::WORK_SIZE;
 use crate::work::clear;
 use crate::work::copy_image;
 use numbers::IMAGE_OF_ANOTHER_SIZE;
 ghost use mathlib.Core.Path.{_≡_};
 ghost use lib.ListN.{length};
+ghost use Rattle.hex_reader.specs.Work.{workSize};
 ghost use Rattle.hex_reader.specs.Progress.{readOf};
 ghost use Rattle.hex_reader.specs.Reached.{Concluded};
 ghost use Rattle.hex_reader.specs.Reader.{ReadHex};
@@ -31,11 +34,11 @@ pub struct HexRead {
 }
 
 // The records of a text one after the other, up to the first fault or the text's end.
-fn read_lines(text: &[u8], work: &mut [u8]) -> Outcome
-    requires { ⌜ length (now work) ≡ 9216 ⌝ }
-    ensures { λ r. ⌜ (length (now (work .exit)) ≡ 9216) × (Concluded r (now (work .exit)) (readOf (now (text .entry)))) ⌝ }
+fn read_lines(text: &[u8], size: usize, work: &mut [u8]) -> Outcome
+    requires { ⌜ length (now work) ≡ workSize size ⌝ }
+    ensures { λ r. ⌜ (length (now (work .exit)) ≡ workSize size) × (Concluded size r (now (work .exit)) (readOf size (now (text .entry)))) ⌝ }
 {
-    clear(work);
+    clear(work, size);
     let mut stage = Stage::Going;
     let mut at = 0;
     let mut n = 1;
@@ -43,7 +46,7 @@ fn read_lines(text: &[u8], work: &mut [u8]) -> Outcome
         let Found::Record { line, next } = record_at(text, at) else {
             return conclude(stage, n, work);
         };
-        stage = after_line(text, line, n, stage, work);
+        stage = after_line(text, line, n, stage, size, work);
         if is_stopped(stage) {
             return conclude(stage, n, work);
         }
@@ -61,18 +64,35 @@ fn answer(number: u8, line: usize) -> HexRead
     }
 }
 
-pub fn read_hex(text: &[u8], image: &mut [u8]) -> HexRead
-    ensures { λ r. ⌜ ReadHex (now (text .entry)) (now (image .entry)) (now (image .exit)) r ⌝ }
+// A text read into a device's image, with a work buffer of the device's size.
+fn read_sized(text: &[u8], size: usize, work: &mut [u8], image: &mut [u8]) -> HexRead
+    requires { ⌜ length (now work) ≡ workSize size ⌝ }
+    ensures { λ r. ⌜ ReadHex size (now (text .entry)) (now (image .entry)) (now (image .exit)) r ⌝ }
 {
-    if image.len() != IMAGE_SIZE {
+    if image.len() != size {
         return answer(IMAGE_OF_ANOTHER_SIZE, 0);
     }
-    let mut work = [0u8; WORK_SIZE];
-    match read_lines(text, &mut work) {
+    match read_lines(text, size, work) {
         Outcome::Good => {
-            copy_image(&work, image);
+            copy_image(work, image);
             answer(0, 0)
         }
         Outcome::Refused { number, line } => answer(number, line),
     }
+}
+
+// Of the EM73862.
+pub fn read_hex(text: &[u8], image: &mut [u8]) -> HexRead
+    ensures { λ r. ⌜ ReadHex 8192 (now (text .entry)) (now (image .entry)) (now (image .exit)) r ⌝ }
+{
+    let mut work = [0u8; WORK_SIZE];
+    read_sized(text, IMAGE_SIZE, &mut work, image)
+}
+
+// Of the EM73P982.
+pub fn read_p982_hex(text: &[u8], image: &mut [u8]) -> HexRead
+    ensures { λ r. ⌜ ReadHex 16384 (now (text .entry)) (now (image .entry)) (now (image .exit)) r ⌝ }
+{
+    let mut work = [0u8; P982_WORK_SIZE];
+    read_sized(text, P982_IMAGE_SIZE, &mut work, image)
 }

@@ -3,8 +3,10 @@ use crate::data::take_data;
 use crate::line::Line;
 use numbers::END_MISSING_OR_TEXT_AFTER;
 ghost use mathlib.Core.Path.{_≡_};
+ghost use Prim.Native.Nat.{ℕ};
 ghost use lib.ListN.{length};
 ghost use Rattle.hex_reader.specs.Reads.{Placed};
+ghost use Rattle.hex_reader.specs.Work.{workSize};
 ghost use Rattle.hex_reader.specs.Progress.{Progress, atEnd};
 ghost use Rattle.hex_reader.specs.Reached.{Reached, Concluded, Advances, isStopped};
 
@@ -20,9 +22,9 @@ pub enum Outcome {
     Refused { number: u8, line: usize },
 }
 
-fn after_judged(text: &[u8], line: Line, n: usize, work: &mut [u8]) -> Stage
-    requires { ⌜ (Placed (now text) line) × (length (now work) ≡ 9216) ⌝ }
-    ensures { λ r. ⌜ Advances (now (text .entry)) line n Stage.Going (now (work .entry)) (now (work .exit)) r ⌝ }
+fn after_judged(text: &[u8], line: Line, n: usize, size: usize, work: &mut [u8]) -> Stage
+    requires { ⌜ (Placed (now text) line) × (length (now work) ≡ workSize size) ⌝ }
+    ensures { λ r. ⌜ Advances size (now (text .entry)) line n Stage.Going (now (work .entry)) (now (work .exit)) r ⌝ }
 {
     match line {
         Line::Data {
@@ -30,7 +32,7 @@ fn after_judged(text: &[u8], line: Line, n: usize, work: &mut [u8]) -> Stage
             count,
             first,
         } => {
-            let refusal = take_data(text, address, count, first, work);
+            let refusal = take_data(text, address, count, first, size, work);
             if refusal == 0 {
                 return Stage::Going;
             }
@@ -48,12 +50,19 @@ fn after_judged(text: &[u8], line: Line, n: usize, work: &mut [u8]) -> Stage
 }
 
 // Line n of a text, judged.
-pub fn after_line(text: &[u8], line: Line, n: usize, stage: Stage, work: &mut [u8]) -> Stage
-    requires { ⌜ (Placed (now text) line) × (length (now work) ≡ 9216) ⌝ }
-    ensures { λ r. ⌜ Advances (now (text .entry)) line n stage (now (work .entry)) (now (work .exit)) r ⌝ }
+pub fn after_line(
+    text: &[u8],
+    line: Line,
+    n: usize,
+    stage: Stage,
+    size: usize,
+    work: &mut [u8],
+) -> Stage
+    requires { ⌜ (Placed (now text) line) × (length (now work) ≡ workSize size) ⌝ }
+    ensures { λ r. ⌜ Advances size (now (text .entry)) line n stage (now (work .entry)) (now (work .exit)) r ⌝ }
 {
     match stage {
-        Stage::Going => after_judged(text, line, n, work),
+        Stage::Going => after_judged(text, line, n, size, work),
         Stage::Ended => Stage::Stopped {
             number: END_MISSING_OR_TEXT_AFTER,
             line: n,
@@ -77,7 +86,7 @@ pub fn is_stopped(stage: Stage) -> bool
 
 // The text is over where line n would stand.
 pub fn conclude(stage: Stage, n: usize, work: &[u8]) -> Outcome
-    ensures { λ r. ⌜ ((p : Progress) → Reached stage (now (work .entry)) p → Concluded r (now (work .entry)) (atEnd p n)) ⌝ }
+    ensures { λ r. ⌜ ((imageSize : ℕ) (p : Progress) → Reached imageSize stage (now (work .entry)) p → Concluded imageSize r (now (work .entry)) (atEnd p n)) ⌝ }
 {
     match stage {
         Stage::Going => Outcome::Refused {

@@ -4,22 +4,22 @@ use mathlib.Core.List.{List, _++_}
 use Prim.Native.Nat.{ℕ, _<_, _≤_}
 use borrow.Author.Tests.{eq-eqb, ne-eqb, lt-ltb, le-ltb}
 use lib.ListN.{length, drop}
-use Rattle.hex_writer.specs.Writer.{textOf, Result, writtenFrom, WriteHex}
+use Rattle.hex_writer.specs.Writer.{textOf, textSize, Result, writtenFrom, WriteHex}
 
-module _ (image before : List ℕ) where
-  pub wrong-size : (length image ≡ 8192 → ⊥) → WriteHex image before before 1
+module _ (imageSize : ℕ) (image before : List ℕ) where
+  pub wrong-size : (length image ≡ imageSize → ⊥) → WriteHex imageSize image before before 1
   unfolding writtenFrom
-  wrong-size n = rw (ne-eqb (length image) 8192 n)
+  wrong-size n = rw (ne-eqb (length image) imageSize n)
 
-  pub too-short : length image ≡ 8192 → length before < 22540 → WriteHex image before before 46
+  pub too-short : length image ≡ imageSize → length before < textSize imageSize → WriteHex imageSize image before before 46
   unfolding writtenFrom
-  too-short e h = rw (eq-eqb (length image) 8192 e, lt-ltb (length before) 22540 h)
+  too-short e h = rw (eq-eqb (length image) imageSize e, lt-ltb (length before) (textSize imageSize) h)
 
-  pub written : (after : List ℕ) → length image ≡ 8192 → 22540 ≤ length before → after ≡ textOf image ++ drop 22540 before → WriteHex image before after 0
+  pub written : (after : List ℕ) → length image ≡ imageSize → textSize imageSize ≤ length before → after ≡ textOf imageSize image ++ drop (textSize imageSize) before → WriteHex imageSize image before after 0
   unfolding writtenFrom
-  written after e h w = rw (eq-eqb (length image) 8192 e, le-ltb (length before) 22540 h, w)
+  written after e h w = rw (eq-eqb (length image) imageSize e, le-ltb (length before) (textSize imageSize) h, w)
 
 -- any two answers to the same image and buffer are equal, and leave the same bytes
-pub one-answer : (image before after other : List ℕ) (r q : ℕ) → WriteHex image before after r → WriteHex image before other q → (r ≡ q) × (after ≡ other)
-one-answer image before after other r q f g =
+pub one-answer : (imageSize : ℕ) (image before after other : List ℕ) (r q : ℕ) → WriteHex imageSize image before after r → WriteHex imageSize image before other q → (r ≡ q) × (after ≡ other)
+one-answer imageSize image before after other r q f g =
     let e = f ∙ sym g in (ap (λ (x : Result). x .number) e, ap (λ (x : Result). x .text) e)

@@ -11,7 +11,7 @@ use Rattle.laws.proofs.Writing.{wrote-then, writing-more, writing-none}
 use Rattle.text.specs.Digits.{hex}
 use Rattle.text.proofs.digits.Numbers.{digits-length}
 use Rattle.hex_reader.specs.Record.{total}
-use Rattle.hex_writer.specs.Writer.{hexBytes, chksum, recordText, dataFields, endFields, sixteenAt, recordsFrom, textOf}
+use Rattle.hex_writer.specs.Writer.{hexBytes, chksum, recordText, dataFields, endFields, sixteenAt, recordsFrom, recordsOf, textOf, textSize}
 
 pub hex-append : (a b : List ℕ) → hexBytes (a ++ b) ≡ hexBytes a ++ hexBytes b
 hex-append [] b = refl
@@ -52,33 +52,33 @@ record-length fields =
     omega (arith, length-append (hexBytes fields ++ hex 2 (chksum fields)) (10 ∷ []), length-append (hexBytes fields) (hex 2 (chksum fields)), hex-length fields, digits-length 16 2 (chksum fields))
 
 -- one record more is written
-pub records-on : {b m e : List ℕ} {r q : ℕ} (image : List ℕ) (k : ℕ) → Writing b m 0 r (recordsFrom image k (512 - k) ++ recordText endFields) (textOf image) → k < 512 → Wrote m e r q (recordText (dataFields (16 * k) (sixteenAt image k))) → Writing b e 0 q (recordsFrom image (k + 1) (512 - (k + 1)) ++ recordText endFields) (textOf image)
-records-on {b} {m} {r = r} image k w h x =
-    let n : 512 - k ≡ suc (512 - suc k) = omega arith in
+pub records-on : {b m e : List ℕ} {r q : ℕ} (imageSize : ℕ) (image : List ℕ) (k : ℕ) → Writing b m 0 r (recordsFrom image k (recordsOf imageSize - k) ++ recordText endFields) (textOf imageSize image) → k < recordsOf imageSize → Wrote m e r q (recordText (dataFields (16 * k) (sixteenAt image k))) → Writing b e 0 q (recordsFrom image (k + 1) (recordsOf imageSize - (k + 1)) ++ recordText endFields) (textOf imageSize image)
+records-on {b} {m} {r = r} imageSize image k w h x =
+    let n : recordsOf imageSize - k ≡ suc (recordsOf imageSize - suc k) = omega arith in
     let e : k + 1 ≡ suc k = omega arith in
-    let v : Writing b m 0 r (recordText (dataFields (16 * k) (sixteenAt image k)) ++ (recordsFrom image (suc k) (512 - suc k) ++ recordText endFields)) (textOf image) = rw append-assoc at (rw n at w) in
+    let v : Writing b m 0 r (recordText (dataFields (16 * k) (sixteenAt image k)) ++ (recordsFrom image (suc k) (recordsOf imageSize - suc k) ++ recordText endFields)) (textOf imageSize image) = rw append-assoc at (rw n at w) in
     rw e (writing-more v x)
 
-pub text-end : {b m e : List ℕ} {r q : ℕ} (image : List ℕ) (k : ℕ) → Writing b m 0 r (recordsFrom image k (512 - k) ++ recordText endFields) (textOf image) → 512 ≤ k → Wrote m e r q (recordText endFields) → Wrote b e 0 q (textOf image)
-text-end image k w h x =
-    let n : 512 - k ≡ 0 = omega arith in
+pub text-end : {b m e : List ℕ} {r q : ℕ} (imageSize : ℕ) (image : List ℕ) (k : ℕ) → Writing b m 0 r (recordsFrom image k (recordsOf imageSize - k) ++ recordText endFields) (textOf imageSize image) → recordsOf imageSize ≤ k → Wrote m e r q (recordText endFields) → Wrote b e 0 q (textOf imageSize image)
+text-end imageSize image k w h x =
+    let n : recordsOf imageSize - k ≡ 0 = omega arith in
     let v = rw n at w in writing-none (writing-more (rw (append-nil (recordText endFields)) v) x)
 
 -- a record of sixteen bytes as the code makes it
-sixteen-length : (image : List ℕ) (k : ℕ) → length image ≡ 8192 → k < 512 → length (sixteenAt image k) ≡ 16
-sixteen-length image k e h = omega (arith, length-take 16 (drop (16 * k) image), length-drop (16 * k) image)
+sixteen-length : (image : List ℕ) (k : ℕ) → k < recordsOf (length image) → length (sixteenAt image k) ≡ 16
+sixteen-length image k h = omega (arith, length-take 16 (drop (16 * k) image), length-drop (16 * k) image)
 
-pub part-length : (image : List ℕ) (k : ℕ) → length image ≡ 8192 → k < 512 → length (take (16 * k + 16 - 16 * k) (drop (16 * k) image)) ≡ 16
-part-length image k e h = let n : 16 * k + 16 - 16 * k ≡ 16 = omega arith in rw n (sixteen-length image k e h)
+pub part-length : (image : List ℕ) (k : ℕ) → k < recordsOf (length image) → length (take (16 * k + 16 - 16 * k) (drop (16 * k) image)) ≡ 16
+part-length image k h = let n : 16 * k + 16 - 16 * k ≡ 16 = omega arith in rw n (sixteen-length image k h)
 
-pub record-of : (image : List ℕ) (k : ℕ) → length image ≡ 8192 → k < 512 → recordText (16 ∷ 16 * k / 256 ∷ 16 * k % 256 ∷ 0 ∷ take (16 * k + 16 - 16 * k) (drop (16 * k) image)) ≡ recordText (dataFields (16 * k) (sixteenAt image k))
-record-of image k e h =
+pub record-of : (image : List ℕ) (k : ℕ) → k < recordsOf (length image) → recordText (16 ∷ 16 * k / 256 ∷ 16 * k % 256 ∷ 0 ∷ take (16 * k + 16 - 16 * k) (drop (16 * k) image)) ≡ recordText (dataFields (16 * k) (sixteenAt image k))
+record-of image k h =
     let n : 16 * k + 16 - 16 * k ≡ 16 = omega arith in
-    rw (n, sixteen-length image k e h)
+    rw (n, sixteen-length image k h)
 
 -- the whole text in a buffer: bytes after it stay
-pub text-written : {b m : List ℕ} (image : List ℕ) (r : ℕ) → Wrote b m 0 r (textOf image) → r ≡ 22540 → m ≡ textOf image ++ drop 22540 b
-text-written {b} image r w e =
+pub text-written : {b m : List ℕ} (imageSize : ℕ) (image : List ℕ) (r : ℕ) → Wrote b m 0 r (textOf imageSize image) → r ≡ textSize imageSize → m ≡ textOf imageSize image ++ drop (textSize imageSize) b
+text-written {b} imageSize image r w e =
     let l = w .end in
-    let n : 0 + length (textOf image) ≡ 22540 = omega arith in
-    w .buffer ∙ (sets-eq (textOf image) b 0 (let i = w .within in omega arith) ∙ rw n)
+    let n : 0 + length (textOf imageSize image) ≡ textSize imageSize = omega arith in
+    w .buffer ∙ (sets-eq (textOf imageSize image) b 0 (let i = w .within in omega arith) ∙ rw n)

@@ -2,6 +2,7 @@
 pub mod round_trip;
 
 use hex_reader::work::IMAGE_SIZE;
+use hex_reader::work::P982_IMAGE_SIZE;
 use numbers::IMAGE_OF_ANOTHER_SIZE;
 use numbers::OUTPUT_BUFFER_UNDER_22540_BYTES;
 use text::digits::number;
@@ -12,18 +13,18 @@ ghost use Prim.Native.Nat.{_+_, _*_, _<_, _≤_, _%_, _/_};
 ghost use lib.ListN.{length, drop};
 ghost use Rattle.laws.specs.Writing.{Wrote};
 ghost use Rattle.hex_reader.specs.Record.{total};
-ghost use Rattle.hex_writer.specs.Writer.{hexBytes, recordText, textOf, WriteHex};
+ghost use Rattle.hex_writer.specs.Writer.{hexBytes, recordText, textOf, textSize, InRecords, WriteHex};
 
 pub const TEXT_SIZE: usize = 22540;
+
+pub const P982_TEXT_SIZE: usize = 45068;
 
 const DATA_RECORD: u8 = 0;
 
 const END_RECORD: u8 = 1;
 
-// Bytes a record, and how many records an image has.
+// Bytes a record.
 const EACH: usize = 16;
-
-const RECORDS: usize = 512;
 
 // The sum of bytes and of what was summed before, modulo 256.
 fn sum_of(bytes: &[u8], before: u32) -> u32
@@ -66,12 +67,13 @@ fn put_record(out: &mut [u8], from: usize, head: &[u8; 4], bytes: &[u8]) -> usiz
 }
 
 fn write_text(image: &[u8], out: &mut [u8])
-    requires { ⌜ (length (now image) ≡ 8192) × (22540 ≤ length (now out)) ⌝ }
-    ensures { λ _. ⌜ now (out .exit) ≡ textOf (now (image .entry)) ++ drop 22540 (now (out .entry)) ⌝ }
+    requires { ⌜ (InRecords (length (now image))) × (textSize (length (now image)) ≤ length (now out)) ⌝ }
+    ensures { λ _. ⌜ now (out .exit) ≡ textOf (length (now (image .entry))) (now (image .entry)) ++ drop (textSize (length (now (image .entry)))) (now (out .entry)) ⌝ }
 {
+    let records = image.len() / EACH;
     let mut next = 0;
     let mut k = 0;
-    while k < RECORDS {
+    while k < records {
         let address = EACH * k;
         let end = address + EACH;
         let head = [
@@ -87,16 +89,31 @@ fn write_text(image: &[u8], out: &mut [u8])
     put_record(out, next, &head, &image[..0]);
 }
 
-// 0 and the text, or a refusal and the buffer as it was.
-pub fn write_hex(image: &[u8], out: &mut [u8]) -> u8
-    ensures { λ r. ⌜ WriteHex (now (image .entry)) (now (out .entry)) (now (out .exit)) r ⌝ }
+// 0 and the text of a device's image, or a refusal and the buffer as it was.
+fn write_sized(size: usize, room: usize, image: &[u8], out: &mut [u8]) -> u8
+    requires { ⌜ (size % 16 ≡ 0) × (size ≤ 65536) × (room ≡ textSize size) ⌝ }
+    ensures { λ r. ⌜ WriteHex size (now (image .entry)) (now (out .entry)) (now (out .exit)) r ⌝ }
 {
-    if image.len() != IMAGE_SIZE {
+    if image.len() != size {
         return IMAGE_OF_ANOTHER_SIZE;
     }
-    if out.len() < TEXT_SIZE {
+    if out.len() < room {
         return OUTPUT_BUFFER_UNDER_22540_BYTES;
     }
     write_text(image, out);
     0
+}
+
+// Of the EM73862.
+pub fn write_hex(image: &[u8], out: &mut [u8]) -> u8
+    ensures { λ r. ⌜ WriteHex 8192 (now (image .entry)) (now (out .entry)) (now (out .exit)) r ⌝ }
+{
+    write_sized(IMAGE_SIZE, TEXT_SIZE, image, out)
+}
+
+// Of the EM73P982.
+pub fn write_p982_hex(image: &[u8], out: &mut [u8]) -> u8
+    ensures { λ r. ⌜ WriteHex 16384 (now (image .entry)) (now (out .entry)) (now (out .exit)) r ⌝ }
+{
+    write_sized(P982_IMAGE_SIZE, P982_TEXT_SIZE, image, out)
 }

@@ -1,24 +1,31 @@
-// tohex IMAGE: the text of an image as Intel HEX.
+// tohex [--device NAME] IMAGE: the text of an image as Intel HEX.
 mod help;
 
 use crate::help::is_asked;
+use device::Device;
+use device::image_size;
+use hex_writer::P982_TEXT_SIZE;
 use hex_writer::TEXT_SIZE;
 use hex_writer::write_hex;
+use hex_writer::write_p982_hex;
 use libc::STDERR_FILENO;
-use program::part::fill;
+use program::image::chosen_device;
+use program::image::read_image;
 use program::streams::ending_of;
 use program::streams::say;
 use program::streams::show;
+use program::words::Choice;
+use program::words::Chosen;
 
 fn usage() {
-    io::write_all(STDERR_FILENO, b"usage: tohex IMAGE\n");
+    io::write_all(STDERR_FILENO, b"usage: tohex [--device NAME] IMAGE\n");
 }
 
 fn refuse() -> bool {
     show(b"refused 01\n")
 }
 
-fn show_text(image: &[u8]) -> bool {
+fn show_em73862(image: &[u8]) -> bool {
     let mut text = [0u8; TEXT_SIZE];
     if write_hex(image, &mut text) != 0 {
         return refuse();
@@ -26,35 +33,48 @@ fn show_text(image: &[u8]) -> bool {
     show(&text)
 }
 
+fn show_em73p982(image: &[u8]) -> bool {
+    let mut text = [0u8; P982_TEXT_SIZE];
+    if write_p982_hex(image, &mut text) != 0 {
+        return refuse();
+    }
+    show(&text)
+}
+
+fn show_text(d: Device, image: &[u8]) -> bool {
+    match d {
+        Device::Em73862 => show_em73862(image),
+        Device::Em73P982 => show_em73p982(image),
+    }
+}
+
 // Whether all that it has to say was written. The buffer has a byte more than an image, so that a file that is too long shows.
-fn run() -> bool {
-    let mut path = io::buffer();
-    let n = os::arg(1, &mut path);
-    let file = os::open_read(&path[..n]);
-    if file < 0 {
+fn run(c: Chosen) -> bool {
+    let d = c.device;
+    let mut image = [0u8; 16385];
+    let file = read_image(c.before as usize + 1, &mut image);
+    if !file.readable {
         usage();
         return refuse();
     }
-    let mut image = [0u8; 8193];
-    let got = fill(file, &mut image);
-    libc::close(file);
-    let size = got.count;
-    if got.failed {
+    let size = file.size;
+    if size != image_size(d) {
         return refuse();
     }
-    if size != 8192 {
-        return refuse();
-    }
-    if 2 < os::arg_count() {
+    if c.before as usize + 2 < os::arg_count() {
         usage();
         return true;
     }
-    show_text(&image[..size])
+    show_text(d, &image[..size])
 }
 
 fn main() {
     if is_asked() {
         return;
     }
-    say(ending_of(false, run()));
+    let Choice::Made(c) = chosen_device() else {
+        usage();
+        return;
+    };
+    say(ending_of(false, run(c)));
 }

@@ -8,10 +8,10 @@ use Rattle.fromhex.proofs.session.Statement.{statement}
 use Rattle.fromhex.proofs.session.Tie as tie
 
 abbrev Inv-loop : tie.InvT-loop
-Inv-loop part₀ work₀ image₀ state₀ turns₀ part work image state turns = (length part ≡ length part₀) × (length work ≡ length work₀) × (length image ≡ length image₀)
+Inv-loop size part₀ work₀ image₀ state₀ turns₀ part work image state turns = (length part ≡ length part₀) × (length work ≡ length work₀) × (length image ≡ length image₀)
 
 abbrev μ-loop : tie.MeasureT-loop
-μ-loop part₀ work₀ image₀ state₀ turns₀ part work image state turns = turns
+μ-loop size part₀ work₀ image₀ state₀ turns₀ part work image state turns = turns
 
 start-requires : tie.Need-start-requires Inv-loop μ-loop
 start-requires c κs = search needs

@@ -14,7 +14,7 @@ same-length : tie.Need-same-length
 same-length c = search needs
 
 returns : tie.Need-returns
-returns c = (c .before .before .before .before .before .pre .1, λ text a h. over text _ _ _ _ _ a (c .before .before .if1 .taken) (c .conclude .result) (c .conclude .ensures))
+returns c = (c .before .before .before .before .before .pre .1, λ text a h. over _ text _ _ _ _ _ a (c .before .before .if1 .taken) (c .conclude .result) (c .conclude .ensures _))
 
 complete-last-requires : tie.Need-complete-last-requires
 complete-last-requires c κs = search needs
@@ -29,7 +29,7 @@ same-length-2 : tie.Need-same-length-2
 same-length-2 c = search needs
 
 returns-2 : tie.Need-returns-2
-returns-2 c = (c .before .before .before .before .before .complete-last .ensures .0, λ text a h. over-last text _ _ _ _ _ a (c .before .before .before .before .before .before .before .if1 .left) _ _ _ (c .before .before .before .before .before .complete-last .ensures .1 (begunAfter [] text) (a .kept)) (c .before .before .following .ensures (number-fits a h)) (c .conclude2 .result) (c .conclude2 .ensures))
+returns-2 c = (c .before .before .before .before .before .complete-last .ensures .0, λ text a h. over-last _ text _ _ _ _ _ a (c .before .before .before .before .before .before .before .if1 .left) _ _ _ (c .before .before .before .before .before .complete-last .ensures .1 (begunAfter [] text) (a .kept)) (c .before .before .following .ensures (number-fits _ a h)) (c .conclude2 .result) (c .conclude2 .ensures _))
 
 pub conclude-text-spec : {M : Type 1} → statement M
 conclude-text-spec =

@@ -16,7 +16,7 @@ same-length : tie.Need-same-length
 same-length c = search needs
 
 returns : tie.Need-returns
-returns c = rw (c .refuse .ensures) (feed-refused (c .before .before .before .before .before .before .before .args .s) _ _ _ _ (c .before .before .refusal-of .ensures) (c .before .if1 .taken))
+returns c = rw (c .refuse .ensures) (feed-refused _ (c .before .before .before .before .before .before .before .args .s) _ _ _ _ (c .before .before .refusal-of .ensures) (c .before .if1 .taken))
 
 is-final-requires : tie.Need-is-final-requires
 is-final-requires c κs = search needs
@@ -31,7 +31,7 @@ same-length-2 : tie.Need-same-length-2
 same-length-2 c = search needs
 
 returns-2 : tie.Need-returns-2
-returns-2 c = let z = c .before .before .before .before .before .refusal-of .ensures .right (c .before .before .before .before .if1 .left) in rw (c .answer .ensures, c .before .told-of .ensures) (feed-last (c .before .before .before .before .before .before .before .before .before .before .args .s) _ _ _ (z .0) (z .1) (sym (c .before .before .before .is-final .ensures) ∙ c .before .before .if2 .taken))
+returns-2 c = let z = c .before .before .before .before .before .refusal-of .ensures .right (c .before .before .before .before .if1 .left) in rw (c .answer .ensures, c .before .told-of .ensures) (feed-last _ (c .before .before .before .before .before .before .before .before .before .before .args .s) _ _ _ (z .0) (z .1) (sym (c .before .before .before .is-final .ensures) ∙ c .before .before .if2 .taken))
 
 make-ready-requires : tie.Need-make-ready-requires
 make-ready-requires c κs = c .before .before .before .before .refusal-of .ensures .right (c .before .before .before .if1 .left) .0
@@ -49,7 +49,7 @@ same-length-3 : tie.Need-same-length-3
 same-length-3 c = search needs
 
 returns-3 : tie.Need-returns-3
-returns-3 c = let z = c .before .before .before .before .before .before .before .before .before .before .before .before .before .refusal-of .ensures .right (c .before .before .before .before .before .before .before .before .before .before .before .before .if1 .left) in rw (c .answer2 .ensures, c .before .told-of2 .ensures) (feed-on (c .before .before .before .before .before .before .before .before .before .before .before .before .before .before .before .before .before .before .args .s) (now (c .before .before .before .before .before .before .before .before .before .before .before .before .before .before .before .before .before .before .args .work)) _ _ (sym (c .before .before .before .before .before .before .before .before .before .before .before .is-final .ensures) ∙ c .before .before .before .before .before .before .before .before .before .before .if2 .left) _ _ (c .before .before .before .before .take-chunk .result) (c .before .before .before .before .before .before .before .before .make-ready .ensures .1) (c .before .before .before .before .take-chunk .ensures .1) (c .before .before .before .before .take-chunk .ensures .0) (z .0) (z .1))
+returns-3 c = let z = c .before .before .before .before .before .before .before .before .before .before .before .before .before .refusal-of .ensures .right (c .before .before .before .before .before .before .before .before .before .before .before .before .if1 .left) in rw (c .answer2 .ensures, c .before .told-of2 .ensures) (feed-on _ (c .before .before .before .before .before .before .before .before .before .before .before .before .before .before .before .before .before .before .args .s) (now (c .before .before .before .before .before .before .before .before .before .before .before .before .before .before .before .before .before .before .args .work)) _ _ (sym (c .before .before .before .before .before .before .before .before .before .before .before .is-final .ensures) ∙ c .before .before .before .before .before .before .before .before .before .before .if2 .left) _ _ (c .before .before .before .before .take-chunk .result) (c .before .before .before .before .before .before .before .before .make-ready .ensures .1) (c .before .before .before .before .take-chunk .ensures .1) (c .before .before .before .before .take-chunk .ensures .0) (z .0) (z .1))
 
 pub feed-spec : {M : Type 1} → statement M
 feed-spec =

@@ -4,6 +4,7 @@ use denote.Ref.{now}
 use Rattle.hex_chunks.specs.declared.Fed.{Fed}
 use Rattle.hex_chunks.proofs.Answers.{end-refused-size, end-last, end-good, end-refused}
 use borrow.Author.Needs.{needs}
+use native.Mathlib.Omega.{arith}
 use Rattle.hex_chunks.proofs.finish.Statement.{statement}
 use Rattle.hex_chunks.proofs.finish.Tie as tie
 
@@ -20,7 +21,7 @@ same-length-2 : tie.Need-same-length-2
 same-length-2 c = search needs
 
 returns : tie.Need-returns
-returns c = rw (c .refuse .ensures) (end-refused-size (c .before .before .before .before .before .before .before .args .s) _ _ _ (c .before .before .refusal-of .ensures) (c .before .if1 .taken))
+returns c = rw (c .refuse .ensures) (end-refused-size _ (c .before .before .before .before .before .before .before .args .s) _ _ _ (c .before .before .refusal-of .ensures) (c .before .if1 .taken))
 
 is-final-requires : tie.Need-is-final-requires
 is-final-requires c κs = search needs
@@ -38,7 +39,7 @@ same-length-4 : tie.Need-same-length-4
 same-length-4 c = search needs
 
 returns-2 : tie.Need-returns-2
-returns-2 c = let z = c .before .before .before .before .before .refusal-of .ensures .right (c .before .before .before .before .if1 .left) in rw (c .answer .ensures, c .before .told-of .ensures) (end-last (c .before .before .before .before .before .before .before .before .before .before .args .s) _ _ (z .0) (z .1) (sym (c .before .before .before .is-final .ensures) ∙ c .before .before .if2 .taken))
+returns-2 c = let z = c .before .before .before .before .before .refusal-of .ensures .right (c .before .before .before .before .if1 .left) in rw (c .answer .ensures, c .before .told-of .ensures) (end-last _ (c .before .before .before .before .before .before .before .before .before .before .args .s) _ _ (z .0) (z .1) (sym (c .before .before .before .is-final .ensures) ∙ c .before .before .if2 .taken))
 
 make-ready-requires : tie.Need-make-ready-requires
 make-ready-requires c κs = c .before .before .before .before .refusal-of .ensures .right (c .before .before .before .if1 .left) .0
@@ -53,7 +54,7 @@ enum-told : tie.Need-enum-told
 enum-told c = search needs
 
 copy-image-requires : tie.Need-copy-image-requires
-copy-image-requires c κs = (c .before .before .before .before .before .before .conclude-text .ensures .0, c .before .before .before .before .before .before .before .before .before .before .before .before .before .before .before .before .before .refusal-of .ensures .right (c .before .before .before .before .before .before .before .before .before .before .before .before .before .before .before .before .if1 .left) .1)
+copy-image-requires c κs = let w = c .before .before .before .before .before .before .conclude-text .ensures .0 in let i = c .before .before .before .before .before .before .before .before .before .before .before .before .before .before .before .before .before .refusal-of .ensures .right (c .before .before .before .before .before .before .before .before .before .before .before .before .before .before .before .before .if1 .left) .1 in omega arith
 
 good-end-requires : tie.Need-good-end-requires
 good-end-requires c κs = search needs
@@ -71,7 +72,7 @@ same-length-6 : tie.Need-same-length-6
 same-length-6 c = search needs
 
 returns-3 : tie.Need-returns-3
-returns-3 c = let z = c .before .before .before .before .before .before .before .before .before .before .before .before .before .before .before .before .before .before .before .before .before .refusal-of .ensures .right (c .before .before .before .before .before .before .before .before .before .before .before .before .before .before .before .before .before .before .before .before .if1 .left) in end-good (c .before .before .before .before .before .before .before .before .before .before .before .before .before .before .before .before .before .before .before .before .before .before .before .before .before .before .args .s) (now (c .before .before .before .before .before .before .before .before .before .before .before .before .before .before .before .before .before .before .before .before .before .before .before .before .before .before .args .work)) (now (c .before .before .before .before .before .before .before .before .before .before .before .before .before .before .before .before .before .before .before .before .before .before .before .before .before .before .args .image)) (sym (c .before .before .before .before .before .before .before .before .before .before .before .before .before .before .before .before .before .before .before .is-final .ensures) ∙ c .before .before .before .before .before .before .before .before .before .before .before .before .before .before .before .before .before .before .if2 .left) _ _ (c .before .before .before .before .before .before .before .before .before .before .before .before .before .before .before .before .make-ready .ensures .1) (rw (c .before .before .before .before .before .before .enum-told .given .1) at (c .before .before .before .before .before .before .before .before .before .before .conclude-text .ensures .1)) (c .good-end .result) (ap (λ (f : Fed). f .state .over) (c .good-end .ensures)) (ap (λ (f : Fed). f .state .stage) (c .good-end .ensures)) (ap (λ (f : Fed). f .told) (c .good-end .ensures)) (ap (λ (f : Fed). f .state .count) (c .good-end .ensures)) (ap (λ (f : Fed). f .state .line) (c .good-end .ensures)) _ (z .0) (z .1) (c .before .before .before .copy-image .ensures)
+returns-3 c = let z = c .before .before .before .before .before .before .before .before .before .before .before .before .before .before .before .before .before .before .before .before .before .refusal-of .ensures .right (c .before .before .before .before .before .before .before .before .before .before .before .before .before .before .before .before .before .before .before .before .if1 .left) in end-good _ (c .before .before .before .before .before .before .before .before .before .before .before .before .before .before .before .before .before .before .before .before .before .before .before .before .before .before .args .s) (now (c .before .before .before .before .before .before .before .before .before .before .before .before .before .before .before .before .before .before .before .before .before .before .before .before .before .before .args .work)) (now (c .before .before .before .before .before .before .before .before .before .before .before .before .before .before .before .before .before .before .before .before .before .before .before .before .before .before .args .image)) (sym (c .before .before .before .before .before .before .before .before .before .before .before .before .before .before .before .before .before .before .before .is-final .ensures) ∙ c .before .before .before .before .before .before .before .before .before .before .before .before .before .before .before .before .before .before .if2 .left) _ _ (c .before .before .before .before .before .before .before .before .before .before .before .before .before .before .before .before .make-ready .ensures .1) (rw (c .before .before .before .before .before .before .enum-told .given .1) at (c .before .before .before .before .before .before .before .before .before .before .conclude-text .ensures .1)) (c .good-end .result) (ap (λ (f : Fed). f .state .over) (c .good-end .ensures)) (ap (λ (f : Fed). f .state .stage) (c .good-end .ensures)) (ap (λ (f : Fed). f .told) (c .good-end .ensures)) (ap (λ (f : Fed). f .state .count) (c .good-end .ensures)) (ap (λ (f : Fed). f .state .line) (c .good-end .ensures)) _ (z .0) (z .1) (c .before .before .before .copy-image .ensures)
 
 same-length-7 : tie.Need-same-length-7
 same-length-7 c = search needs
@@ -80,7 +81,7 @@ same-length-8 : tie.Need-same-length-8
 same-length-8 c = search needs
 
 returns-4 : tie.Need-returns-4
-returns-4 c = let z = c .before .before .before .before .before .before .before .before .before .before .before .before .before .before .before .before .before .refusal-of .ensures .right (c .before .before .before .before .before .before .before .before .before .before .before .before .before .before .before .before .if1 .left) in end-refused (c .before .before .before .before .before .before .before .before .before .before .before .before .before .before .before .before .before .before .before .before .before .before .args .s) (now (c .before .before .before .before .before .before .before .before .before .before .before .before .before .before .before .before .before .before .before .before .before .before .args .work)) (now (c .before .before .before .before .before .before .before .before .before .before .before .before .before .before .before .before .before .before .before .before .before .before .args .image)) (sym (c .before .before .before .before .before .before .before .before .before .before .before .before .before .before .before .is-final .ensures) ∙ c .before .before .before .before .before .before .before .before .before .before .before .before .before .before .if2 .left) _ _ (c .before .before .before .before .before .before .before .before .before .before .before .before .make-ready .ensures .1) _ _ (rw (c .before .before .number .given .1) at (c .before .before .before .before .before .before .conclude-text .ensures .1)) (c .refused-end .result) (ap (λ (f : Fed). f .state .stage) (c .refused-end .ensures)) (ap (λ (f : Fed). f .told) (c .refused-end .ensures)) (ap (λ (f : Fed). f .state .count) (c .refused-end .ensures)) (ap (λ (f : Fed). f .state .line) (c .refused-end .ensures)) (z .0) (z .1)
+returns-4 c = let z = c .before .before .before .before .before .before .before .before .before .before .before .before .before .before .before .before .before .refusal-of .ensures .right (c .before .before .before .before .before .before .before .before .before .before .before .before .before .before .before .before .if1 .left) in end-refused _ (c .before .before .before .before .before .before .before .before .before .before .before .before .before .before .before .before .before .before .before .before .before .before .args .s) (now (c .before .before .before .before .before .before .before .before .before .before .before .before .before .before .before .before .before .before .before .before .before .before .args .work)) (now (c .before .before .before .before .before .before .before .before .before .before .before .before .before .before .before .before .before .before .before .before .before .before .args .image)) (sym (c .before .before .before .before .before .before .before .before .before .before .before .before .before .before .before .is-final .ensures) ∙ c .before .before .before .before .before .before .before .before .before .before .before .before .before .before .if2 .left) _ _ (c .before .before .before .before .before .before .before .before .before .before .before .before .make-ready .ensures .1) _ _ (rw (c .before .before .number .given .1) at (c .before .before .before .before .before .before .conclude-text .ensures .1)) (c .refused-end .result) (ap (λ (f : Fed). f .state .stage) (c .refused-end .ensures)) (ap (λ (f : Fed). f .told) (c .refused-end .ensures)) (ap (λ (f : Fed). f .state .count) (c .refused-end .ensures)) (ap (λ (f : Fed). f .state .line) (c .refused-end .ensures)) (z .0) (z .1)
 
 pub finish-spec : {M : Type 1} → statement M
 finish-spec =

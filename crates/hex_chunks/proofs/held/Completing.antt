@@ -18,16 +18,16 @@ use Rattle.hex_reader.specs.declared.progress.Stage.{Stage}
 use Rattle.hex_reader.proofs.progress.Stops.{good-long}
 use Rattle.hex_chunks.specs.Kept.{Kept, Completes}
 
-module _ {n : ℕ} {stage r : Stage} {before after : List ℕ} where
-  pub completes : (line : List ℕ) (judged : Line) → Judges line judged → Advances line judged n stage before after r → Completes line n stage before after r
+module _ {imageSize n : ℕ} {stage r : Stage} {before after : List ℕ} where
+  pub completes : (line : List ℕ) (judged : Line) → Judges line judged → Advances imageSize line judged n stage before after r → Completes imageSize line n stage before after r
   completes line judged j a =
       record {
         size = a .size;
         reached = λ p h. a .reached p h line (j .meaning);
-        long = λ p h e. good-long line judged r after p n (length line) line e (a .reached p h line (j .meaning)) (j .meaning) (j .long);
+        long = λ p h e. good-long imageSize line judged r after p n (length line) line e (a .reached p h line (j .meaning)) (j .meaning) (j .long);
       }
 
-  pub completes-long : (line : List ℕ) → 522 ≤ length line → Advances [] (Fault 40) n stage before after r → Completes line n stage before after r
+  pub completes-long : (line : List ℕ) → 522 ≤ length line → Advances imageSize [] (Fault 40) n stage before after r → Completes imageSize line n stage before after r
   completes-long line h a =
       let m : faulty 40 ≡ lineOf line = sym (long-line line h) in
       record { size = a .size; reached = λ p q. a .reached p q line m; long = λ p q e. omega arith }

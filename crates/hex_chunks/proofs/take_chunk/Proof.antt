@@ -4,6 +4,7 @@ use mathlib.Core.List.{List, [], _++_, append-nil}
 use Prim.Native.Nat.{ℕ, _+_, _-_, _^_, _<_, _≤_}
 use denote.Ref.{now}
 use lib.ListN.{length, take, length-append, length-take}
+use Rattle.hex_reader.specs.Work.{workSize}
 use Rattle.hex_chunks.specs.Cut.{begunAfter}
 use Rattle.hex_chunks.specs.Carries.{Along}
 use Rattle.hex_chunks.proofs.Along.{chunk-part, chunk-LF, chunk-stops, chunk-over, chunk-stopped, number-fits}
@@ -13,10 +14,10 @@ use Rattle.hex_chunks.proofs.take_chunk.Statement.{statement}
 use Rattle.hex_chunks.proofs.take_chunk.Tie as tie
 
 abbrev Inv-loop : tie.InvT-loop
-Inv-loop chunk work₀ held₀ count₀ n₀ stage₀ at₀ work held count n stage at = (length held ≡ 522) × (length work ≡ 9216) × (at ≤ length chunk) × ((text : List ℕ) → Along text held₀ count₀ n₀ stage₀ work₀ → length text + length chunk < 2 ^ 64 → Along (text ++ take at chunk) held count n stage work)
+Inv-loop chunk imageSize work₀ held₀ count₀ n₀ stage₀ at₀ work held count n stage at = (length held ≡ 522) × (length work ≡ workSize imageSize) × (at ≤ length chunk) × ((text : List ℕ) → Along imageSize text held₀ count₀ n₀ stage₀ work₀ → length text + length chunk < 2 ^ 64 → Along imageSize (text ++ take at chunk) held count n stage work)
 
 abbrev μ-loop : tie.MeasureT-loop
-μ-loop chunk work₀ held₀ count₀ n₀ stage₀ at₀ work held count n stage at = length chunk - at
+μ-loop chunk imageSize work₀ held₀ count₀ n₀ stage₀ at₀ work held count n stage at = length chunk - at
 
 loop-holds : tie.Need-loop-holds Inv-loop μ-loop
 loop-holds c = (search needs, c .before .before .before .pre, omega arith, λ text a h. rw (append-nil text) a)
@@ -46,7 +47,7 @@ same-length : tie.Need-same-length Inv-loop μ-loop
 same-length c = c .before .before .before .before .before .before .before .loop .inv .1 ∙ sym (c .before .before .before .before .before .before .before .before .before .before .before .pre)
 
 returns : tie.Need-returns Inv-loop μ-loop
-returns c = (c .before .before .before .before .before .before .before .loop .inv .1, λ text a h. rw (c .reading .ensures) (chunk-over text (now (c .before .before .before .before .before .before .before .before .before .before .before .args .chunk)) (chunk-part text (now (c .before .before .before .before .before .before .before .before .before .before .before .args .chunk)) (c .before .before .before .before .before .before .before .loop .at) (c .before .before .before .before .before .before .line-end .result) (c .before .before .before .before .before .before .line-end .ensures .0) (c .before .before .before .before .before .before .before .loop .inv .3 text a h) (c .before .before .before .hold .ensures .1)) (c .before .if1 .taken)))
+returns c = (c .before .before .before .before .before .before .before .loop .inv .1, λ text a h. rw (c .reading .ensures) (chunk-over _ text (now (c .before .before .before .before .before .before .before .before .before .before .before .args .chunk)) (chunk-part _ text (now (c .before .before .before .before .before .before .before .before .before .before .before .args .chunk)) (c .before .before .before .before .before .before .before .loop .at) (c .before .before .before .before .before .before .line-end .result) (c .before .before .before .before .before .before .line-end .ensures .0) (c .before .before .before .before .before .before .before .loop .inv .3 text a h) (c .before .before .before .hold .ensures .1)) (c .before .if1 .taken)))
 
 slice-aggregate-complete-line : tie.Need-slice-aggregate-complete-line Inv-loop μ-loop
 slice-aggregate-complete-line c = omega arith
@@ -64,7 +65,7 @@ same-length-2 : tie.Need-same-length-2 Inv-loop μ-loop
 same-length-2 c = c .before .before .before .before .before .complete-line .ensures .0 ∙ sym (c .before .before .before .before .before .before .before .before .before .before .before .before .before .before .before .before .before .before .pre)
 
 returns-2 : tie.Need-returns-2 Inv-loop μ-loop
-returns-2 c = (c .before .before .before .before .before .complete-line .ensures .0, λ text a h. let b = chunk-part text (now (c .before .before .before .before .before .before .before .before .before .before .before .before .before .before .before .before .before .before .args .chunk)) (c .before .before .before .before .before .before .before .before .before .before .before .before .before .before .loop .at) (c .before .before .before .before .before .before .before .before .before .before .before .before .before .line-end .result) (c .before .before .before .before .before .before .before .before .before .before .before .before .before .line-end .ensures .0) (c .before .before .before .before .before .before .before .before .before .before .before .before .before .before .loop .inv .3 text a h) (c .before .before .before .before .before .before .before .before .before .before .hold .ensures .1) in rw (c .reading2 .ensures) (chunk-stopped (text ++ now (c .before .before .before .before .before .before .before .before .before .before .before .before .before .before .before .before .before .before .args .chunk)) (c .before .before .before .before .before .complete-line .result) (sym (c .before .before .is-stopped .ensures) ∙ c .before .if2 .taken) (chunk-stops text (now (c .before .before .before .before .before .before .before .before .before .before .before .before .before .before .before .before .before .before .args .chunk)) (c .before .before .before .before .before .before .before .before .before .before .before .before .before .before .loop .at) (c .before .before .before .before .before .before .before .before .before .before .before .before .before .line-end .result) (c .before .before .before .before .before .before .before .before .before .before .before .before .before .line-end .ensures .0) (omega arith) b (c .before .before .before .before .before .complete-line .ensures .1 (begunAfter [] (text ++ take (c .before .before .before .before .before .before .before .before .before .before .before .before .before .line-end .result) (now (c .before .before .before .before .before .before .before .before .before .before .before .before .before .before .before .before .before .before .args .chunk)))) (b .kept)) (sym (c .before .before .is-stopped .ensures) ∙ c .before .if2 .taken)) (b .kept .most) (let k = b .number in omega arith)))
+returns-2 c = (c .before .before .before .before .before .complete-line .ensures .0, λ text a h. let b = chunk-part _ text (now (c .before .before .before .before .before .before .before .before .before .before .before .before .before .before .before .before .before .before .args .chunk)) (c .before .before .before .before .before .before .before .before .before .before .before .before .before .before .loop .at) (c .before .before .before .before .before .before .before .before .before .before .before .before .before .line-end .result) (c .before .before .before .before .before .before .before .before .before .before .before .before .before .line-end .ensures .0) (c .before .before .before .before .before .before .before .before .before .before .before .before .before .before .loop .inv .3 text a h) (c .before .before .before .before .before .before .before .before .before .before .hold .ensures .1) in rw (c .reading2 .ensures) (chunk-stopped _ (text ++ now (c .before .before .before .before .before .before .before .before .before .before .before .before .before .before .before .before .before .before .args .chunk)) (c .before .before .before .before .before .complete-line .result) (sym (c .before .before .is-stopped .ensures) ∙ c .before .if2 .taken) (chunk-stops _ text (now (c .before .before .before .before .before .before .before .before .before .before .before .before .before .before .before .before .before .before .args .chunk)) (c .before .before .before .before .before .before .before .before .before .before .before .before .before .before .loop .at) (c .before .before .before .before .before .before .before .before .before .before .before .before .before .line-end .result) (c .before .before .before .before .before .before .before .before .before .before .before .before .before .line-end .ensures .0) (omega arith) b (c .before .before .before .before .before .complete-line .ensures .1 (begunAfter [] (text ++ take (c .before .before .before .before .before .before .before .before .before .before .before .before .before .line-end .result) (now (c .before .before .before .before .before .before .before .before .before .before .before .before .before .before .before .before .before .before .args .chunk)))) (b .kept)) (sym (c .before .before .is-stopped .ensures) ∙ c .before .if2 .taken)) (b .kept .most) (let k = b .number in omega arith)))
 
 following-requires : tie.Need-following-requires Inv-loop μ-loop
 following-requires c κs = search needs
@@ -76,7 +77,7 @@ loop-less : tie.Need-loop-less Inv-loop μ-loop
 loop-less c = omega (arith, c .before .before .before .before .before .before .before .before .before .before .before .before .before .line-end .ensures .0, c .before .before .before .before .before .before .before .before .before .before .before .before .before .line-end .ensures .1)
 
 loop-again : tie.Need-loop-again Inv-loop μ-loop
-loop-again c = (c .before .before .before .before .before .before .before .before .before .before .hold .ensures .0, c .before .before .before .before .before .complete-line .ensures .0, omega arith, λ text a h. let b = chunk-part text (now (c .before .before .before .before .before .before .before .before .before .before .before .before .before .before .before .before .before .before .args .chunk)) (c .before .before .before .before .before .before .before .before .before .before .before .before .before .before .loop .at) (c .before .before .before .before .before .before .before .before .before .before .before .before .before .line-end .result) (c .before .before .before .before .before .before .before .before .before .before .before .before .before .line-end .ensures .0) (c .before .before .before .before .before .before .before .before .before .before .before .before .before .before .loop .inv .3 text a h) (c .before .before .before .before .before .before .before .before .before .before .hold .ensures .1) in chunk-LF text (now (c .before .before .before .before .before .before .before .before .before .before .before .before .before .before .before .before .before .before .args .chunk)) (c .before .before .before .before .before .before .before .before .before .before .before .before .before .before .loop .at) (c .before .before .before .before .before .before .before .before .before .before .before .before .before .line-end .result) (c .before .before .before .before .before .before .before .before .before .before .before .before .before .line-end .ensures .0) (omega arith) b (c .before .before .before .before .before .complete-line .ensures .1 (begunAfter [] (text ++ take (c .before .before .before .before .before .before .before .before .before .before .before .before .before .line-end .result) (now (c .before .before .before .before .before .before .before .before .before .before .before .before .before .before .before .before .before .before .args .chunk)))) (b .kept)) (sym (c .before .before .is-stopped .ensures) ∙ c .before .if2 .left) (c .following .ensures (number-fits b (omega (arith, length-append text (take (c .before .before .before .before .before .before .before .before .before .before .before .before .before .line-end .result) (now (c .before .before .before .before .before .before .before .before .before .before .before .before .before .before .before .before .before .before .args .chunk))), length-take (c .before .before .before .before .before .before .before .before .before .before .before .before .before .line-end .result) (now (c .before .before .before .before .before .before .before .before .before .before .before .before .before .before .before .before .before .before .args .chunk)))))))
+loop-again c = (c .before .before .before .before .before .before .before .before .before .before .hold .ensures .0, c .before .before .before .before .before .complete-line .ensures .0, omega arith, λ text a h. let b = chunk-part _ text (now (c .before .before .before .before .before .before .before .before .before .before .before .before .before .before .before .before .before .before .args .chunk)) (c .before .before .before .before .before .before .before .before .before .before .before .before .before .before .loop .at) (c .before .before .before .before .before .before .before .before .before .before .before .before .before .line-end .result) (c .before .before .before .before .before .before .before .before .before .before .before .before .before .line-end .ensures .0) (c .before .before .before .before .before .before .before .before .before .before .before .before .before .before .loop .inv .3 text a h) (c .before .before .before .before .before .before .before .before .before .before .hold .ensures .1) in chunk-LF _ text (now (c .before .before .before .before .before .before .before .before .before .before .before .before .before .before .before .before .before .before .args .chunk)) (c .before .before .before .before .before .before .before .before .before .before .before .before .before .before .loop .at) (c .before .before .before .before .before .before .before .before .before .before .before .before .before .line-end .result) (c .before .before .before .before .before .before .before .before .before .before .before .before .before .line-end .ensures .0) (omega arith) b (c .before .before .before .before .before .complete-line .ensures .1 (begunAfter [] (text ++ take (c .before .before .before .before .before .before .before .before .before .before .before .before .before .line-end .result) (now (c .before .before .before .before .before .before .before .before .before .before .before .before .before .before .before .before .before .before .args .chunk)))) (b .kept)) (sym (c .before .before .is-stopped .ensures) ∙ c .before .if2 .left) (c .following .ensures (number-fits _ b (omega (arith, length-append text (take (c .before .before .before .before .before .before .before .before .before .before .before .before .before .line-end .result) (now (c .before .before .before .before .before .before .before .before .before .before .before .before .before .before .before .before .before .before .args .chunk))), length-take (c .before .before .before .before .before .before .before .before .before .before .before .before .before .line-end .result) (now (c .before .before .before .before .before .before .before .before .before .before .before .before .before .before .before .before .before .before .args .chunk)))))))
 
 pub take-chunk-spec : {M : Type 1} → statement M
 take-chunk-spec =

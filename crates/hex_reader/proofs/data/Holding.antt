@@ -36,7 +36,7 @@ gives-none a x (yes h) = gives-before a [] x h
 gives-none a x (no h) = gives-after a [] x (omega arith)
 
 -- none of it yet
-pub holds-none : {w : List ℕ} {ds : List Given} (a : ℕ) (bytes : List ℕ) → Holds w ds → Holds w (front a bytes 0 ∷ ds)
+pub holds-none : {imageSize : ℕ} {w : List ℕ} {ds : List Given} (a : ℕ) (bytes : List ℕ) → Holds imageSize w ds → Holds imageSize w (front a bytes 0 ∷ ds)
 holds-none a bytes h =
     record {
       size = h .size;
@@ -75,16 +75,16 @@ module _ (a : ℕ) (bytes : List ℕ) (i : ℕ) (more : i < length bytes) where
     same : (x ≡ a + i → ⊥) → (gives (front a bytes (i + 1)) x ≡ gives (front a bytes i) x) × (byteAt (front a bytes (i + 1) ∷ ds) x ≡ byteAt (front a bytes i ∷ ds) x)
     same ne = same-by ne (decLt x a) (decLt x (a + i))
 
-  module _ (w m : List ℕ) (ds : List Given) (h : Holds w (front a bytes i ∷ ds)) (p : Puts w m (a + i) (getD bytes i 0)) where
-    next-byte : (x : ℕ) → x < 8192 → Dec (x ≡ a + i) → getD m x 0 ≡ byteAt (front a bytes (i + 1) ∷ ds) x
+  module _ {imageSize : ℕ} (w m : List ℕ) (ds : List Given) (h : Holds imageSize w (front a bytes i ∷ ds)) (p : Puts imageSize w m (a + i) (getD bytes i 0)) where
+    next-byte : (x : ℕ) → x < imageSize → Dec (x ≡ a + i) → getD m x 0 ≡ byteAt (front a bytes (i + 1) ∷ ds) x
     next-byte x l (yes e) = rw (byte-next ds x e, e) (p .byte-there)
     next-byte x l (no ne) = p .byte-other x l ne ∙ (h .bytes x l ∙ sym (same ds x ne .1))
 
-    next-bit : (x : ℕ) → x < 8192 → Dec (x ≡ a + i) → bitOf m x ≡ isGiven (front a bytes (i + 1) ∷ ds) x
+    next-bit : (x : ℕ) → x < imageSize → Dec (x ≡ a + i) → bitOf imageSize m x ≡ isGiven (front a bytes (i + 1) ∷ ds) x
     next-bit x l (yes e) = rw (there ds x e, e) (p .bit-there)
     next-bit x l (no ne) = p .bit-other x l ne ∙ (h .bits x l ∙ ap (λ (b : Bool). either b (isGiven ds x)) (sym (same ds x ne .0)))
 
-    pub holds-more : Holds m (front a bytes (i + 1) ∷ ds)
+    pub holds-more : Holds imageSize m (front a bytes (i + 1) ∷ ds)
     holds-more =
         record {
           size = p .size ∙ h .size;
@@ -93,9 +93,9 @@ module _ (a : ℕ) (bytes : List ℕ) (i : ℕ) (more : i < length bytes) where
         }
 
 -- the bits of the addresses that are still to come stay clear
-pub still-clear : (a n i : ℕ) {w m : List ℕ} {byte : ℕ} → ((k : ℕ) → k < n → a + k < 8192) → Puts w m (a + i) byte → ((k : ℕ) → i ≤ k → k < n → bitOf w (a + k) ≡ false) → (k : ℕ) → i + 1 ≤ k → k < n → bitOf m (a + k) ≡ false
+pub still-clear : {imageSize : ℕ} (a n i : ℕ) {w m : List ℕ} {byte : ℕ} → ((k : ℕ) → k < n → a + k < imageSize) → Puts imageSize w m (a + i) byte → ((k : ℕ) → i ≤ k → k < n → bitOf imageSize w (a + k) ≡ false) → (k : ℕ) → i + 1 ≤ k → k < n → bitOf imageSize m (a + k) ≡ false
 still-clear a n i within p clear k g h = p .bit-other (a + k) (within k h) (λ e. omega arith) ∙ clear k (omega arith) h
 
 -- all of it
-pub holds-all : {w : List ℕ} {ds : List Given} (a : ℕ) (bytes : List ℕ) (i : ℕ) → length bytes ≤ i → Holds w (front a bytes i ∷ ds) → Holds w (record { address = a; bytes = bytes } ∷ ds)
+pub holds-all : {imageSize : ℕ} {w : List ℕ} {ds : List Given} (a : ℕ) (bytes : List ℕ) (i : ℕ) → length bytes ≤ i → Holds imageSize w (front a bytes i ∷ ds) → Holds imageSize w (record { address = a; bytes = bytes } ∷ ds)
 holds-all a bytes i h k = rw (take-all i bytes h) at k

@@ -5,8 +5,8 @@ use Prim.Native.Nat.{ℕ, zero, suc, _+_, _<_, _≤_}
 use native.Mathlib.Nat.{not-suc-le-zero}
 use native.Mathlib.Decide.{decLt, ℕ-discrete}
 use native.Mathlib.Omega.{arith}
-use borrow.Author.Tests.{lt-ltb, le-ltb, ltb-false}
-use lib.Dec.{ltb}
+use borrow.Author.Tests.{lt-ltb, le-ltb, le-leb, lt-leb, leb-false}
+use lib.Dec.{ltb, leb}
 use Rattle.laws.specs.Choice.{either}
 use Rattle.laws.proofs.Choices.{neither-left, neither-right}
 use Rattle.hex_reader.specs.Given.{some}
@@ -40,18 +40,19 @@ pub same-some : (f g : ℕ → Bool) (n : ℕ) → ((k : ℕ) → k < n → f k 
 same-some f g zero h = refl
 same-some f g (suc n) h = rw (h n (omega arith), same-some f g n (λ k l. h k (omega arith)))
 
--- bytes from an address on are past 1FFFh where the last one is
-pub past-last : (address n : ℕ) → (n ≡ 0 → ⊥) → ltb 8192 (address + n) ≡ some n (λ k. ltb 0x1FFF (address + k))
-past-last address zero h = absurd (h refl)
-past-last address (suc n) h = past-by address n (decLt 8192 (address + suc n))
-  where
-    past-by : (address n : ℕ) → Dec (8192 < address + suc n) → ltb 8192 (address + suc n) ≡ some (suc n) (λ k. ltb 0x1FFF (address + k))
-    past-by address n (yes l) = rw (lt-ltb 8192 (address + suc n) l, lt-ltb 0x1FFF (address + n) (omega arith))
-    past-by address n (no l) =
-        rw (le-ltb 8192 (address + suc n) (omega arith), le-ltb 0x1FFF (address + n) (omega arith), some-false (λ k. ltb 0x1FFF (address + k)) n (λ k g. le-ltb 0x1FFF (address + k) (omega arith)))
+-- bytes from an address on are past the image's end where the last one is
+module _ (end address : ℕ) where
+  past-by : (n : ℕ) → Dec (end < address + suc n) → ltb end (address + suc n) ≡ some (suc n) (λ k. leb end (address + k))
+  past-by n (yes l) = rw (lt-ltb end (address + suc n) l, le-leb end (address + n) (omega arith))
+  past-by n (no l) =
+      rw (le-ltb end (address + suc n) (omega arith), lt-leb end (address + n) (omega arith), some-false (λ k. leb end (address + k)) n (λ k g. lt-leb end (address + k) (omega arith)))
 
-pub none-past : (address n : ℕ) → some n (λ k. ltb 0x1FFF (address + k)) ≡ false → (k : ℕ) → k < n → address + k < 8192
-none-past address n e k h = omega (arith, ltb-false 0x1FFF (address + k) (none-true (λ k. ltb 0x1FFF (address + k)) n e k h))
+  pub past-last : (n : ℕ) → (n ≡ 0 → ⊥) → ltb end (address + n) ≡ some n (λ k. leb end (address + k))
+  past-last zero h = absurd (h refl)
+  past-last (suc n) h = past-by n (decLt end (address + suc n))
+
+  pub none-past : (n : ℕ) → some n (λ k. leb end (address + k)) ≡ false → (k : ℕ) → k < n → address + k < end
+  none-past n e k h = leb-false end (address + k) (none-true (λ k. leb end (address + k)) n e k h)
 
 pub clear-more : (f : ℕ → Bool) (i : ℕ) → ((k : ℕ) → k < i → f k ≡ false) → f i ≡ false → (k : ℕ) → k < i + 1 → f k ≡ false
 clear-more f i h e k l = clear-by f i h e k l (ℕ-discrete k i)

@@ -57,24 +57,24 @@ data-by ds n true twice = (omega arith, omega arith)
 data-by ds n false true = (omega arith, omega arith)
 data-by ds n false false = tt
 
-data-in : (ds : List Given) (n : ℕ) (d : Given) → ProgressIn (afterData ds n d)
+data-in : (imageSize : ℕ) (ds : List Given) (n : ℕ) (d : Given) → ProgressIn (afterData imageSize ds n d)
 unfolding refusalOf
-data-in ds n d = data-by (d ∷ ds) n (isPast d) (isTwice ds d)
+data-in imageSize ds n d = data-by (d ∷ ds) n (isPast imageSize d) (isTwice ds d)
 
-judged-in : (ds : List Given) (n : ℕ) (j : Judged) → JudgedIn j → ProgressIn (afterJudged ds n j)
-judged-in ds n (data-record address bytes) h = data-in ds n (record { address = address; bytes = bytes })
-judged-in ds n end-record h = tt
-judged-in ds n (faulty number) h = h
+judged-in : (imageSize : ℕ) (ds : List Given) (n : ℕ) (j : Judged) → JudgedIn j → ProgressIn (afterJudged imageSize ds n j)
+judged-in imageSize ds n (data-record address bytes) h = data-in imageSize ds n (record { address = address; bytes = bytes })
+judged-in imageSize ds n end-record h = tt
+judged-in imageSize ds n (faulty number) h = h
 
-after-in : (p : Progress) (n : ℕ) (line : List ℕ) → ProgressIn p → ProgressIn (afterLine p n line)
-after-in (going ds) n line h = judged-in ds n (lineOf line) (line-in line)
-after-in (ended ds) n line h = (omega arith, omega arith)
-after-in (stopped number at) n line h = h
+after-in : (imageSize : ℕ) (p : Progress) (n : ℕ) (line : List ℕ) → ProgressIn p → ProgressIn (afterLine imageSize p n line)
+after-in imageSize (going ds) n line h = judged-in imageSize ds n (lineOf line) (line-in line)
+after-in imageSize (ended ds) n line h = (omega arith, omega arith)
+after-in imageSize (stopped number at) n line h = h
 
 -- of lines after a place that is reached without another number
-pub lines-in : (p : Progress) (n : ℕ) (ls : List (List ℕ)) → ProgressIn p → ProgressIn (afterLines p n ls)
-lines-in p n [] h = h
-lines-in p n (l ∷ ls) h = lines-in (afterLine p n l) (suc n) ls (after-in p n l h)
+pub lines-in : (imageSize : ℕ) (p : Progress) (n : ℕ) (ls : List (List ℕ)) → ProgressIn p → ProgressIn (afterLines imageSize p n ls)
+lines-in imageSize p n [] h = h
+lines-in imageSize p n (l ∷ ls) h = lines-in imageSize (afterLine imageSize p n l) (suc n) ls (after-in imageSize p n l h)
 
 end-in : (p : Progress) (n : ℕ) → ProgressIn p → ReadingIn (atEnd p n)
 end-in (going ds) n h = (omega arith, omega arith)
@@ -82,6 +82,6 @@ end-in (ended ds) n h = tt
 end-in (stopped number at) n h = h
 
 -- of a whole text
-pub read-in : (text : List ℕ) → ReadingIn (readOf text)
+pub read-in : (imageSize : ℕ) (text : List ℕ) → ReadingIn (readOf imageSize text)
 unfolding readOf
-read-in text = end-in (afterLines (going []) 1 (hexLines text)) (1 + length (hexLines text)) (lines-in (going []) 1 (hexLines text) tt)
+read-in imageSize text = end-in (afterLines imageSize (going []) 1 (hexLines text)) (1 + length (hexLines text)) (lines-in imageSize (going []) 1 (hexLines text) tt)

@@ -11,10 +11,10 @@ use Rattle.hex_reader.proofs.read_lines.Statement.{statement}
 use Rattle.hex_reader.proofs.read_lines.Tie as tie
 
 abbrev Inv-loop : tie.InvT-loop
-Inv-loop text work₀ stage₀ at₀ n₀ work stage at n = Midway text work stage at n
+Inv-loop text imageSize work₀ stage₀ at₀ n₀ work stage at n = Midway imageSize text work stage at n
 
 abbrev μ-loop : tie.MeasureT-loop
-μ-loop text work₀ stage₀ at₀ n₀ work stage at n = length text - at
+μ-loop text imageSize work₀ stage₀ at₀ n₀ work stage at n = length text - at
 
 clear-requires : tie.Need-clear-requires Inv-loop μ-loop
 clear-requires c κs = c .before .before .before .pre
@@ -38,7 +38,7 @@ same-length : tie.Need-same-length Inv-loop μ-loop
 same-length c = search needs
 
 returns : tie.Need-returns Inv-loop μ-loop
-returns c = (c .before .before .before .before .before .loop .inv .size, over (c .conclude .result) (c .before .before .before .before .before .loop .inv) (rw (c .before .before .enum-told .given .1) at (c .before .before .before .before .record-at .ensures)) (c .conclude .ensures))
+returns c = (c .before .before .before .before .before .loop .inv .size, over (c .conclude .result) (c .before .before .before .before .before .loop .inv) (rw (c .before .before .enum-told .given .1) at (c .before .before .before .before .record-at .ensures)) (c .conclude .ensures _))
 
 after-line-requires : tie.Need-after-line-requires Inv-loop μ-loop
 after-line-requires c κs = let f : RecordAt (now (c .before .before .before .before .before .before .before .before .before .before .before .before .args .text)) (c .before .before .before .before .before .loop .at) _ _ = rw (c .before .before .line .given .1) at (c .before .before .before .before .record-at .ensures) in (f .placed, c .before .before .before .before .before .loop .inv .size)
@@ -53,7 +53,7 @@ same-length-2 : tie.Need-same-length-2 Inv-loop μ-loop
 same-length-2 c = search needs
 
 returns-2 : tie.Need-returns-2 Inv-loop μ-loop
-returns-2 c = let f : RecordAt (now (c .before .before .before .before .before .before .before .before .before .before .before .before .before .before .before .before .before .before .before .args .text)) (c .before .before .before .before .before .before .before .before .before .before .before .before .loop .at) _ _ = rw (c .before .before .before .before .before .before .before .before .before .line .given .1) at (c .before .before .before .before .before .before .before .before .before .before .before .record-at .ensures) in (c .before .before .before .before .before .before .after-line .ensures .size ∙ c .before .before .before .before .before .before .before .before .before .before .before .before .loop .inv .size, stops (c .before .before .before .before .before .before .before .before .before .before .before .before .loop .inv) f (c .before .before .before .before .before .before .after-line .ensures) (c .conclude2 .result) (sym (c .before .before .before .is-stopped .ensures) ∙ c .before .before .if1 .taken) (c .conclude2 .ensures))
+returns-2 c = let f : RecordAt (now (c .before .before .before .before .before .before .before .before .before .before .before .before .before .before .before .before .before .before .before .args .text)) (c .before .before .before .before .before .before .before .before .before .before .before .before .loop .at) _ _ = rw (c .before .before .before .before .before .before .before .before .before .line .given .1) at (c .before .before .before .before .before .before .before .before .before .before .before .record-at .ensures) in (c .before .before .before .before .before .before .after-line .ensures .size ∙ c .before .before .before .before .before .before .before .before .before .before .before .before .loop .inv .size, stops (c .before .before .before .before .before .before .before .before .before .before .before .before .loop .inv) f (c .before .before .before .before .before .before .after-line .ensures) (c .conclude2 .result) (sym (c .before .before .before .is-stopped .ensures) ∙ c .before .before .if1 .taken) (c .conclude2 .ensures _))
 
 add-n : tie.Need-add-n Inv-loop μ-loop
 add-n c = let f : RecordAt (now (c .before .before .before .before .before .before .before .before .before .before .before .before .before .before .before .before .before .args .text)) (c .before .before .before .before .before .before .before .before .before .before .loop .at) _ _ = rw (c .before .before .before .before .before .before .before .line .given .1) at (c .before .before .before .before .before .before .before .before .before .record-at .ensures) in let m = goes-on (c .before .before .before .before .before .before .before .before .before .before .loop .inv) f (c .before .before .before .before .after-line .ensures) (sym (c .before .is-stopped .ensures) ∙ c .if1 .left) in omega arith

@@ -9,7 +9,7 @@ use native.Mathlib.Omega.{arith}
 use lib.ListN.{length, getD, set, take, length-set, length-take}
 use lib.Seq.{take-all, take-suc, take-suc-set, getD-set-same, getD-set-other, getD-take, ext-getD}
 use Rattle.hex_reader.specs.Given.{Given, byteAt, bytesFrom, imageOf}
-use Rattle.hex_reader.specs.Work.{Holds, Filled}
+use Rattle.hex_reader.specs.Work.{workSize, Holds, Filled}
 
 pub filled-none : (w : List ℕ) (from byte : ℕ) → Filled w w from from byte
 filled-none w from byte =
@@ -33,12 +33,12 @@ filled-more {m = m} {i = i} {byte = byte} f g h =
       above = λ k p. getD-set-other m i k byte 0 (λ e. omega arith) ∙ f .above k (omega arith);
     }
 
-pub cleared : (w m e : List ℕ) → length w ≡ 9216 → Filled w m 0 8192 0xFF → Filled m e 8192 9216 0 → Holds e []
-cleared w m e s f g =
+pub cleared : (imageSize : ℕ) (w m e : List ℕ) → length w ≡ workSize imageSize → Filled w m 0 imageSize 0xFF → Filled m e imageSize (length w) 0 → Holds imageSize e []
+cleared imageSize w m e s f g =
     record {
       size = g .size ∙ (f .size ∙ s);
       bytes = λ a h. g .below a h ∙ f .inside a (omega arith) h;
-      bits = λ a h. rw (g .inside (8192 + a / 8) (omega arith) (omega arith), zero-div (2 ^ (a % 8)));
+      bits = λ a h. rw (g .inside (imageSize + a / 8) (omega arith) (omega arith), zero-div (2 ^ (a % 8)));
     }
 
 -- the image of what the buffer holds
@@ -51,24 +51,24 @@ from-at ds a zero i h = absurd (not-suc-le-zero h)
 from-at ds a (suc n) zero h = let e : a + 0 ≡ a = omega arith in rw e
 from-at ds a (suc n) (suc i) h = let e : a + suc i ≡ suc a + i = omega arith in rw e (from-at ds (suc a) n i (omega arith))
 
-pub image-length : (ds : List Given) → length (imageOf ds) ≡ 8192
+pub image-length : (imageSize : ℕ) (ds : List Given) → length (imageOf imageSize ds) ≡ imageSize
 unfolding imageOf
-image-length ds = from-length ds 0 8192
+image-length imageSize ds = from-length ds 0 imageSize
 
-pub image-at : (ds : List Given) (i : ℕ) → i < 8192 → getD (imageOf ds) i 0 ≡ byteAt ds i
+pub image-at : (imageSize : ℕ) (ds : List Given) (i : ℕ) → i < imageSize → getD (imageOf imageSize ds) i 0 ≡ byteAt ds i
 unfolding imageOf
-image-at ds i h = from-at ds 0 8192 i h ∙ (let e : 0 + i ≡ i = omega arith in rw e)
+image-at imageSize ds i h = from-at ds 0 imageSize i h ∙ (let e : 0 + i ≡ i = omega arith in rw e)
 
-pub held-image : (w : List ℕ) (ds : List Given) → Holds w ds → take 8192 w ≡ imageOf ds
-held-image w ds k =
+pub held-image : (imageSize : ℕ) (w : List ℕ) (ds : List Given) → Holds imageSize w ds → take imageSize w ≡ imageOf imageSize ds
+held-image imageSize w ds k =
     let s = k .size in
-    let n : length (take 8192 w) ≡ 8192 = omega (arith, length-take 8192 w) in
-    ext-getD 0 (take 8192 w) (imageOf ds) (n ∙ (let e = image-length ds in omega arith))
-    (λ i h. getD-take 8192 w i 0 (omega arith) ∙ (k .bytes i (omega arith) ∙ (let e = image-at ds i (omega arith) in cc)))
+    let n : length (take imageSize w) ≡ imageSize = omega (arith, length-take imageSize w) in
+    ext-getD 0 (take imageSize w) (imageOf imageSize ds) (n ∙ (let e = image-length imageSize ds in omega arith))
+    (λ i h. getD-take imageSize w i 0 (omega arith) ∙ (k .bytes i (omega arith) ∙ (let e = image-at imageSize ds i (omega arith) in cc)))
 
 -- a list copied into another, a place at a time
 pub copied-more : (m w : List ℕ) (i : ℕ) → take i m ≡ take i w → i < length m → i < length w → take (i + 1) (set m i (getD w i 0)) ≡ take (i + 1) w
 copied-more m w i e h g = rw (add-one i, take-suc-set m i (getD w i 0) h, take-suc w i 0 g, e)
 
-pub copied-all : (m w : List ℕ) (i : ℕ) → take i m ≡ take i w → length m ≡ 8192 → i ≡ 8192 → m ≡ take 8192 w
-copied-all m w i e s h = sym (take-all 8192 m (omega arith)) ∙ (rw h at e)
+pub copied-all : (n : ℕ) (m w : List ℕ) (i : ℕ) → take i m ≡ take i w → length m ≡ n → i ≡ n → m ≡ take n w
+copied-all n m w i e s h = sym (take-all n m (omega arith)) ∙ (rw h at e)

@@ -12,7 +12,7 @@ use lib.Seq.{getD-set-same, getD-set-other}
 use Rattle.laws.specs.Choice.{pick, both}
 use Rattle.laws.proofs.Computed.{implies, below, at, modus, true→T, both-left, both-right}
 use Rattle.bits.specs.Bits.{hasBit}
-use Rattle.hex_reader.specs.Work.{bitOf, Puts}
+use Rattle.hex_reader.specs.Work.{workSize, bitOf, Puts}
 
 -- a bit that was clear is added, and the others stay
 abbrev adds : ℕ → ℕ → ℕ → Bool
@@ -45,37 +45,37 @@ module _ (n i j : ℕ) (hn : n < 256) (hi : i < 8) (hj : j < 8) (c : hasBit n (2
   bit-else : (i ≡ j → ⊥) → hasBit (n + 2 ^ i) (2 ^ j) ≡ hasBit n (2 ^ j)
   bit-else ne = ap (λ (d : ℕ). eqb d 1) (rw (ne-eqb i j ne) at digit)
 
-module _ (w : List ℕ) (a byte : ℕ) (size : length w ≡ 9216) (h : a < 8192) (c : bitOf w a ≡ false) (small : getD w (8192 + a / 8) 0 < 256) where
+module _ (imageSize : ℕ) (w : List ℕ) (a byte : ℕ) (size : length w ≡ workSize imageSize) (h : a < imageSize) (c : bitOf imageSize w a ≡ false) (small : getD w (imageSize + a / 8) 0 < 256) where
   abbrev n : ℕ
-  n = getD w (8192 + a / 8) 0
+  n = getD w (imageSize + a / 8) 0
 
   unfoldable pub stored : List ℕ
-  stored = set (set w a byte) (8192 + a / 8) (n + 2 ^ (a % 8))
+  stored = set (set w a byte) (imageSize + a / 8) (n + 2 ^ (a % 8))
 
   stored-length : length stored ≡ length w
   unfolding stored
-  stored-length = length-set (set w a byte) (8192 + a / 8) (n + 2 ^ (a % 8)) ∙ length-set w a byte
+  stored-length = length-set (set w a byte) (imageSize + a / 8) (n + 2 ^ (a % 8)) ∙ length-set w a byte
 
-  stored-bits : getD stored (8192 + a / 8) 0 ≡ n + 2 ^ (a % 8)
+  stored-bits : getD stored (imageSize + a / 8) 0 ≡ n + 2 ^ (a % 8)
   unfolding stored
-  stored-bits = getD-set-same (set w a byte) (8192 + a / 8) (n + 2 ^ (a % 8)) 0 (omega (arith, length-set w a byte))
+  stored-bits = getD-set-same (set w a byte) (imageSize + a / 8) (n + 2 ^ (a % 8)) 0 (omega (arith, length-set w a byte))
 
-  stored-other : (x : ℕ) → (x ≡ a → ⊥) → (x ≡ 8192 + a / 8 → ⊥) → getD stored x 0 ≡ getD w x 0
+  stored-other : (x : ℕ) → (x ≡ a → ⊥) → (x ≡ imageSize + a / 8 → ⊥) → getD stored x 0 ≡ getD w x 0
   unfolding stored
-  stored-other x p q = getD-set-other (set w a byte) (8192 + a / 8) x (n + 2 ^ (a % 8)) 0 q ∙ getD-set-other w a x byte 0 p
+  stored-other x p q = getD-set-other (set w a byte) (imageSize + a / 8) x (n + 2 ^ (a % 8)) 0 q ∙ getD-set-other w a x byte 0 p
 
   stored-byte : getD stored a 0 ≡ byte
   unfolding stored
-  stored-byte = getD-set-other (set w a byte) (8192 + a / 8) a (n + 2 ^ (a % 8)) 0 (λ e. omega arith) ∙ getD-set-same w a byte 0 (omega arith)
+  stored-byte = getD-set-other (set w a byte) (imageSize + a / 8) a (n + 2 ^ (a % 8)) 0 (λ e. omega arith) ∙ getD-set-same w a byte 0 (omega arith)
 
-  other-bit : (x : ℕ) → x < 8192 → (x ≡ a → ⊥) → Dec (x / 8 ≡ a / 8) → bitOf stored x ≡ bitOf w x
+  other-bit : (x : ℕ) → x < imageSize → (x ≡ a → ⊥) → Dec (x / 8 ≡ a / 8) → bitOf imageSize stored x ≡ bitOf imageSize w x
   other-bit x l ne (yes e) =
-      let k : 8192 + x / 8 ≡ 8192 + a / 8 = omega arith in
+      let k : imageSize + x / 8 ≡ imageSize + a / 8 = omega arith in
       rw (k, stored-bits) (bit-else n (a % 8) (x % 8) small (omega arith) (omega arith) c (λ f. ne (omega arith)))
   other-bit x l ne (no d) =
-      ap (λ (m : ℕ). hasBit m (2 ^ (x % 8))) (stored-other (8192 + x / 8) (λ e. omega arith) (λ e. d (omega arith)))
+      ap (λ (m : ℕ). hasBit m (2 ^ (x % 8))) (stored-other (imageSize + x / 8) (λ e. omega arith) (λ e. d (omega arith)))
 
-  pub puts : Puts w stored a byte
+  pub puts : Puts imageSize w stored a byte
   puts =
       record {
         size = stored-length;

@@ -1,25 +1,26 @@
 -- `hex_writer::write_text` meets its contract: from record k on the text is still to be written.
 use mathlib.Core.Path.{_≡_, _∙_}
 use mathlib.Core.List.{_++_}
-use Prim.Native.Nat.{_-_, _*_, _≤_}
+use Prim.Native.Nat.{_-_, _*_, _<_, _≤_}
 use denote.Ref.{now}
+use lib.ListN.{length}
 use Rattle.laws.specs.Writing.{Writing}
 use Rattle.laws.proofs.Writing.{writing-all}
-use Rattle.hex_writer.specs.Writer.{recordText, endFields, recordsFrom, textOf}
+use Rattle.hex_writer.specs.Writer.{recordText, endFields, recordsFrom, recordsOf, textOf}
 use Rattle.hex_writer.proofs.Texts.{records-on, part-length, record-of, text-end, text-written}
 use native.Mathlib.Omega.{arith}
 use Rattle.hex_writer.proofs.write_text.Statement.{statement}
 use Rattle.hex_writer.proofs.write_text.Tie as tie
 
 abbrev Inv-loop : tie.InvT-loop
-Inv-loop image out₀ next₀ k₀ out next k = Writing out₀ out 0 next (recordsFrom image k (512 - k) ++ recordText endFields) (textOf image) × (next ≡ 44 * k) × (k ≤ 512)
+Inv-loop image out₀ records next₀ k₀ out next k = Writing out₀ out 0 next (recordsFrom image k (recordsOf (length image) - k) ++ recordText endFields) (textOf (length image) image) × (next ≡ 44 * k) × (k ≤ records) × (records ≡ recordsOf (length image))
 
 abbrev μ-loop : tie.MeasureT-loop
-μ-loop image out₀ next₀ k₀ out next k = 512 - k
+μ-loop image out₀ records next₀ k₀ out next k = records - k
 
 loop-holds : tie.Need-loop-holds Inv-loop μ-loop
 unfolding textOf
-loop-holds c = (writing-all _ (omega arith), omega arith, omega arith)
+loop-holds c = let n = recordsOf (length (now (c .before .before .args .image))) in let z : n - 0 ≡ n = omega arith in (rw z (writing-all _ (omega arith)), omega arith, omega arith, omega arith)
 
 mul-address : tie.Need-mul-address Inv-loop μ-loop
 mul-address c = omega arith
@@ -27,14 +28,14 @@ mul-address c = omega arith
 add-end : tie.Need-add-end Inv-loop μ-loop
 add-end c = omega arith
 
-cast-t10 : tie.Need-cast-t10 Inv-loop μ-loop
-cast-t10 c = omega arith
-
 cast-t12 : tie.Need-cast-t12 Inv-loop μ-loop
 cast-t12 c = omega arith
 
 cast-t14 : tie.Need-cast-t14 Inv-loop μ-loop
 cast-t14 c = omega arith
+
+cast-t16 : tie.Need-cast-t16 Inv-loop μ-loop
+cast-t16 c = omega arith
 
 sub-put-record : tie.Need-sub-put-record Inv-loop μ-loop
 sub-put-record c = omega arith
@@ -46,7 +47,7 @@ part-put-record-end : tie.Need-part-put-record-end Inv-loop μ-loop
 part-put-record-end c = omega arith
 
 put-record-requires : tie.Need-put-record-requires Inv-loop μ-loop
-put-record-requires c κs = omega (arith, c .before .before .before .before .loop .inv .0 .wrote .size, part-length (now (c .before .before .before .before .before .before .before .args .image)) (c .before .before .before .before .loop .k) (c .before .before .before .before .before .before .before .pre .0) (c .before .before .before .loop-test .taken))
+put-record-requires c κs = let a = c .before .before .before .before .before .before .before .args in let l = c .before .before .before .before .loop in omega (arith, l .inv .0 .wrote .size, part-length (now (a .image)) (l .k) (omega arith))
 
 add-k : tie.Need-add-k Inv-loop μ-loop
 add-k c = omega arith
@@ -55,19 +56,19 @@ loop-less : tie.Need-loop-less Inv-loop μ-loop
 loop-less c = omega arith
 
 loop-again : tie.Need-loop-again Inv-loop μ-loop
-loop-again c = (records-on _ _ (c .before .before .before .before .before .before .before .loop .inv .0) (c .before .before .before .before .before .before .loop-test .taken) (rw (record-of (now (c .before .before .before .before .before .before .before .before .before .before .args .image)) (c .before .before .before .before .before .before .before .loop .k) (c .before .before .before .before .before .before .before .before .before .before .pre .0) (c .before .before .before .before .before .before .loop-test .taken)) at (c .before .before .put-record .ensures .0)), omega (arith, c .before .before .put-record .ensures .1, part-length (now (c .before .before .before .before .before .before .before .before .before .before .args .image)) (c .before .before .before .before .before .before .before .loop .k) (c .before .before .before .before .before .before .before .before .before .before .pre .0) (c .before .before .before .before .before .before .loop-test .taken)), omega arith)
+loop-again c = let a = c .before .before .before .before .before .before .before .before .before .before .args in let l = c .before .before .before .before .before .before .before .loop in let w = c .before .before .put-record .ensures in let h : l .k < recordsOf (length (now (a .image))) = omega arith in (records-on _ _ _ (l .inv .0) h (rw (record-of (now (a .image)) (l .k) h) at (w .0)), omega (arith, w .1, part-length (now (a .image)) (l .k) h), omega arith, l .inv .3)
 
 slice-aggregate-put-record : tie.Need-slice-aggregate-put-record Inv-loop μ-loop
 slice-aggregate-put-record c = omega arith
 
 put-record-requires-2 : tie.Need-put-record-requires-2 Inv-loop μ-loop
-put-record-requires-2 c κs = omega (arith, c .before .before .before .before .loop .inv .0 .wrote .size)
+put-record-requires-2 c κs = let l = c .before .before .before .before .loop in omega (arith, l .inv .0 .wrote .size)
 
 same-length : tie.Need-same-length Inv-loop μ-loop
 same-length c = c .before .before .put-record2 .ensures .0 .size ∙ c .before .before .before .before .before .before .before .loop .inv .0 .wrote .size
 
 returns : tie.Need-returns Inv-loop μ-loop
-returns c = text-written _ _ (text-end _ _ (c .before .before .before .before .before .before .before .loop .inv .0) (c .before .before .before .before .before .before .loop-test .left) (c .before .before .put-record2 .ensures .0)) (omega (arith, c .before .before .put-record2 .ensures .1))
+returns c = let a = c .before .before .before .before .before .before .before .before .before .before .args in let l = c .before .before .before .before .before .before .before .loop in let w = c .before .before .put-record2 .ensures in text-written (length (now (a .image))) _ _ (text-end _ _ _ (l .inv .0) (omega arith) (w .0)) (omega (arith, w .1))
 
 pub write-text-spec : {M : Type 1} → statement M
 write-text-spec =
@@ -78,9 +79,9 @@ write-text-spec =
     loop-holds
     mul-address
     add-end
-    cast-t10
     cast-t12
     cast-t14
+    cast-t16
     sub-put-record
     part-put-record-start
     part-put-record-end

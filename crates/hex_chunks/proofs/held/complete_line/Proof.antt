@@ -28,7 +28,7 @@ slice-aggregate-complete : tie.Need-slice-aggregate-complete
 slice-aggregate-complete c = sym (length-take-le (c .before .without-cr .result) (now (c .before .before .before .before .before .before .args .held)) (omega (arith, c .before .without-cr .ensures .1, length-take-le (c .before .before .before .before .before .before .args .count) (now (c .before .before .before .before .before .before .args .held)) (omega arith))))
 
 complete-requires : tie.Need-complete-requires
-complete-requires c κs = search needs
+complete-requires c κs = c .before .before .before .before .before .before .before .pre .1
 
 same-length-2 : tie.Need-same-length-2
 same-length-2 c = search needs

@@ -11,7 +11,7 @@ add-result : tie.Need-add-result
 add-result c = search needs
 
 returns-2 : tie.Need-returns-2
-returns-2 c = past-last (c .before .args .address) (c .before .args .count) (c .if1 .left)
+returns-2 c = past-last (c .before .args .size) (c .before .args .address) (c .before .args .count) (c .if1 .left)
 
 pub is-past-spec : {M : Type 1} → statement M
 is-past-spec = tie.close (tie.spec returns add-result returns-2)

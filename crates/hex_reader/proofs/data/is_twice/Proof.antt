@@ -10,10 +10,10 @@ use Rattle.hex_reader.proofs.data.is_twice.Statement.{statement}
 use Rattle.hex_reader.proofs.data.is_twice.Tie as tie
 
 abbrev Inv-loop : tie.InvT-loop
-Inv-loop work address count i₀ i = ((k : ℕ) → k < i → bitOf work (address + k) ≡ false) × (i ≤ count)
+Inv-loop work imageSize address count i₀ i = ((k : ℕ) → k < i → bitOf imageSize work (address + k) ≡ false) × (i ≤ count)
 
 abbrev μ-loop : tie.MeasureT-loop
-μ-loop work address count i₀ i = count - i
+μ-loop work imageSize address count i₀ i = count - i
 
 loop-holds : tie.Need-loop-holds Inv-loop μ-loop
 loop-holds c = (λ k h. absurd (omega arith), omega arith)
@@ -25,7 +25,7 @@ is-given-requires : tie.Need-is-given-requires Inv-loop μ-loop
 is-given-requires c κs = (c .before .before .before .pre .0, c .before .before .before .pre .1 (c .before .loop .i) (c .loop-test .taken))
 
 returns : tie.Need-returns Inv-loop μ-loop
-returns c = sym (some-true (λ k. bitOf (now (c .before .before .before .before .before .args .work)) (c .before .before .before .before .before .args .address + k)) (c .before .before .before .before .before .args .count) (c .before .before .before .loop .i) (c .before .before .loop-test .taken) (sym (c .before .is-given .ensures) ∙ c .if1 .taken))
+returns c = sym (some-true (λ k. bitOf (c .before .before .before .before .before .args .size) (now (c .before .before .before .before .before .args .work)) (c .before .before .before .before .before .args .address + k)) (c .before .before .before .before .before .args .count) (c .before .before .before .loop .i) (c .before .before .loop-test .taken) (sym (c .before .is-given .ensures) ∙ c .if1 .taken))
 
 add-i : tie.Need-add-i Inv-loop μ-loop
 add-i c = omega arith
@@ -34,10 +34,10 @@ loop-less : tie.Need-loop-less Inv-loop μ-loop
 loop-less c = omega arith
 
 loop-again : tie.Need-loop-again Inv-loop μ-loop
-loop-again c = (clear-more (λ k. bitOf (now (c .before .before .before .before .before .args .work)) (c .before .before .before .before .before .args .address + k)) (c .before .before .before .loop .i) (c .before .before .before .loop .inv .0) (sym (c .before .is-given .ensures) ∙ c .if1 .left), omega arith)
+loop-again c = (clear-more (λ k. bitOf (c .before .before .before .before .before .args .size) (now (c .before .before .before .before .before .args .work)) (c .before .before .before .before .before .args .address + k)) (c .before .before .before .loop .i) (c .before .before .before .loop .inv .0) (sym (c .before .is-given .ensures) ∙ c .if1 .left), omega arith)
 
 returns-2 : tie.Need-returns-2 Inv-loop μ-loop
-returns-2 c = sym (some-false (λ k. bitOf (now (c .before .before .before .args .work)) (c .before .before .before .args .address + k)) (c .before .before .before .args .count) (λ k h. c .before .loop .inv .0 k (omega arith)))
+returns-2 c = sym (some-false (λ k. bitOf (c .before .before .before .args .size) (now (c .before .before .before .args .work)) (c .before .before .before .args .address + k)) (c .before .before .before .args .count) (λ k h. c .before .loop .inv .0 k (omega arith)))
 
 pub is-twice-spec : {M : Type 1} → statement M
 is-twice-spec =

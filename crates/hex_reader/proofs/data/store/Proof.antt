@@ -8,17 +8,17 @@ use lib.ListN.{length}
 use Rattle.hex_reader.specs.Reads.{bytesAt}
 use Rattle.hex_reader.proofs.line.Pairs.{bytes-at-length, byte-of-text}
 use Rattle.hex_reader.specs.Given.{Given}
-use Rattle.hex_reader.specs.Work.{bitOf, Holds}
+use Rattle.hex_reader.specs.Work.{workSize, bitOf, Holds}
 use Rattle.hex_reader.proofs.data.Holding.{front, holds-none, holds-more, holds-all, still-clear}
 use native.Mathlib.Omega.{arith}
 use Rattle.hex_reader.proofs.data.store.Statement.{statement}
 use Rattle.hex_reader.proofs.data.store.Tie as tie
 
 abbrev Inv-loop : tie.InvT-loop
-Inv-loop text address count first work₀ i₀ work i = (length work ≡ 9216) × ((k : ℕ) → i ≤ k → k < count → bitOf work (address + k) ≡ false) × ((ds : List Given) → Holds work₀ ds → Holds work (front address (bytesAt text first count) i ∷ ds)) × (i ≤ count)
+Inv-loop text address count first imageSize work₀ i₀ work i = (length work ≡ workSize imageSize) × ((k : ℕ) → i ≤ k → k < count → bitOf imageSize work (address + k) ≡ false) × ((ds : List Given) → Holds imageSize work₀ ds → Holds imageSize work (front address (bytesAt text first count) i ∷ ds)) × (i ≤ count)
 
 abbrev μ-loop : tie.MeasureT-loop
-μ-loop text address count first work₀ i₀ work i = count - i
+μ-loop text address count first imageSize work₀ i₀ work i = count - i
 
 loop-holds : tie.Need-loop-holds Inv-loop μ-loop
 loop-holds c = (c .before .before .pre .1 .0, λ k g h. c .before .before .pre .1 .2 k h, λ ds h. holds-none (c .before .before .args .address) (bytesAt (now (c .before .before .args .text)) (c .before .before .args .first) (c .before .before .args .count)) h, omega arith)

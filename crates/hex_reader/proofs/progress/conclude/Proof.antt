@@ -14,13 +14,13 @@ enum-known-stage : tie.Need-enum-known-stage
 enum-known-stage c = search needs
 
 returns : tie.Need-returns
-returns c = rw (c .enum-told .given .1) (λ p h. ends-going _ h)
+returns c = rw (c .enum-told .given .1) (λ imageSize p h. ends-going _ h)
 
 returns-2 : tie.Need-returns-2
-returns-2 c = rw (c .enum-told2 .given .1) (λ p h. ends-good _ h)
+returns-2 c = rw (c .enum-told2 .given .1) (λ imageSize p h. ends-good _ h)
 
 returns-3 : tie.Need-returns-3
-returns-3 c = rw (c .before .stage .given .1) (λ p h. rw h)
+returns-3 c = rw (c .before .stage .given .1) (λ imageSize p h. rw h)
 
 pub conclude-spec : {M : Type 1} → statement M
 conclude-spec =

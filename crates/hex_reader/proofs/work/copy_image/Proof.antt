@@ -9,10 +9,10 @@ use Rattle.hex_reader.proofs.work.copy_image.Statement.{statement}
 use Rattle.hex_reader.proofs.work.copy_image.Tie as tie
 
 abbrev Inv-loop : tie.InvT-loop
-Inv-loop work image₀ i₀ image i = (take i image ≡ take i work) × (length image ≡ length image₀) × (i ≤ 8192)
+Inv-loop work image₀ i₀ image i = (take i image ≡ take i work) × (length image ≡ length image₀) × (i ≤ length image₀)
 
 abbrev μ-loop : tie.MeasureT-loop
-μ-loop work image₀ i₀ image i = 8192 - i
+μ-loop work image₀ i₀ image i = length image₀ - i
 
 loop-holds : tie.Need-loop-holds Inv-loop μ-loop
 loop-holds c = (refl, refl, omega arith)
@@ -36,7 +36,7 @@ same-length : tie.Need-same-length Inv-loop μ-loop
 same-length c = c .before .loop .inv .1
 
 returns : tie.Need-returns Inv-loop μ-loop
-returns c = copied-all _ (now (c .before .before .args .work)) (c .before .loop .i) (c .before .loop .inv .0) (omega arith) (omega arith)
+returns c = copied-all (length (now (c .before .before .args .image))) _ (now (c .before .before .args .work)) (c .before .loop .i) (c .before .loop .inv .0) (omega arith) (omega arith)
 
 pub copy-image-spec : {M : Type 1} → statement M
 copy-image-spec =

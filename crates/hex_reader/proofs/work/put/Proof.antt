@@ -21,7 +21,7 @@ weight-requires : tie.Need-weight-requires
 weight-requires c κs = search needs
 
 add-bits : tie.Need-add-bits
-add-bits c = record { fits = rw (c .weight .ensures) (sum-fits (getD (now (c .before .before .before .args .work)) (8192 + c .before .before .before .args .address / 8) 0) (c .before .before .before .args .address % 8) 0 (c .before .slice-known2 .given (8192 + c .before .before .before .args .address / 8) .fits) (omega arith) (omega arith) (c .before .before .before .pre .2)) }
+add-bits c = record { fits = rw (c .weight .ensures) (sum-fits (getD (now (c .before .before .before .args .work)) (c .before .before .before .args .size + c .before .before .before .args .address / 8) 0) (c .before .before .before .args .address % 8) 0 (c .before .slice-known2 .given (c .before .before .before .args .size + c .before .before .before .args .address / 8) .fits) (omega arith) (omega arith) (c .before .before .before .pre .2)) }
 
 slice-write-work : tie.Need-slice-write-work
 slice-write-work c = search needs
@@ -34,7 +34,7 @@ same-length c = search needs
 
 returns : tie.Need-returns
 unfolding stored
-returns c = rw (c .weight .ensures) (puts (now (c .before .before .before .args .work)) (c .before .before .before .args .address) (c .before .before .before .args .byte) (c .before .before .before .pre .0) (c .before .before .before .pre .1) (c .before .before .before .pre .2) (c .before .slice-known2 .given (8192 + c .before .before .before .args .address / 8) .fits))
+returns c = rw (c .weight .ensures) (puts (c .before .before .before .args .size) (now (c .before .before .before .args .work)) (c .before .before .before .args .address) (c .before .before .before .args .byte) (c .before .before .before .pre .0) (c .before .before .before .pre .1) (c .before .before .before .pre .2) (c .before .slice-known2 .given (c .before .before .before .args .size + c .before .before .before .args .address / 8) .fits))
 
 pub put-spec : {M : Type 1} → statement M
 put-spec =

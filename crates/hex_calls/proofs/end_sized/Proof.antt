@@ -1,10 +1,10 @@
--- `hex_calls::em73862_hex_end` meets its contract.
+-- `hex_calls::end_sized` meets its contract.
 use denote.Ref.{now}
 use Rattle.hex_calls.proofs.state.Ranges.{state-length}
 use Rattle.hex_calls.proofs.Chunks.{end-refused, end-2, end-so, is-not, is-so}
 use borrow.Author.Needs.{needs}
-use Rattle.hex_calls.proofs.em73862_hex_end.Statement.{statement}
-use Rattle.hex_calls.proofs.em73862_hex_end.Tie as tie
+use Rattle.hex_calls.proofs.end_sized.Statement.{statement}
+use Rattle.hex_calls.proofs.end_sized.Tie as tie
 
 refusal-of-requires : tie.Need-refusal-of-requires
 refusal-of-requires c κs = search needs
@@ -16,7 +16,7 @@ same-length-2 : tie.Need-same-length-2
 same-length-2 c = search needs
 
 returns : tie.Need-returns
-returns c = end-refused _ _ _ _ (c .before .refusal-of .ensures) (c .if1 .taken)
+returns c = end-refused _ _ _ _ _ (c .before .refusal-of .ensures) (c .if1 .taken)
 
 is-state-requires : tie.Need-is-state-requires
 is-state-requires c κs = search needs
@@ -33,7 +33,7 @@ same-length-5 c = search needs
 returns-2 : tie.Need-returns-2
 returns-2 c =
     let right = c .before .before .before .before .refusal-of .ensures .right (c .before .before .before .if1 .left) in
-    end-2 _ _ _ (right .0) (right .1) (is-not (c .before .is-state .result) (c .before .is-state .ensures) (c .if2 .taken))
+    end-2 _ _ _ _ (right .0) (right .1) (is-not (c .before .is-state .result) (c .before .is-state .ensures) (c .if2 .taken))
 
 unpack-requires : tie.Need-unpack-requires
 unpack-requires c κs = state-length (now (c .before .before .before .before .before .before .before .before .before .before .before .args .state)) (is-so (c .before .before .is-state .result) (c .before .before .is-state .ensures) (c .before .if2 .left))
@@ -63,10 +63,10 @@ returns-3 : tie.Need-returns-3
 returns-3 c =
     let right = c .before .before .before .before .before .before .before .before .before .before .before .before .before .before .before .before .before .before .before .refusal-of .ensures .right (c .before .before .before .before .before .before .before .before .before .before .before .before .before .before .before .before .before .before .if1 .left) in
     let call = rw (c .before .before .before .before .before .before .before .before .before .before .before .before .before .unpack .ensures) at (c .before .before .before .before .before .before .before .before .before .before .finish .ensures) in
-    end-so (now (c .before .before .before .before .before .before .before .before .before .before .before .before .before .before .before .before .before .before .before .before .before .before .before .before .before .args .state)) (now (c .before .before .before .before .before .before .before .before .before .before .before .before .before .before .before .before .before .before .before .before .before .before .before .before .before .args .work)) (now (c .before .before .before .before .before .before .before .before .before .before .before .before .before .before .before .before .before .before .before .before .before .before .before .before .before .args .image)) _ _ _ (c .before .before .before .before .before .before .before .before .before .before .finish .result) _ _ (right .0) (right .1) (is-so (c .before .before .before .before .before .before .before .before .before .before .before .before .before .before .before .before .is-state .result) (c .before .before .before .before .before .before .before .before .before .before .before .before .before .before .before .before .is-state .ensures) (c .before .before .before .before .before .before .before .before .before .before .before .before .before .before .before .if2 .left)) call (c .before .before .before .before .pack .ensures) (c .number-of .ensures) (c .before .line-of .ensures)
+    end-so _ (now (c .before .before .before .before .before .before .before .before .before .before .before .before .before .before .before .before .before .before .before .before .before .before .before .before .before .args .state)) (now (c .before .before .before .before .before .before .before .before .before .before .before .before .before .before .before .before .before .before .before .before .before .before .before .before .before .args .work)) (now (c .before .before .before .before .before .before .before .before .before .before .before .before .before .before .before .before .before .before .before .before .before .before .before .before .before .args .image)) _ _ _ (c .before .before .before .before .before .before .before .before .before .before .finish .result) _ _ (right .0) (right .1) (is-so (c .before .before .before .before .before .before .before .before .before .before .before .before .before .before .before .before .is-state .result) (c .before .before .before .before .before .before .before .before .before .before .before .before .before .before .before .before .is-state .ensures) (c .before .before .before .before .before .before .before .before .before .before .before .before .before .before .before .if2 .left)) call (c .before .before .before .before .pack .ensures) (c .number-of .ensures) (c .before .line-of .ensures)
 
-pub em73862-hex-end-spec : {M : Type 1} → statement M
-em73862-hex-end-spec =
+pub end-sized-spec : {M : Type 1} → statement M
+end-sized-spec =
     tie.close
     (tie.spec
     refusal-of-requires
