@@ -1,16 +1,13 @@
-//! Images as Intel HEX: document 02, Q-3.
+//! Images as Intel HEX: document 02, Q-3, by the size of the device's image.
 
+use crate::device::Device;
 use crate::numbers;
-use crate::rom::IMAGE_SIZE;
-
-/// 512 records of 44 characters, and the end record's 12.
-pub const TEXT_SIZE: usize = 22_540;
 
 // Document 02's refusals.
 const MALFORMED_LINE: u8 = 40;
 const RECORD_SUM: u8 = 41;
 const RECORD_TYPE: u8 = 42;
-const PAST_1FFF: u8 = 43;
+const PAST_THE_IMAGE: u8 = 43;
 const GIVEN_TWICE: u8 = 44;
 const END_MISSING_OR_TEXT_AFTER: u8 = 45;
 const OUTPUT_BUFFER: u8 = 46;
@@ -31,12 +28,17 @@ enum Record {
     End,
 }
 
+/// A text's characters: 512 records of 44, for the EM73P982 twice as many, and the end record's 12.
+pub fn text_size(device: Device) -> usize {
+    device.image_size() / BYTES_A_RECORD * 44 + 12
+}
+
 /// "A refused read leaves the image buffer unchanged."
-pub fn read_hex(text: &[u8], image: &mut [u8]) -> Result<(), HexRefusal> {
-    if image.len() != IMAGE_SIZE {
+pub fn read_hex(device: Device, text: &[u8], image: &mut [u8]) -> Result<(), HexRefusal> {
+    if image.len() != device.image_size() {
         return Err(HexRefusal { number: numbers::IMAGE_SIZE, line: 0 });
     }
-    let cells = read_cells(text)?;
+    let cells = read_cells(device, text)?;
     for (byte, cell) in image.iter_mut().zip(cells) {
         *byte = cell.unwrap_or(0xFF);
     }
@@ -44,8 +46,8 @@ pub fn read_hex(text: &[u8], image: &mut [u8]) -> Result<(), HexRefusal> {
 }
 
 /// The bytes that the text mentions, by address.
-fn read_cells(text: &[u8]) -> Result<Vec<Option<u8>>, HexRefusal> {
-    let mut cells = vec![None; IMAGE_SIZE];
+fn read_cells(device: Device, text: &[u8]) -> Result<Vec<Option<u8>>, HexRefusal> {
+    let mut cells = vec![None; device.image_size()];
     let mut ended = false;
     let mut line = 0;
     for characters in text.split_inclusive(|&c| c == b'\n') {
@@ -108,7 +110,7 @@ fn take(cells: &mut [Option<u8>], address: usize, bytes: &[u8]) -> Result<(), u8
     if bytes.is_empty() {
         return Ok(());
     }
-    let taken = cells.get_mut(address..address + bytes.len()).ok_or(PAST_1FFF)?;
+    let taken = cells.get_mut(address..address + bytes.len()).ok_or(PAST_THE_IMAGE)?;
     if taken.iter().any(Option::is_some) {
         return Err(GIVEN_TWICE);
     }
@@ -129,19 +131,20 @@ pub fn is_hex_state(bytes: &[u8]) -> bool {
 }
 
 /// "512 records of sixteen bytes in address order and the end record, upper case, LF"; later bytes stay.
-pub fn write_hex(image: &[u8], text: &mut [u8]) -> Result<(), u8> {
-    if image.len() != IMAGE_SIZE {
+pub fn write_hex(device: Device, image: &[u8], text: &mut [u8]) -> Result<(), u8> {
+    if image.len() != device.image_size() {
         return Err(numbers::IMAGE_SIZE);
     }
-    if text.len() < TEXT_SIZE {
+    let size = text_size(device);
+    if text.len() < size {
         return Err(OUTPUT_BUFFER);
     }
-    let mut written = String::with_capacity(TEXT_SIZE);
+    let mut written = String::with_capacity(size);
     for (place, bytes) in image.chunks_exact(BYTES_A_RECORD).enumerate() {
         written += &hex_record(BYTES_A_RECORD * place, DATA, bytes);
     }
     written += &hex_record(0, END, &[]);
-    text[..TEXT_SIZE].copy_from_slice(written.as_bytes());
+    text[..size].copy_from_slice(written.as_bytes());
     Ok(())
 }
 

@@ -30,7 +30,7 @@ pub use display::{display, DISPLAY_SIZE};
 pub use due::due_number;
 pub use execute::{add, short_call_target, subtract};
 pub use frame::Frame;
-pub use hex::{hex_record, is_hex_state, read_hex, write_hex, HexRefusal, TEXT_SIZE};
+pub use hex::{hex_record, is_hex_state, read_hex, text_size, write_hex, HexRefusal};
 pub use listing::{compare_listing, listing_lines, step_line, Compared, HEADER};
 pub use machine::{fresh, is_valid, reset, Machine, Mode, Options, Ports, RAM_SIZE};
 pub use notation::{goes_to, notation};

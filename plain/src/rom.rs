@@ -6,7 +6,7 @@ use crate::numbers;
 /// Addresses are 0000h to 1FFFh on both devices.
 pub const ADDRESSES: usize = 8192;
 
-/// The image of the EM73862, which is the one that Intel HEX speaks of.
+/// The image of the EM73862.
 pub const IMAGE_SIZE: usize = 8192;
 
 const BANK_SIZE: usize = 4096;

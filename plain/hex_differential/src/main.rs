@@ -1,5 +1,5 @@
 //! `hex_differential [SEED [FACTOR]]`: puts the same texts and images to the proved archive and to the plain reader and
-//! writer, each text whole and cut into chunks, and compares all that comes back. The texts are the same for the same seed; FACTOR makes so many times as many.
+//! writer, for each device, each text whole and cut into chunks, and compares all that comes back. The texts are the same for the same seed; FACTOR makes so many times as many.
 //! Exit status 1 on a difference, 2 where some answer came so seldom that the comparison says little, 0 else.
 
 #[allow(dead_code)]
@@ -9,7 +9,7 @@ mod proved;
 mod texts;
 
 use chance::Chance;
-use plain::{is_hex_state, read_hex, write_hex, IMAGE_SIZE, TEXT_SIZE};
+use plain::{is_hex_state, read_hex, text_size, write_hex, Device};
 use proved::{Answer, Call, Proved};
 use std::process::exit;
 
@@ -30,64 +30,81 @@ fn main() {
         eprintln!("usage: hex_differential [SEED [FACTOR]]");
         exit(2);
     };
-    let mut chance = Chance::new(seed);
     let mut proved = Proved::new();
+    for device in Device::ALL {
+        compare_device(device, seed, factor, &mut proved);
+    }
+}
+
+fn compare_device(device: Device, seed: u64, factor: u64, proved: &mut Proved) {
+    let mut chance = Chance::new(seed);
+    let name = device.name();
     let mut seen = [0u64; 256];
     let mut cut = 0;
     for _ in 0..READS * factor / BATCH {
         let mut calls = Vec::new();
         for _ in 0..BATCH {
-            let (text, image) = text_and_image(&mut chance);
+            let (text, image) = text_and_image(device, &mut chance);
             for lengths in cuttings(&mut chance, text.len()) {
                 calls.push(Call::Chunks { text: text.clone(), image: image.clone(), lengths });
             }
             calls.push(Call::Read { text, image });
         }
-        for (call, answer) in calls.iter().zip(proved.answers(&calls)) {
+        for (call, answer) in calls.iter().zip(proved.answers(device, &calls)) {
             if let Call::Read { .. } = call {
                 seen[answer.number as usize] += 1;
             } else {
                 cut += 1;
             }
-            compare(seed, call, answer);
+            compare(device, seed, call, answer);
         }
     }
     for _ in 0..WRITES * factor / BATCH {
-        let calls: Vec<Call> = (0..BATCH).map(|_| write_call(&mut chance)).collect();
-        for (call, answer) in calls.iter().zip(proved.answers(&calls)) {
-            compare(seed, call, answer);
+        let calls: Vec<Call> = (0..BATCH).map(|_| write_call(device, &mut chance)).collect();
+        for (call, answer) in calls.iter().zip(proved.answers(device, &calls)) {
+            compare(device, seed, call, answer);
         }
     }
     let mut refused = 0;
     for _ in 0..STATES * factor / BATCH {
-        let calls: Vec<Call> = (0..BATCH).map(|_| state_call(&mut chance)).collect();
-        for (call, answer) in calls.iter().zip(proved.answers(&calls)) {
+        let calls: Vec<Call> = (0..BATCH).map(|_| state_call(device, &mut chance)).collect();
+        for (call, answer) in calls.iter().zip(proved.answers(device, &calls)) {
             refused += u64::from(answer.number == 2);
-            compare(seed, call, answer);
+            compare(device, seed, call, answer);
         }
     }
     if refused * 4 < STATES * factor || refused * 4 > 3 * STATES * factor {
-        println!("hex_differential: seed {seed}: {refused} states refused: too many or too few to say much");
+        println!("hex_differential: {name}, seed {seed}: {refused} states refused: too many or too few to say much");
         exit(2);
     }
     let seldom: Vec<u8> = AT_LEAST.iter().filter(|(n, least)| seen[*n as usize] < *least).map(|(n, _)| *n).collect();
     let counts: Vec<String> = AT_LEAST.iter().map(|(n, _)| format!("{n}: {}", seen[*n as usize])).collect();
-    println!("hex_differential: answers of reads {}", counts.join(", "));
+    println!("hex_differential: {name}: answers of reads {}", counts.join(", "));
     if !seldom.is_empty() {
-        println!("hex_differential: seed {seed}: too seldom: {seldom:?}");
+        println!("hex_differential: {name}, seed {seed}: too seldom: {seldom:?}");
         exit(2);
     }
     let (reads, writes, states) = (READS * factor, WRITES * factor, STATES * factor);
-    println!("hex_differential: {reads} reads, {cut} in chunks, {writes} writes, {states} states ({refused} refused), 0 differ");
+    println!("hex_differential: {name}: {reads} reads, {cut} in chunks, {writes} writes, {states} states ({refused} refused), 0 differ");
+}
+
+/// The size of an image, and one in so many times another.
+fn any_size(device: Device, chance: &mut Chance, so_many: usize) -> usize {
+    let size = device.image_size();
+    if chance.one_in(so_many) {
+        chance.pick(&[0, size - 1, size + 1, 24_576 - size])
+    } else {
+        size
+    }
 }
 
 /// A third of the texts is good; the others are damaged in one place or two.
-fn text_and_image(chance: &mut Chance) -> (Vec<u8>, Vec<u8>) {
-    let mut lines = texts::good(chance);
+fn text_and_image(device: Device, chance: &mut Chance) -> (Vec<u8>, Vec<u8>) {
+    let mut lines = texts::good(device, chance);
     for _ in 0..chance.below(3) {
-        texts::damage(chance, &mut lines);
+        texts::damage(device, chance, &mut lines);
     }
-    let size = if chance.one_in(100) { chance.pick(&[0, 8191, 8193]) } else { IMAGE_SIZE };
+    let size = any_size(device, chance, 100);
     (lines.concat(), vec![chance.byte(); size])
 }
 
@@ -107,14 +124,15 @@ fn cuttings(chance: &mut Chance, length: usize) -> Vec<Vec<u32>> {
     cuttings
 }
 
-fn write_call(chance: &mut Chance) -> Call {
-    let size = if chance.one_in(8) { chance.pick(&[0, 8191, 8193]) } else { IMAGE_SIZE };
-    let room = chance.pick(&[0, TEXT_SIZE - 1, TEXT_SIZE, TEXT_SIZE, TEXT_SIZE + 1, TEXT_SIZE + 100]);
+fn write_call(device: Device, chance: &mut Chance) -> Call {
+    let whole = text_size(device);
+    let size = any_size(device, chance, 8);
+    let room = chance.pick(&[0, whole - 1, whole, whole, whole + 1, whole + 100]);
     Call::Write { image: chance.bytes(size), text: vec![chance.byte(); room] }
 }
 
 /// A state as a call could leave it, and in half of them one number at the edge of its range or past it.
-fn state_call(chance: &mut Chance) -> Call {
+fn state_call(device: Device, chance: &mut Chance) -> Call {
     let mut state = chance.bytes(550);
     state[522..].fill(0);
     let mut put = |at: usize, number: usize| state[at..at + 8].copy_from_slice(&(number as u64).to_le_bytes());
@@ -135,15 +153,15 @@ fn state_call(chance: &mut Chance) -> Call {
             _ => state.resize(chance.pick(&[0, 549, 551]), 0),
         }
     }
-    Call::State { state, image: vec![chance.byte(); IMAGE_SIZE] }
+    Call::State { state, image: vec![chance.byte(); device.image_size()] }
 }
 
-fn plainly(call: &Call) -> Answer {
+fn plainly(device: Device, call: &Call) -> Answer {
     let mut buffer = call.changing().to_vec();
     let (number, line) = match call {
-        Call::Write { image, .. } => (write_hex(image, &mut buffer).err().unwrap_or(0), 0),
+        Call::Write { image, .. } => (write_hex(device, image, &mut buffer).err().unwrap_or(0), 0),
         Call::State { state, .. } => (if is_hex_state(state) { 0 } else { 2 }, 0),
-        Call::Read { text, .. } | Call::Chunks { text, .. } => match read_hex(text, &mut buffer) {
+        Call::Read { text, .. } | Call::Chunks { text, .. } => match read_hex(device, text, &mut buffer) {
             Ok(()) => (0, 0),
             Err(refusal) => (refusal.number, refusal.line),
         },
@@ -168,12 +186,12 @@ fn told_by(text: &[u8], lengths: &[u32], number: u8, line: usize) -> usize {
     0
 }
 
-fn compare(seed: u64, call: &Call, proved: Answer) {
-    let plain = plainly(call);
+fn compare(device: Device, seed: u64, call: &Call, proved: Answer) {
+    let plain = plainly(device, call);
     if plain == proved {
         return;
     }
-    println!("hex_differential: seed {seed}: a call differs");
+    println!("hex_differential: {}, seed {seed}: a call differs", device.name());
     println!("  {}", String::from_utf8_lossy(call.steady()).escape_debug());
     println!("  plain {} line {}, proved {} line {}", plain.number, plain.line, proved.number, proved.line);
     println!("  the buffers are {}", if plain.buffer == proved.buffer { "the same" } else { "not the same" });

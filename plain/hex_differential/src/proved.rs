@@ -1,4 +1,4 @@
-//! The proved calls' answers: `Proved::new()` and `answers(&[Call]) -> Vec<Answer>`. See the crate archives for the two ways.
+//! The proved calls' answers: `Proved::new()` and `answers(Device, &[Call]) -> Vec<Answer>`. See the crate archives for the two ways.
 
 /// A call, with the buffer that it may change.
 pub enum Call {

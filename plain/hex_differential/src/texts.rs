@@ -1,11 +1,11 @@
 //! Texts of Intel HEX: good ones in every layout, and ones that are damaged in one place or two.
 
 use crate::chance::Chance;
-use plain::{hex_record, IMAGE_SIZE};
+use plain::{hex_record, Device};
 
 /// A good text: records of any size in any order, of either case, lines ending in LF or CRLF, the last perhaps in none.
-pub fn good(chance: &mut Chance) -> Vec<Vec<u8>> {
-    let mut lines = data_lines(chance);
+pub fn good(device: Device, chance: &mut Chance) -> Vec<Vec<u8>> {
+    let mut lines = data_lines(device, chance);
     for _ in 0..lines.len() {
         let (one, other) = (chance.below(lines.len()), chance.below(lines.len()));
         lines.swap(one, other);
@@ -24,12 +24,13 @@ pub fn good(chance: &mut Chance) -> Vec<Vec<u8>> {
 }
 
 /// Records that do not overlap, in address order: some of an image, or all of it.
-fn data_lines(chance: &mut Chance) -> Vec<Vec<u8>> {
+fn data_lines(device: Device, chance: &mut Chance) -> Vec<Vec<u8>> {
+    let end = device.image_size();
     let mut lines = Vec::new();
     let whole = chance.one_in(400);
-    let most = if whole { IMAGE_SIZE } else { chance.below(12) };
-    let mut address = if whole || chance.one_in(2) { 0 } else { chance.below(IMAGE_SIZE) };
-    while lines.len() < most && address < IMAGE_SIZE {
+    let most = if whole { end } else { chance.below(12) };
+    let mut address = if whole || chance.one_in(2) { 0 } else { chance.below(end) };
+    while lines.len() < most && address < end {
         let size = match chance.below(8) {
             0 => 0,
             1 => chance.below(256),
@@ -37,7 +38,7 @@ fn data_lines(chance: &mut Chance) -> Vec<Vec<u8>> {
             3 | 4 => 16,
             _ => 1 + chance.below(20),
         };
-        let size = if whole { size.max(16) } else { size }.min(IMAGE_SIZE - address);
+        let size = if whole { size.max(16) } else { size }.min(end - address);
         let place = if size == 0 { chance.below(0x10000) } else { address };
         lines.push(hex_record(place, 0, &chance.bytes(size)).into_bytes());
         address += size;
@@ -65,7 +66,7 @@ fn lay_out(chance: &mut Chance, layout: usize, line: &mut Vec<u8>) {
 }
 
 /// Damage in one place.
-pub fn damage(chance: &mut Chance, lines: &mut Vec<Vec<u8>>) {
+pub fn damage(device: Device, chance: &mut Chance, lines: &mut Vec<Vec<u8>>) {
     if lines.is_empty() {
         return;
     }
@@ -89,8 +90,8 @@ pub fn damage(chance: &mut Chance, lines: &mut Vec<Vec<u8>>) {
         }
         8 => lines.insert(at, hex_record(chance.below(0x10000), chance.byte(), &chance.bytes(2)).into_bytes()),
         9 => lines.insert(at, hex_record(0, chance.pick(&[2, 3, 4, 5]), &chance.bytes(2)).into_bytes()),
-        10 => lines.insert(at, any_record(chance, IMAGE_SIZE - 40, 80).into_bytes()),
-        11 => lines.insert(at, any_record(chance, 0, IMAGE_SIZE).into_bytes()),
+        10 => lines.insert(at, any_record(chance, device.image_size() - 40, 80).into_bytes()),
+        11 => lines.insert(at, any_record(chance, 0, device.image_size()).into_bytes()),
         12 => lines.insert(at, hex_record(0, 1, &chance.bytes(1)).into_bytes()),
         13 => {
             let other = chance.below(lines.len());

@@ -2,6 +2,7 @@
 
 use super::{Answer, Call};
 use archives::Server;
+use plain::Device;
 use std::io::{self, Read, Write};
 
 pub struct Proved(Server);
@@ -12,13 +13,13 @@ impl Proved {
         Proved(Server::start("em73862-hex-server"))
     }
 
-    pub fn answers(&mut self, calls: &[Call]) -> Vec<Answer> {
-        self.0.answers(calls, send, receive)
+    pub fn answers(&mut self, device: Device, calls: &[Call]) -> Vec<Answer> {
+        self.0.answers(calls, |requests, calls| send(requests, device, calls), receive)
     }
 }
 
 /// server.c's `struct request`, then the two buffers and the chunks.
-fn send(requests: &mut impl Write, calls: &[Call]) -> io::Result<()> {
+fn send(requests: &mut impl Write, device: Device, calls: &[Call]) -> io::Result<()> {
     for call in calls {
         let code: u32 = match call {
             Call::Read { .. } => 1,
@@ -27,7 +28,8 @@ fn send(requests: &mut impl Write, calls: &[Call]) -> io::Result<()> {
             Call::State { .. } => 4,
         };
         let lengths = call.lengths();
-        for word in [code, call.steady().len() as u32, call.changing().len() as u32, lengths.len() as u32] {
+        let place = u32::from(device == Device::Em73P982);
+        for word in [place, code, call.steady().len() as u32, call.changing().len() as u32, lengths.len() as u32] {
             requests.write_all(&word.to_le_bytes())?;
         }
         requests.write_all(call.steady())?;
