@@ -2,8 +2,8 @@
  * that run: its cycles, and the time base and TA at its start and at its end beside what the account says of them. The premises are looked at step by step,
  * by em73862_step from the same start; where one of them fails it says so, and the account says nothing.
  *
- *   rt staticlib em73862 && rt staticlib em73862_run
- *   cc -std=c11 -Wall -Wextra -Werror -Iinclude examples/clock-account.c target/staticlib/libem73862.a target/staticlib/libem73862_run.a -o clock-account
+ *   tools/archive em73862
+ *   cc -std=c11 -Wall -Wextra -Werror -Iinclude examples/clock-account.c -Ltarget/lib -lem73862 -o clock-account
  */
 #include "em73862.h"
 #include <stdio.h>

@@ -1,8 +1,8 @@
 /* pane IMAGE ADDRESS: ten rows of an image from an address on, as the lister prints them, each branch or call with its target, and then the
  * bound of the handler there with its paths, as the bounder prints them. A start for a debugger's pane.
  *
- *   rt staticlib em73862
- *   cc -std=c11 -Wall -Wextra -Werror -Iinclude examples/pane.c target/staticlib/libem73862.a -o pane
+ *   tools/archive em73862
+ *   cc -std=c11 -Wall -Wextra -Werror -Iinclude examples/pane.c -Ltarget/lib -lem73862 -o pane
  */
 #include "em73862_pane.h"
 #include <stdio.h>

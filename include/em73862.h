@@ -82,7 +82,7 @@ uint8_t em73862_why(const uint8_t *image, size_t image_length, uint8_t wake, uin
                     const uint8_t *record, size_t record_length,
                     const uint8_t *frame, size_t frame_length,
                     uint8_t *holds, uint8_t *source, uint8_t *sources);
-/* One step a frame, up to a stop. 1, 2, 4, 3; stops 30 to 35. It is in libem73862_run.a, all others are in libem73862.a. */
+/* One step a frame, up to a stop. 1, 2, 4, 3; stops 30 to 35. */
 uint8_t em73862_run(const uint8_t *image, size_t image_length, uint8_t wake, uint8_t sound,
                     uint8_t *record, size_t record_length,
                     const uint8_t *frames, size_t frames_length, uint32_t *steps, uint32_t *cycles);

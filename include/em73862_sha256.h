@@ -19,6 +19,7 @@ extern "C" {
 #define EM73862_SHA256_MESSAGE_TOO_LONG 1
 #define EM73862_SHA256_DIGEST_BUFFER 5
 
+/* The digest of a message. 1, 5. */
 uint8_t em73862_sha256(const uint8_t *message, size_t length, uint8_t *digest, size_t digest_length);
 
 #ifdef __cplusplus

@@ -4,7 +4,7 @@
  * Every call answers document 01's number: 0, a refusal or a stop; beside each stand those that it can give, in their order. They have the names of em73862.h and
  * em73862_pane.h. A refusal changes no buffer, and sets the numbers that come back to 0, but for the value that comes with 21, 22, 23 and 24.
  * A slice is a pointer and a length; a slice of no bytes may have any pointer. No two arguments of a call overlap.
- * The calls are in libem73p982.a, but for the run, which is in libem73p982_run.a.
+ * The calls are in libem73p982.a.
  *
  * An image is four banks of 4,096 bytes. Addresses 0000h to 0FFFh are bank 0; 1000h to 1FFFh are bank 1, 2 or 3 where bits 1..0 of P3 are 0, 1, 2.
  *

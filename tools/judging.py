@@ -37,7 +37,7 @@ def c_programs(folder, name, source, archives):
     if shutil.which('cc'):
         native = platform.machine() == 'x86_64'
         words = ['cc', '-std=c11', '-Wall', '-Wextra', '-Werror', '-Iinclude', '-x', 'c', source, '-o', made + '-by-cc', '-x', 'none']
-        compare('cc ' + name, (0, '', ''), run(words + (['target/staticlib/lib%s.a' % archive for archive in archives] if native else ['-c'])))
+        compare('cc ' + name, (0, '', ''), run(words + (['target/lib/lib%s.a' % archive for archive in archives] if native else ['-c'])))
         programs += [[made + '-by-cc']] if native else []
     return programs
 

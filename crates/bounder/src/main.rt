@@ -10,21 +10,22 @@ use device::Device;
 use device::image_size;
 use device::is_banked;
 use libc::STDERR_FILENO;
-use notation::sources::source_name;
-use numbers::ADDRESSES;
 use program::image::chosen_window;
-use program::image::read_image;
+use program::image::open_image;
+use program::image::refuse_window;
 use program::streams::ending_of;
 use program::streams::say;
 use program::streams::show;
 use program::streams::show_part;
 use program::words::Choice;
 use program::words::Chosen;
+use program::words::address_word;
 use routines_bound::Greatest;
-use text::digits::number;
 use text::digits::put;
 use text::words::Address;
+use text_bounder::address_in;
 use text_bounder::cycles_at;
+use text_bounder::entry_line;
 use text_bounder::most_depth;
 use text_bounder::opened;
 use text_bounder::path_line;
@@ -37,11 +38,20 @@ ghost use Rattle.numbers.specs.ComesBack.{valueAt};
 ghost use Rattle.bound.specs.Answer.{paperOf};
 ghost use Rattle.device.specs.Device.{windowEnd};
 
+const USAGE: [u8; 56] = *b"usage: bounder [--device NAME [--p3 N]] IMAGE [ADDRESS]\n";
+
 fn usage() {
+    io::write_all(STDERR_FILENO, &USAGE);
+}
+
+// Refuses a word that is no address of an image, and says what one is.
+fn refuse_address() -> bool {
+    let written = show(b"refused 20\n");
     io::write_all(
         STDERR_FILENO,
-        b"usage: bounder [--device NAME [--p3 N]] IMAGE [ADDRESS]\n",
+        b"ADDRESS is one to four hexadecimal digits up to 1FFF, with 0x before them or h behind if you like\n",
     );
+    written
 }
 
 // What came of an output: whether all of it was written so far, as each function here answers, and how many bytes of the buffer wait to be.
@@ -86,16 +96,6 @@ fn add_line(out: &mut [u8], end: usize, image: &[u8], p3: u8, at: u16, counted: 
 const MOST_PLACES: usize = 65535;
 
 const MOST_BYTES: usize = 131070;
-
-// The address of a place of a path.
-fn address_in(path: &[u8], i: usize) -> u16
-    requires { ⌜ (length (now path) ≡ 131070) × (i < 65535) ⌝ }
-    ensures { λ r. ⌜ r < addresses ⌝ }
-{
-    let low = path[2 * i] as u16;
-    let high = path[2 * i + 1] as u16;
-    (256 * high + low) % ADDRESSES
-}
 
 // The lines of N's path: it ends where its cycles come to N. out is to collect them in.
 fn list_path(image: &[u8], p3: u8, path: &[u8], most: u32, out: &mut [u8]) -> bool
@@ -160,19 +160,6 @@ fn show_answer(answer: Bounded) -> bool
     let mut out = io::buffer();
     let end = summary(&mut out, 0, answer);
     end_line(&mut out, end)
-}
-
-// An answer after what is already on its line, the depth beside N.
-fn show_entry(out: &mut [u8], from: usize, answer: Bounded) -> bool
-    requires { ⌜ (valueAt (paperOf answer) 0 < 131072) × (valueAt (paperOf answer) 1 < 65536) × (from + 31 ≤ length (now out)) ⌝ }
-{
-    let end = summary(out, from, answer);
-    let Bounded::Bounds(greatest) = answer else {
-        return end_line(out, end);
-    };
-    let gap = put(out, end, b' ');
-    let last = most_depth(out, gap, greatest.depth as u32);
-    end_line(out, last)
 }
 
 fn show_depth(depth: u32) -> bool
@@ -243,11 +230,8 @@ fn entry(d: Device, image: &[u8], p3: u8, at: u32, latch: u8) -> bool {
     let mut deep = [0u8; MOST_BYTES];
     let answer = bound(d, image, p3 as u32, at, &mut path, &mut deep);
     let mut out = io::buffer();
-    let address = number(&mut out, 0, 16, 4, at);
-    let gap = put(&mut out, address, b' ');
-    let named = source_name(&mut out, gap, d, latch);
-    let from = put(&mut out, named, b' ');
-    show_entry(&mut out, from, answer)
+    let n = entry_line(&mut out, d, at, latch, answer);
+    show_part(&out, n)
 }
 
 fn entries(d: Device, image: &[u8], p3: u8) -> bool {
@@ -275,8 +259,8 @@ fn bound_image(d: Device, image: &[u8], p3: u8, before: u8) -> bool
     }
     let mut word = io::buffer();
     let n = os::arg(word_at, &mut word);
-    let Address::At(at) = text::words::read_address(&word[..n]) else {
-        return show(b"refused 20\n");
+    let Address::At(at) = address_word(&word[..n]) else {
+        return refuse_address();
     };
     if word_at + 1 < os::arg_count() {
         usage();
@@ -288,17 +272,13 @@ fn bound_image(d: Device, image: &[u8], p3: u8, before: u8) -> bool
 fn bound_chosen(c: Chosen) -> bool {
     let d = c.device;
     let mut image = [0u8; 16385];
-    let file = read_image(c.before as usize + 1, &mut image);
-    if !file.readable {
-        usage();
-        return show(b"refused 01\n");
-    }
+    let file = open_image(d, c.before as usize + 1, &mut image, &USAGE);
     let size = file.size;
     if size != image_size(d) {
-        return show(b"refused 01\n");
+        return file.written;
     }
     if !is_banked(d, c.p3) {
-        return show(b"refused 02\n");
+        return refuse_window();
     }
     bound_image(d, &image[..size], c.p3 as u8, c.before)
 }

@@ -18,7 +18,7 @@ use libc::STDERR_FILENO;
 use libc::STDOUT_FILENO;
 use listing::line::header;
 use program::image::chosen_device;
-use program::image::read_image;
+use program::image::open_image;
 use program::part::read_behind;
 use program::part::to_front;
 use program::streams::Ending;
@@ -70,11 +70,10 @@ struct Files {
     listing: i32,
 }
 
+const USAGE: [u8; 52] = *b"usage: compare [--device NAME] IMAGE SCRIPT LISTING\n";
+
 fn usage() {
-    io::write_all(
-        STDERR_FILENO,
-        b"usage: compare [--device NAME] IMAGE SCRIPT LISTING\n",
-    );
+    io::write_all(STDERR_FILENO, &USAGE);
 }
 
 fn show_difference(line: u64, field: u8) -> bool {
@@ -391,10 +390,10 @@ fn run_chosen(c: Chosen) -> Ending {
         return Ending::Done;
     }
     let mut image = [0u8; 16385];
-    let file = read_image(word, &mut image);
+    let file = open_image(d, word, &mut image, &USAGE);
     let size = file.size;
     if size != image_size(d) {
-        return end_with(Found::Told(Compared::ImageOfAnotherSize));
+        return ending_of(false, file.written);
     }
     let files = Files {
         script: open_word(word + 1),

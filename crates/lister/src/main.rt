@@ -7,13 +7,15 @@ use device::image_size;
 use device::is_banked;
 use libc::STDERR_FILENO;
 use program::image::chosen_window;
-use program::image::read_image;
+use program::image::open_image;
+use program::image::refuse_window;
 use program::streams::ending_of;
 use program::streams::say;
 use program::streams::show;
 use program::streams::show_part;
 use program::words::Choice;
 use program::words::Chosen;
+use program::words::address_word;
 use text::words::Address;
 use text::words::Number;
 ghost use mathlib.Core.Path.{_≡_};
@@ -22,11 +24,20 @@ ghost use lib.ListN.{length};
 ghost use Rattle.numbers.specs.Sizes.{addresses};
 ghost use Rattle.device.specs.Device.{windowEnd};
 
+const USAGE: [u8; 63] = *b"usage: lister [--device NAME [--p3 N]] IMAGE [ADDRESS [COUNT]]\n";
+
 fn usage() {
+    io::write_all(STDERR_FILENO, &USAGE);
+}
+
+// Refuses a word that is no address of an image, and says what one is.
+fn refuse_address() -> bool {
+    let written = show(b"refused 20\n");
     io::write_all(
         STDERR_FILENO,
-        b"usage: lister [--device NAME [--p3 N]] IMAGE [ADDRESS [COUNT]]\n",
+        b"ADDRESS is one to four hexadecimal digits up to 1FFF, with 0x before them or h behind if you like\n",
     );
+    written
 }
 
 // Room for the lines of a whole image, of 37 characters each, and three more.
@@ -74,8 +85,8 @@ fn list_image(image: &[u8], p3: u8, before: u8) -> bool
     }
     let mut word = io::buffer();
     let n = os::arg(word_at, &mut word);
-    let Address::At(at) = text::words::read_address(&word[..n]) else {
-        return show(b"refused 20\n");
+    let Address::At(at) = address_word(&word[..n]) else {
+        return refuse_address();
     };
     list_from(image, p3, before, at)
 }
@@ -83,17 +94,13 @@ fn list_image(image: &[u8], p3: u8, before: u8) -> bool
 fn list_chosen(c: Chosen) -> bool {
     let d = c.device;
     let mut image = [0u8; 16385];
-    let file = read_image(c.before as usize + 1, &mut image);
-    if !file.readable {
-        usage();
-        return show(b"refused 01\n");
-    }
+    let file = open_image(d, c.before as usize + 1, &mut image, &USAGE);
     let size = file.size;
     if size != image_size(d) {
-        return show(b"refused 01\n");
+        return file.written;
     }
     if !is_banked(d, c.p3) {
-        return show(b"refused 02\n");
+        return refuse_window();
     }
     list_image(&image[..size], c.p3 as u8, c.before)
 }

@@ -1,7 +1,8 @@
--- The words that name a device and P3. Sentences in quotation marks are of docs/PROGRAMS.md.
-use Prim.Native.Nat.{ℕ}
+-- The words that name a device, P3 and an address. Sentences in quotation marks are of docs/PROGRAMS.md.
+use Prim.Native.Nat.{ℕ, _-_}
 use mathlib.Core.List.{List}
-use lib.Dec.{eqb}
+use lib.Dec.{eqb, ltb}
+use lib.ListN.{length, getD, take, drop}
 use Rattle.laws.specs.Among.{among}
 use Rattle.laws.specs.Choice.{pick}
 use Rattle.device.specs.Device.{alsoWritable}
@@ -9,7 +10,8 @@ use Rattle.device.specs.declared.Device.{Device}
 use Rattle.device.specs.declared.Device.the-variants.{Em73862, Em73P982}
 use Rattle.text.specs.Digits.{characters}
 use Rattle.text.specs.Same.{sameText}
-use Rattle.text.specs.Words.{numberOf}
+use Rattle.text.specs.Words.{numberOf, wordAddress}
+use Rattle.text.specs.declared.words.Address.{Address}
 use Rattle.text.specs.declared.words.Number.{Number}
 use Rattle.text.specs.declared.words.Number.the-variants.{Value, Nothing}
 use Rattle.program.specs.declared.words.Choice.{Choice}
@@ -46,3 +48,11 @@ p3Behind Usage three four = Usage
 -- "`--p3` without that device ..: the usage line"
 unfoldable pub windowWords : List ℕ → List ℕ → List ℕ → List ℕ → Choice
 windowWords one two three four = pick (sameText one (characters "--p3")) Usage (p3Behind (deviceWords one two) three four)
+
+-- "with 0x before them or h behind": an address without its sign
+abbrev pub bareOf : List ℕ → List ℕ
+bareOf word = pick (sameText (take 2 word) (characters "0x")) (drop 2 word) (pick (eqb (getD word (length word - 1) 0) 104) (take (length word - 1) word) word)
+
+-- a sign needs a digit beside it
+unfoldable pub addressWord : List ℕ → Address
+addressWord word = wordAddress (pick (ltb (length word) 2) word (bareOf word))

@@ -28,7 +28,7 @@ fn asked_by(word: &[u8]) -> Asked
 }
 
 // Ours, and the kit that proved and compiled it, as `rt version` prints it.
-fn show_version() -> bool {
+pub fn show_version() -> bool {
     show(b"Bakethrush 1.0\nrattle-kit-5b-plain logic 097e4c862dff5811\n")
 }
 

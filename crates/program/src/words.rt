@@ -2,10 +2,12 @@
 use check::same;
 use device::Device;
 use device::also_writable;
+use text::words::Address;
 use text::words::Number;
+use text::words::read_address;
 use text::words::read_number;
 ghost use mathlib.Core.Path.{_≡_};
-ghost use Rattle.program.specs.Words.{chosen, nameOf, deviceWords, p3Word, windowWords};
+ghost use Rattle.program.specs.Words.{chosen, nameOf, deviceWords, p3Word, windowWords, addressWord};
 
 // The device, P3, and how many words stand before the image.
 pub struct Chosen {
@@ -82,4 +84,21 @@ pub fn window_words(one: &[u8], two: &[u8], three: &[u8], four: &[u8]) -> Choice
         return p3_word(d, four);
     }
     Choice::Made(c)
+}
+
+// The address that a word names, with 0x before its digits or h behind them or neither.
+pub fn address_word(word: &[u8]) -> Address
+    ensures { λ r. ⌜ r ≡ addressWord (now (word .entry)) ⌝ }
+{
+    let n = word.len();
+    if n < 2 {
+        return read_address(word);
+    }
+    if same(&word[..2], b"0x") {
+        return read_address(&word[2..]);
+    }
+    if word[n - 1] == b'h' {
+        return read_address(&word[..n - 1]);
+    }
+    read_address(word)
 }

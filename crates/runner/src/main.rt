@@ -11,7 +11,7 @@ use listing::feed;
 use listing::line::header;
 use listing::tell;
 use program::image::chosen_device;
-use program::image::read_image;
+use program::image::open_image;
 use program::script::go_on;
 use program::streams::Ending;
 use program::streams::ending_of;
@@ -29,15 +29,10 @@ ghost use lib.ListN.{length};
 ghost use Rattle.device.specs.Device.{imageSize, frameSize};
 ghost use Rattle.record.specs.Valid.{ValidCore, Nibbles};
 
-fn usage() {
-    io::write_all(
-        STDERR_FILENO,
-        b"usage: runner [--device NAME] IMAGE < SCRIPT\n",
-    );
-}
+const USAGE: [u8; 45] = *b"usage: runner [--device NAME] IMAGE < SCRIPT\n";
 
-fn refuse_image() -> bool {
-    show(b"refused 01\n")
+fn usage() {
+    io::write_all(STDERR_FILENO, &USAGE);
 }
 
 // What no LF ends: the last line, if there is one, or the beginning of a line that is too long.
@@ -109,14 +104,10 @@ fn run_chosen(c: Chosen) -> Ending {
     let d = c.device;
     let word = c.before as usize + 1;
     let mut image = [0u8; 16385];
-    let file = read_image(word, &mut image);
-    if !file.readable {
-        usage();
-        return ending_of(false, refuse_image());
-    }
+    let file = open_image(d, word, &mut image, &USAGE);
     let size = file.size;
     if size != image_size(d) {
-        return ending_of(false, refuse_image());
+        return ending_of(false, file.written);
     }
     if word + 1 < os::arg_count() {
         usage();

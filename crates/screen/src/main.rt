@@ -12,7 +12,7 @@ use frame::frame_of;
 use libc::STDERR_FILENO;
 use listing::tell;
 use program::image::chosen_device;
-use program::image::read_image;
+use program::image::open_image;
 use program::script::go_on;
 use program::streams::Ending;
 use program::streams::ending_of;
@@ -49,15 +49,10 @@ struct Turn {
     used: usize,
 }
 
-fn usage() {
-    io::write_all(
-        STDERR_FILENO,
-        b"usage: screen [--device NAME] [--pbm] IMAGE [STEP] < SCRIPT\n",
-    );
-}
+const USAGE: [u8; 60] = *b"usage: screen [--device NAME] [--pbm] IMAGE [STEP] < SCRIPT\n";
 
-fn refuse_image() -> Ending {
-    ending_of(false, show(b"refused 01\n"))
+fn usage() {
+    io::write_all(STDERR_FILENO, &USAGE);
 }
 
 fn refuse_frame() -> Ending {
@@ -257,14 +252,10 @@ fn run_image(d: Device, form: Form, word: usize) -> Ending
     requires { ⌜ word ≤ 999 ⌝ }
 {
     let mut image = [0u8; 16385];
-    let file = read_image(word, &mut image);
-    if !file.readable {
-        usage();
-        return refuse_image();
-    }
+    let file = open_image(d, word, &mut image, &USAGE);
     let size = file.size;
     if size != image_size(d) {
-        return refuse_image();
+        return ending_of(false, file.written);
     }
     run_word(d, &image[..size], form, word + 1)
 }

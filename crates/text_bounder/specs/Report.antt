@@ -3,10 +3,12 @@ use Prim.Native.Nat.{ℕ, _-_}
 use mathlib.Core.List.{List, [], _∷_, _++_}
 use lib.ListN.{length}
 use Rattle.numbers.specs.ComesBack.{image-of-another-size, record-outside-the-ranges, address-over-8191, excluded-instruction-reachable, repetition-reachable, path-buffer-too-short, recursion-reachable, bound-over-65535}
+use Rattle.device.specs.declared.Device.{Device}
 use Rattle.sheet.specs.Reading.{readAt, cyclesOf}
 use Rattle.sheet.specs.declared.Read.{Read}
 use Rattle.text.specs.Digits.{characters, hex, decimal, blanks}
 use Rattle.text.specs.Refusal.{refusedText}
+use Rattle.notation.specs.Names.{sourceName}
 use Rattle.text_lister.specs.Listing.{columnsOf}
 use Rattle.bound.specs.declared.Bounded.{Bounded}
 
@@ -35,6 +37,22 @@ summaryOf (Bounded.Repeats address) = refusedAt repetition-reachable address
 summaryOf Bounded.TooLarge = refusedText bound-over-65535
 summaryOf (Bounded.Short bytes) = refusedBytes path-buffer-too-short bytes
 summaryOf (Bounded.Bounds g) = cyclesText (g .cycles)
+
+-- on a line of the entries the depth stands beside N
+abbrev pub answerText : Bounded → List ℕ
+answerText Bounded.ImageSize = summaryOf Bounded.ImageSize
+answerText Bounded.P3Range = summaryOf Bounded.P3Range
+answerText Bounded.AddressRange = summaryOf Bounded.AddressRange
+answerText (Bounded.Recursion entry) = summaryOf (Bounded.Recursion entry)
+answerText (Bounded.Excluded address) = summaryOf (Bounded.Excluded address)
+answerText (Bounded.Repeats address) = summaryOf (Bounded.Repeats address)
+answerText Bounded.TooLarge = summaryOf Bounded.TooLarge
+answerText (Bounded.Short bytes) = summaryOf (Bounded.Short bytes)
+answerText (Bounded.Bounds g) = cyclesText (g .cycles) ++ (characters " " ++ depthText (g .depth))
+
+-- "a line each: the entry's address, its source, the answer"
+abbrev pub entryLineOf : Device → ℕ → ℕ → Bounded → List ℕ
+entryLineOf d at latch answer = hex 4 at ++ (characters " " ++ (sourceName d latch ++ (characters " " ++ (answerText answer ++ (10 ∷ [])))))
 
 -- as the lister's line, then a blank and what is counted, right-aligned in five characters: along N's path the total of cycles so far, along depth's "the number of calls open after the row"
 abbrev pub rightAligned : ℕ → List ℕ → List ℕ

@@ -1,6 +1,9 @@
 // What the bounder says, as characters in a buffer: each function answers the place after what it wrote.
 use bound::Bounded;
+use device::Device;
+use notation::sources::source_name;
 use numbers::ADDRESS_OVER_8191;
+use numbers::ADDRESSES;
 use numbers::BOUND_OVER_65535;
 use numbers::EXCLUDED_INSTRUCTION_REACHABLE;
 use numbers::IMAGE_OF_ANOTHER_SIZE;
@@ -29,7 +32,7 @@ ghost use Rattle.laws.specs.Writing.{Wrote};
 ghost use Rattle.routines.specs.Calling as calling;
 ghost use Rattle.bound.specs.Answer.{paperOf};
 ghost use Rattle.text.specs.Digits.{decimal as decimalOf};
-ghost use Rattle.text_bounder.specs.Report.{refusedAt, refusedBytes, cyclesText, depthText, summaryOf, pathLineOf, cyclesAt};
+ghost use Rattle.text_bounder.specs.Report.{refusedAt, refusedBytes, cyclesText, depthText, summaryOf, answerText, entryLineOf, pathLineOf, cyclesAt};
 
 fn refused_at(out: &mut [u8], from: usize, n: u8, address: u32) -> usize
     requires { ⌜ from + 15 ≤ length (now out) ⌝ }
@@ -106,6 +109,34 @@ pub fn summary(out: &mut [u8], from: usize, answer: Bounded) -> usize
     }
 }
 
+// An answer on a line of the entries, the depth beside N.
+fn answer_text(out: &mut [u8], from: usize, answer: Bounded) -> usize
+    requires { ⌜ (valueAt (paperOf answer) 0 < 131072) × (valueAt (paperOf answer) 1 < 65536) × (from + 30 ≤ length (now out)) ⌝ }
+    ensures { λ r. ⌜ Wrote (now (out .entry)) (now (out .exit)) from r (answerText answer) ⌝ }
+    ensures { λ r. ⌜ r ≤ from + 30 ⌝ }
+{
+    let end = summary(out, from, answer);
+    let Bounded::Bounds(greatest) = answer else {
+        return end;
+    };
+    let gap = put(out, end, b' ');
+    most_depth(out, gap, greatest.depth as u32)
+}
+
+// A line of the entries: the address, the source of its latch, and the answer.
+pub fn entry_line(out: &mut [u8], d: Device, at: u32, latch: u8, answer: Bounded) -> usize
+    requires { ⌜ (valueAt (paperOf answer) 0 < 131072) × (valueAt (paperOf answer) 1 < 65536) × (41 ≤ length (now out)) ⌝ }
+    ensures { λ r. ⌜ Wrote (now (out .entry)) (now (out .exit)) 0 r (entryLineOf d at latch answer) ⌝ }
+    ensures { λ r. ⌜ r ≤ 41 ⌝ }
+{
+    let address = number(out, 0, 16, 4, at);
+    let gap = put(out, address, b' ');
+    let named = source_name(out, gap, d, latch);
+    let from = put(out, named, b' ');
+    let end = answer_text(out, from, answer);
+    put(out, end, b'\n')
+}
+
 // A line of a path, with its end: at most 43 characters. What is counted along N's path is its cycles, along depth's the calls that are open.
 pub fn path_line(out: &mut [u8], from: usize, image: &[u8], p3: u8, at: u16, counted: u32) -> usize
     requires { ⌜ (windowEnd p3 ≤ length (now image)) × (at < addresses) × (counted < 100000) × (from + 43 ≤ length (now out)) ⌝ }
@@ -130,6 +161,16 @@ pub fn cycles_at(image: &[u8], p3: u8, at: u16) -> u32
     };
     let cost = sheet::timing(byte_at(image, p3, at));
     cost.cycles as u32
+}
+
+// The address of a place of a path, which has room for the longest.
+pub fn address_in(path: &[u8], i: usize) -> u16
+    requires { ⌜ (length (now path) ≡ 131070) × (i < 65535) ⌝ }
+    ensures { λ r. ⌜ r < addresses ⌝ }
+{
+    let low = path[2 * i] as u16;
+    let high = path[2 * i + 1] as u16;
+    (256 * high + low) % ADDRESSES
 }
 
 // The calls that are open after a place of this kind in the flow with calls.

@@ -8,7 +8,7 @@ use device::frame_size;
 use device::image_size;
 use libc::STDERR_FILENO;
 use program::image::chosen_device;
-use program::image::read_image;
+use program::image::open_image;
 use program::script::go_on;
 use program::streams::Ending;
 use program::streams::ending_of;
@@ -37,15 +37,10 @@ struct Turn {
     written: bool,
 }
 
-fn usage() {
-    io::write_all(
-        STDERR_FILENO,
-        b"usage: why [--device NAME] IMAGE [STEP] < SCRIPT\n",
-    );
-}
+const USAGE: [u8; 49] = *b"usage: why [--device NAME] IMAGE [STEP] < SCRIPT\n";
 
-fn refuse_image() -> bool {
-    show(b"refused 01\n")
+fn usage() {
+    io::write_all(STDERR_FILENO, &USAGE);
 }
 
 // What no LF ends: the last line, if there is one, or the beginning of a line that is too long.
@@ -191,14 +186,10 @@ fn ask_chosen(c: Chosen) -> Ending {
     let d = c.device;
     let word = c.before as usize + 1;
     let mut image = [0u8; 16385];
-    let file = read_image(word, &mut image);
-    if !file.readable {
-        usage();
-        return ending_of(false, refuse_image());
-    }
+    let file = open_image(d, word, &mut image, &USAGE);
     let size = file.size;
     if size != image_size(d) {
-        return ending_of(false, refuse_image());
+        return ending_of(false, file.written);
     }
     ask_word(d, &image[..size], word + 1)
 }

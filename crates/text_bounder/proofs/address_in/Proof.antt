@@ -1,9 +1,9 @@
--- `bounder::address_in` meets its contract.
+-- `text_bounder::address_in` meets its contract.
 use Prim.Native.Nat.{_+_, _*_}
 use native.Mathlib.Omega.{arith}
 use borrow.Author.Needs.{needs}
-use Rattle.bounder.proofs.address_in.Statement.{statement}
-use Rattle.bounder.proofs.address_in.Tie as tie
+use Rattle.text_bounder.proofs.address_in.Statement.{statement}
+use Rattle.text_bounder.proofs.address_in.Tie as tie
 
 mul-low : tie.Need-mul-low
 mul-low c = search needs
