@@ -17,10 +17,18 @@ def judge(what, good):
 def compare(what, expected, found):
     judge('%s: expected %r, found %r' % (what, str(expected)[:400], str(found)[:400]), expected == found)
 
+# What a refusal says in words on standard error, by what stands on standard output.
+WORDS = {'refused 01\n': r'usage: .*\n|.*: (cannot be opened|cannot be read|(\d+|more than 16384) bytes, and an image of the (EM73862 has 8192|EM73P982 has 16384))\n',
+         'refused 02\n': r'--p3 is over 15, or its bits 1\.\.0 are 3\n',
+         'refused 20\n': r'ADDRESS is one to four hexadecimal digits up to 1FFF, with 0x before them or h behind if you like\n'}
+
 def compare_run(what, words, out, err='', **source):
-    """Both outputs of a program, whose exit status is always 0."""
+    """Both outputs of a program, whose exit status is always 0. A refusal alone on standard output has its words on standard error."""
     ran = subprocess.run(words, capture_output=True, timeout=60, **(source or {'stdin': subprocess.DEVNULL}))
-    compare(what, (out, err, 0), (ran.stdout.decode(), ran.stderr.decode(), ran.returncode))
+    said = ran.stderr.decode()
+    if out in WORDS and re.fullmatch(WORDS[out], said):
+        said = err
+    compare(what, (out, err, 0), (ran.stdout.decode(), said, ran.returncode))
 
 def run(words):
     """The exit status and both outputs of a program that is run at the root."""
