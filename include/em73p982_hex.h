@@ -47,6 +47,7 @@ uint8_t em73p982_hex_write(const uint8_t *image, size_t image_length, uint8_t *t
  * the work buffer stay as the last call left them; the work buffer may start with any contents. The image is written by the end alone,
  * where the whole text is good. A fault is told by the call that completes its line; once it is told, or the end is declared, later
  * calls repeat the answer and change nothing. Refusals 47, 1 and 2, in this order, change nothing and are not repeated.
+ * Nothing in a state tells its device: it goes on with the calls of the device that it was fed to first.
  * The state is the line that is begun (522 bytes), how many characters it has and its number (8 bytes each, low first), the stage (0
  * before the end record, 1 after it, 2 told), the refusal, its line (8 bytes), whether the work buffer is in use, whether the text was
  * good; only the calls read it. Its ranges: at most 522 characters, 523 standing for a longer line; lines from 1; a stage of 0, 1 or 2, and of 2 a refusal of 40

@@ -26,7 +26,8 @@ record OnStates (imageSize : ℕ) (state work image : List ℕ) (chunks : List (
   number-of : number ≡ numberOf told
   line-of : line ≡ lineOf told
 
-on-states : (imageSize : ℕ) {state work image imageAfter : List ℕ} {chunks : List (List ℕ)} {number line : ℕ} (session : Session) → Carries imageSize (stateOf state) work session → isState state ≡ true → FitsAll session chunks → length work ≡ workSize imageSize → length image ≡ imageSize → BytesRun imageSize state work image chunks number line imageAfter → OnStates imageSize state work image chunks number line imageAfter
+on-states : (imageSize : ℕ) {state work image imageAfter : List ℕ} {chunks : List (List ℕ)} {number line : ℕ} (session : Session) → Carries imageSize (stateOf state) work session → isState state ≡ true → FitsAll session chunks → length work ≡ workSize imageSize → length image ≡ imageSize
+    → BytesRun imageSize state work image chunks number line imageAfter → OnStates imageSize state work image chunks number line imageAfter
 on-states imageSize session c s f w i (ends e) =
     let x = e .ends w i s in
     record { told = x .answer .told; run = runs.ends (x .call); number-of = x .given .number-of; line-of = x .given .line-of }

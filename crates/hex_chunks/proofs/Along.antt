@@ -89,8 +89,12 @@ module _ (imageSize : ℕ) where
     -- a line that stops the reading does so whatever follows
     pub stops-LF : (after rest : List ℕ) (r : Stage) → Completes imageSize (withoutCR begun) n stage work after r → isStopped r ≡ true → Reached imageSize r after (afterLines imageSize (going []) 1 (completed [] ((text ++ (10 ∷ [])) ++ rest)))
     stops-LF after rest r c s =
-        let e : afterLines imageSize (going []) 1 (completed [] ((text ++ (10 ∷ [])) ++ rest)) ≡ afterLines imageSize (afterLine imageSize P n (withoutCR begun)) (1 + length (completed [] (text ++ (10 ∷ [])))) (completed (begunAfter [] (text ++ (10 ∷ []))) rest) = rw (completed-then [] (text ++ (10 ∷ [])) rest, lines-then imageSize (going []) 1 (completed [] (text ++ (10 ∷ []))) (completed (begunAfter [] (text ++ (10 ∷ []))) rest), after-LF) in
-        subst (Reached imageSize r after) (sym e) (stopped-on r after (afterLine imageSize P n (withoutCR begun)) s (c .reached P (a .reached)) (1 + length (completed [] (text ++ (10 ∷ [])))) (completed (begunAfter [] (text ++ (10 ∷ []))) rest))
+        let lined = text ++ (10 ∷ []) in
+        let others = completed (begunAfter [] lined) rest in
+        let p = afterLine imageSize P n (withoutCR begun) in
+        let m = 1 + length (completed [] lined) in
+        let e : afterLines imageSize (going []) 1 (completed [] (lined ++ rest)) ≡ afterLines imageSize p m others = rw (completed-then [] lined rest, lines-then imageSize (going []) 1 (completed [] lined) others, after-LF) in
+        subst (Reached imageSize r after) (sym e) (stopped-on r after p s (c .reached P (a .reached)) m others)
 
   -- places of a chunk: the part before the next LF, and the LF
   module _ (text chunk : List ℕ) (at lf : ℕ) (e : lf ≡ at + upTo (drop at chunk)) where

@@ -52,7 +52,8 @@ module _ (imageSize : ℕ) where
   )
   fits-one (told r) c cs h = (tt, tt)
 
-  run-from : {s : HexChunks} {work image imageAfter : List ℕ} {chunks : List (List ℕ)} {t : Told} (session : Session) → Carries imageSize s work session → FitsAll session chunks → length work ≡ workSize imageSize → length image ≡ imageSize → Run imageSize s work image chunks t imageAfter → Tells t (afterEnd imageSize (afterChunks imageSize session chunks)) × (imageAfter ≡ imageAtEnd imageSize (afterChunks imageSize session chunks) image)
+  run-from : {s : HexChunks} {work image imageAfter : List ℕ} {chunks : List (List ℕ)} {t : Told} (session : Session) → Carries imageSize s work session → FitsAll session chunks → length work ≡ workSize imageSize → length image ≡ imageSize
+      → Run imageSize s work image chunks t imageAfter → Tells t (afterEnd imageSize (afterChunks imageSize session chunks)) × (imageAfter ≡ imageAtEnd imageSize (afterChunks imageSize session chunks) image)
   run-from session c f w i (ends e) = (e .ends w i session c .tells, e .written w i session c)
   run-from {chunks = d ∷ ds} session c f w i (feeds e r) =
       let g = fits-one session d ds f in

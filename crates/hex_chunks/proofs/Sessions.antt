@@ -38,7 +38,8 @@ module _ (imageSize : ℕ) where
   ready s before after text r c = ready-by s before after text (s .begun) r c
 
   -- what a chunk leaves is carried, and told
-  chunked-by : (s : HexChunks) (work text : List ℕ) (p : Progress) (stage : Stage) → s .stage ≡ stage → Reached imageSize stage work p → (isStopped stage ≡ false → Along imageSize text (s .held) (s .count) (s .line) (s .stage) work) → s .begun ≡ true → s .over ≡ false → length text < 2 ^ 64 → s .count ≤ 523 → 1 ≤ s .line → ProgressIn p → Carries imageSize s work (byProgress text p) × Tells (toldOf (s .over) (s .stage)) (byProgress text p)
+  chunked-by : (s : HexChunks) (work text : List ℕ) (p : Progress) (stage : Stage) → s .stage ≡ stage → Reached imageSize stage work p → (isStopped stage ≡ false → Along imageSize text (s .held) (s .count) (s .line) (s .stage) work)
+      → s .begun ≡ true → s .over ≡ false → length text < 2 ^ 64 → s .count ≤ 523 → 1 ≤ s .line → ProgressIn p → Carries imageSize s work (byProgress text p) × Tells (toldOf (s .over) (s .stage)) (byProgress text p)
   chunked-by s work text p Going e r a b o l h k g = rw (r .is, b, o, e) ((l, refl, rw e at (a refl)), refl)
   chunked-by s work text p Ended e r a b o l h k g = rw (r .is, b, o, e) ((l, refl, rw e at (a refl)), refl)
   chunked-by s work text p (Stopped number line) e r a b o l h k g =

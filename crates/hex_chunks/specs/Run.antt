@@ -18,4 +18,6 @@ pub data Run (imageSize : ℕ) : HexChunks → List ℕ → List ℕ → List (L
 
 -- from a new state: the last answer is that of the whole text, and so is the image buffer
 abbrev pub RunAsWhole : Type 0
-RunAsWhole = (imageSize : ℕ) (s : HexChunks) (work image imageAfter : List ℕ) (chunks : List (List ℕ)) (t : Told) → Carries imageSize s work (fed []) → length work ≡ workSize imageSize → length image ≡ imageSize → length (joined chunks) < 2 ^ 64 → Run imageSize s work image chunks t imageAfter → Tells t (told (readOf imageSize (joined chunks))) × (imageAfter ≡ imageOfReading imageSize image (readOf imageSize (joined chunks)))
+RunAsWhole =
+    (imageSize : ℕ) (s : HexChunks) (work image imageAfter : List ℕ) (chunks : List (List ℕ)) (t : Told) → Carries imageSize s work (fed []) → length work ≡ workSize imageSize → length image ≡ imageSize
+    → length (joined chunks) < 2 ^ 64 → Run imageSize s work image chunks t imageAfter → Tells t (told (readOf imageSize (joined chunks))) × (imageAfter ≡ imageOfReading imageSize image (readOf imageSize (joined chunks)))

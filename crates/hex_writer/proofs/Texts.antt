@@ -52,7 +52,8 @@ record-length fields =
     omega (arith, length-append (hexBytes fields ++ hex 2 (chksum fields)) (10 ∷ []), length-append (hexBytes fields) (hex 2 (chksum fields)), hex-length fields, digits-length 16 2 (chksum fields))
 
 -- one record more is written
-pub records-on : {b m e : List ℕ} {r q : ℕ} (imageSize : ℕ) (image : List ℕ) (k : ℕ) → Writing b m 0 r (recordsFrom image k (recordsOf imageSize - k) ++ recordText endFields) (textOf imageSize image) → k < recordsOf imageSize → Wrote m e r q (recordText (dataFields (16 * k) (sixteenAt image k))) → Writing b e 0 q (recordsFrom image (k + 1) (recordsOf imageSize - (k + 1)) ++ recordText endFields) (textOf imageSize image)
+pub records-on : {b m e : List ℕ} {r q : ℕ} (imageSize : ℕ) (image : List ℕ) (k : ℕ) → Writing b m 0 r (recordsFrom image k (recordsOf imageSize - k) ++ recordText endFields) (textOf imageSize image)
+    → k < recordsOf imageSize → Wrote m e r q (recordText (dataFields (16 * k) (sixteenAt image k))) → Writing b e 0 q (recordsFrom image (k + 1) (recordsOf imageSize - (k + 1)) ++ recordText endFields) (textOf imageSize image)
 records-on {b} {m} {r = r} imageSize image k w h x =
     let n : recordsOf imageSize - k ≡ suc (recordsOf imageSize - suc k) = omega arith in
     let e : k + 1 ≡ suc k = omega arith in

@@ -42,7 +42,8 @@ finish-requires : tie.Need-finish-requires
 finish-requires c κs = search needs
 
 pack-requires : tie.Need-pack-requires
-pack-requires c κs = state-length (now (c .before .before .before .before .before .before .before .before .before .before .before .before .before .before .before .before .before .before .before .before .args .state)) (is-so (c .before .before .before .before .before .before .before .before .before .before .before .is-state .result) (c .before .before .before .before .before .before .before .before .before .before .before .is-state .ensures) (c .before .before .before .before .before .before .before .before .before .before .if2 .left))
+pack-requires c κs =
+    let is = is-so (c .before .before .before .before .before .before .before .before .before .before .before .is-state .result) (c .before .before .before .before .before .before .before .before .before .before .before .is-state .ensures) (c .before .before .before .before .before .before .before .before .before .before .if2 .left) in state-length (now (c .before .before .before .before .before .before .before .before .before .before .before .before .before .before .before .before .before .before .before .before .args .state)) is
 
 line-of-requires : tie.Need-line-of-requires
 line-of-requires c κs = search needs
@@ -62,8 +63,11 @@ same-length-8 c = search needs
 returns-3 : tie.Need-returns-3
 returns-3 c =
     let right = c .before .before .before .before .before .before .before .before .before .before .before .before .before .before .before .before .before .before .before .refusal-of .ensures .right (c .before .before .before .before .before .before .before .before .before .before .before .before .before .before .before .before .before .before .if1 .left) in
+    let a = c .before .before .before .before .before .before .before .before .before .before .before .before .before .before .before .before .before .before .before .before .before .before .before .before .before .args in
+    let is = is-so (c .before .before .before .before .before .before .before .before .before .before .before .before .before .before .before .before .is-state .result) (c .before .before .before .before .before .before .before .before .before .before .before .before .before .before .before .before .is-state .ensures) (c .before .before .before .before .before .before .before .before .before .before .before .before .before .before .before .if2 .left) in
     let call = rw (c .before .before .before .before .before .before .before .before .before .before .before .before .before .unpack .ensures) at (c .before .before .before .before .before .before .before .before .before .before .finish .ensures) in
-    end-so _ (now (c .before .before .before .before .before .before .before .before .before .before .before .before .before .before .before .before .before .before .before .before .before .before .before .before .before .args .state)) (now (c .before .before .before .before .before .before .before .before .before .before .before .before .before .before .before .before .before .before .before .before .before .before .before .before .before .args .work)) (now (c .before .before .before .before .before .before .before .before .before .before .before .before .before .before .before .before .before .before .before .before .before .before .before .before .before .args .image)) _ _ _ (c .before .before .before .before .before .before .before .before .before .before .finish .result) _ _ (right .0) (right .1) (is-so (c .before .before .before .before .before .before .before .before .before .before .before .before .before .before .before .before .is-state .result) (c .before .before .before .before .before .before .before .before .before .before .before .before .before .before .before .before .is-state .ensures) (c .before .before .before .before .before .before .before .before .before .before .before .before .before .before .before .if2 .left)) call (c .before .before .before .before .pack .ensures) (c .number-of .ensures) (c .before .line-of .ensures)
+    let packed = c .before .before .before .before .pack .ensures in
+    end-so _ (now (a .state)) (now (a .work)) (now (a .image)) _ _ _ (c .before .before .before .before .before .before .before .before .before .before .finish .result) _ _ (right .0) (right .1) is call packed (c .number-of .ensures) (c .before .line-of .ensures)
 
 pub end-sized-spec : {M : Type 1} → statement M
 end-sized-spec =

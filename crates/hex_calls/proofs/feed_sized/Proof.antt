@@ -36,7 +36,8 @@ feed-requires : tie.Need-feed-requires
 feed-requires c κs = search needs
 
 pack-requires : tie.Need-pack-requires
-pack-requires c κs = state-length (now (c .before .before .before .before .before .before .before .before .before .before .before .before .before .before .before .before .before .args .state)) (is-so (c .before .before .before .before .before .before .before .before .is-state .result) (c .before .before .before .before .before .before .before .before .is-state .ensures) (c .before .before .before .before .before .before .before .if2 .left))
+pack-requires c κs =
+    let is = is-so (c .before .before .before .before .before .before .before .before .is-state .result) (c .before .before .before .before .before .before .before .before .is-state .ensures) (c .before .before .before .before .before .before .before .if2 .left) in state-length (now (c .before .before .before .before .before .before .before .before .before .before .before .before .before .before .before .before .before .args .state)) is
 
 line-of-requires : tie.Need-line-of-requires
 line-of-requires c κs = search needs
@@ -53,8 +54,11 @@ same-length-5 c = search needs
 returns-3 : tie.Need-returns-3
 returns-3 c =
     let right = c .before .before .before .before .before .before .before .before .before .before .before .before .before .before .before .before .refusal-of .ensures .right (c .before .before .before .before .before .before .before .before .before .before .before .before .before .before .before .if1 .left) in
+    let a = c .before .before .before .before .before .before .before .before .before .before .before .before .before .before .before .before .before .before .before .before .before .before .args in
+    let is = is-so (c .before .before .before .before .before .before .before .before .before .before .before .before .before .is-state .result) (c .before .before .before .before .before .before .before .before .before .before .before .before .before .is-state .ensures) (c .before .before .before .before .before .before .before .before .before .before .before .before .if2 .left) in
     let call = rw (c .before .before .before .before .before .before .before .before .before .before .unpack .ensures) at (c .before .before .before .before .before .before .before .before .feed .ensures) in
-    feed-so _ (now (c .before .before .before .before .before .before .before .before .before .before .before .before .before .before .before .before .before .before .before .before .before .before .args .state)) (now (c .before .before .before .before .before .before .before .before .before .before .before .before .before .before .before .before .before .before .before .before .before .before .args .work)) (now (c .before .before .before .before .before .before .before .before .before .before .before .before .before .before .before .before .before .before .before .before .before .before .args .image)) (now (c .before .before .before .before .before .before .before .before .before .before .before .before .before .before .before .before .before .before .before .before .before .before .args .chunk)) _ _ (c .before .before .before .before .before .before .before .before .feed .result) _ _ (right .0) (right .1) (is-so (c .before .before .before .before .before .before .before .before .before .before .before .before .before .is-state .result) (c .before .before .before .before .before .before .before .before .before .before .before .before .before .is-state .ensures) (c .before .before .before .before .before .before .before .before .before .before .before .before .if2 .left)) call (c .before .before .before .before .pack .ensures) (c .number-of .ensures) (c .before .line-of .ensures)
+    let packed = c .before .before .before .before .pack .ensures in
+    feed-so _ (now (a .state)) (now (a .work)) (now (a .image)) (now (a .chunk)) _ _ (c .before .before .before .before .before .before .before .before .feed .result) _ _ (right .0) (right .1) is call packed (c .number-of .ensures) (c .before .line-of .ensures)
 
 pub feed-sized-spec : {M : Type 1} → statement M
 feed-sized-spec =

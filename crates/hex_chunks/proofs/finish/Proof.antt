@@ -54,7 +54,9 @@ enum-told : tie.Need-enum-told
 enum-told c = search needs
 
 copy-image-requires : tie.Need-copy-image-requires
-copy-image-requires c κs = let w = c .before .before .before .before .before .before .conclude-text .ensures .0 in let i = c .before .before .before .before .before .before .before .before .before .before .before .before .before .before .before .before .before .refusal-of .ensures .right (c .before .before .before .before .before .before .before .before .before .before .before .before .before .before .before .before .if1 .left) .1 in omega arith
+copy-image-requires c κs =
+    let w = c .before .before .before .before .before .before .conclude-text .ensures .0 in
+    let i = c .before .before .before .before .before .before .before .before .before .before .before .before .before .before .before .before .before .refusal-of .ensures .right (c .before .before .before .before .before .before .before .before .before .before .before .before .before .before .before .before .if1 .left) .1 in omega arith
 
 good-end-requires : tie.Need-good-end-requires
 good-end-requires c κs = search needs

@@ -36,13 +36,21 @@ same-length-2 : tie.Need-same-length-2
 same-length-2 c = search needs
 
 returns-2 : tie.Need-returns-2
-returns-2 c = let a = c .before .before .before .before .before .before .before .before .before .before .before .before .before .before .before .before .args in let g = rw (c .before .before .before .before .before .before .enum-told .given .1) at (c .before .before .before .before .before .before .before .before .before .before .read-lines .ensures .1) in rw (c .answer2 .ensures) (reads (a .size) (now (a .text)) (now (a .image)) _ _ (c .before .before .before .before .before .before .before .before .before .before .before .before .if1 .left) g (c .before .before .before .copy-image .ensures))
+returns-2 c =
+    let a = c .before .before .before .before .before .before .before .before .before .before .before .before .before .before .before .before .args in
+    let good = rw (c .before .before .before .before .before .before .enum-told .given .1) at (c .before .before .before .before .before .before .before .before .before .before .read-lines .ensures .1) in
+    let size = c .before .before .before .before .before .before .before .before .before .before .before .before .if1 .left in
+    let copied = c .before .before .before .copy-image .ensures in
+    rw (c .answer2 .ensures) (reads (a .size) (now (a .text)) (now (a .image)) _ _ size good copied)
 
 same-length-3 : tie.Need-same-length-3
 same-length-3 c = search needs
 
 returns-3 : tie.Need-returns-3
-returns-3 c = let a = c .before .before .before .before .before .before .before .before .before .before .before .before .args in let g = rw (c .before .before .number .given .1) at (c .before .before .before .before .before .before .read-lines .ensures .1) in rw (c .answer3 .ensures) (refuses (a .size) (now (a .text)) (now (a .image)) _ _ (c .before .before .before .before .before .before .before .before .if1 .left) g)
+returns-3 c =
+    let a = c .before .before .before .before .before .before .before .before .before .before .before .before .args in
+    let refused = rw (c .before .before .number .given .1) at (c .before .before .before .before .before .before .read-lines .ensures .1) in
+    rw (c .answer3 .ensures) (refuses (a .size) (now (a .text)) (now (a .image)) _ _ (c .before .before .before .before .before .before .before .before .if1 .left) refused)
 
 pub read-sized-spec : {M : Type 1} → statement M
 read-sized-spec =

@@ -56,7 +56,13 @@ loop-less : tie.Need-loop-less Inv-loop μ-loop
 loop-less c = omega arith
 
 loop-again : tie.Need-loop-again Inv-loop μ-loop
-loop-again c = let a = c .before .before .before .before .before .before .before .before .before .before .args in let l = c .before .before .before .before .before .before .before .loop in let w = c .before .before .put-record .ensures in let h : l .k < recordsOf (length (now (a .image))) = omega arith in (records-on _ _ _ (l .inv .0) h (rw (record-of (now (a .image)) (l .k) h) at (w .0)), omega (arith, w .1, part-length (now (a .image)) (l .k) h), omega arith, l .inv .3)
+loop-again c =
+    let image = now (c .before .before .before .before .before .before .before .before .before .before .args .image) in
+    let l = c .before .before .before .before .before .before .before .loop in
+    let w = c .before .before .put-record .ensures in
+    let h : l .k < recordsOf (length image) = omega arith in
+    let next = records-on _ _ _ (l .inv .0) h (rw (record-of image (l .k) h) at (w .0)) in
+    (next, omega (arith, w .1, part-length image (l .k) h), omega arith, l .inv .3)
 
 slice-aggregate-put-record : tie.Need-slice-aggregate-put-record Inv-loop μ-loop
 slice-aggregate-put-record c = omega arith

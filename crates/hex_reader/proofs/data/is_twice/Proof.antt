@@ -25,7 +25,10 @@ is-given-requires : tie.Need-is-given-requires Inv-loop μ-loop
 is-given-requires c κs = (c .before .before .before .pre .0, c .before .before .before .pre .1 (c .before .loop .i) (c .loop-test .taken))
 
 returns : tie.Need-returns Inv-loop μ-loop
-returns c = sym (some-true (λ k. bitOf (c .before .before .before .before .before .args .size) (now (c .before .before .before .before .before .args .work)) (c .before .before .before .before .before .args .address + k)) (c .before .before .before .before .before .args .count) (c .before .before .before .loop .i) (c .before .before .loop-test .taken) (sym (c .before .is-given .ensures) ∙ c .if1 .taken))
+returns c =
+    let a = c .before .before .before .before .before .args in
+    let given = sym (c .before .is-given .ensures) ∙ c .if1 .taken in
+    sym (some-true (λ k. bitOf (a .size) (now (a .work)) (a .address + k)) (a .count) (c .before .before .before .loop .i) (c .before .before .loop-test .taken) given)
 
 add-i : tie.Need-add-i Inv-loop μ-loop
 add-i c = omega arith
@@ -34,7 +37,11 @@ loop-less : tie.Need-loop-less Inv-loop μ-loop
 loop-less c = omega arith
 
 loop-again : tie.Need-loop-again Inv-loop μ-loop
-loop-again c = (clear-more (λ k. bitOf (c .before .before .before .before .before .args .size) (now (c .before .before .before .before .before .args .work)) (c .before .before .before .before .before .args .address + k)) (c .before .before .before .loop .i) (c .before .before .before .loop .inv .0) (sym (c .before .is-given .ensures) ∙ c .if1 .left), omega arith)
+loop-again c =
+    let a = c .before .before .before .before .before .args in
+    let l = c .before .before .before .loop in
+    let clear = sym (c .before .is-given .ensures) ∙ c .if1 .left in
+    (clear-more (λ k. bitOf (a .size) (now (a .work)) (a .address + k)) (l .i) (l .inv .0) clear, omega arith)
 
 returns-2 : tie.Need-returns-2 Inv-loop μ-loop
 returns-2 c = sym (some-false (λ k. bitOf (c .before .before .before .args .size) (now (c .before .before .before .args .work)) (c .before .before .before .args .address + k)) (c .before .before .before .args .count) (λ k h. c .before .loop .inv .0 k (omega arith)))

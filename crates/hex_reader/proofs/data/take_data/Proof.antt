@@ -14,7 +14,10 @@ is-past-requires : tie.Need-is-past-requires
 is-past-requires c κs = search needs
 
 returns : tie.Need-returns
-returns c = takes-past _ _ _ (c .before .before .before .before .args .count) (bytes-at-length (now (c .before .before .before .before .args .text)) (c .before .before .before .before .args .first) (c .before .before .before .before .args .count) (c .before .before .before .before .pre .0 .within)) (sym (c .before .is-past .ensures) ∙ c .if1 .taken)
+returns c =
+    let a = c .before .before .before .before .args in
+    let n = bytes-at-length (now (a .text)) (a .first) (a .count) (c .before .before .before .before .pre .0 .within) in
+    takes-past _ _ _ (a .count) n (sym (c .before .is-past .ensures) ∙ c .if1 .taken)
 
 is-twice-requires : tie.Need-is-twice-requires
 is-twice-requires c κs = (c .before .before .before .before .before .pre .1, none-past _ (c .before .before .before .before .before .args .address) (c .before .before .before .before .before .args .count) (sym (c .before .before .is-past .ensures) ∙ c .before .if1 .left))
@@ -23,16 +26,30 @@ same-length : tie.Need-same-length
 same-length c = search needs
 
 returns-2 : tie.Need-returns-2
-returns-2 c = takes-twice _ _ _ (c .before .before .before .before .before .before .before .args .count) (bytes-at-length (now (c .before .before .before .before .before .before .before .args .text)) (c .before .before .before .before .before .before .before .args .first) (c .before .before .before .before .before .before .before .args .count) (c .before .before .before .before .before .before .before .pre .0 .within)) (sym (c .before .before .before .before .is-past .ensures) ∙ c .before .before .before .if1 .left) (sym (c .before .is-twice .ensures) ∙ c .if2 .taken)
+returns-2 c =
+    let a = c .before .before .before .before .before .before .before .args in
+    let n = bytes-at-length (now (a .text)) (a .first) (a .count) (c .before .before .before .before .before .before .before .pre .0 .within) in
+    let within = sym (c .before .before .before .before .is-past .ensures) ∙ c .before .before .before .if1 .left in
+    takes-twice _ _ _ (a .count) n within (sym (c .before .is-twice .ensures) ∙ c .if2 .taken)
 
 store-requires : tie.Need-store-requires
-store-requires c κs = (c .before .before .before .before .before .before .before .before .pre .0, (c .before .before .before .before .before .before .before .before .pre .1, none-past _ (c .before .before .before .before .before .before .before .before .args .address) (c .before .before .before .before .before .before .before .before .args .count) (sym (c .before .before .before .before .before .is-past .ensures) ∙ c .before .before .before .before .if1 .left), none-true (λ k. bitOf (c .before .before .before .before .before .before .before .before .args .size) (now (c .before .before .before .before .before .before .before .before .args .work)) (c .before .before .before .before .before .before .before .before .args .address + k)) (c .before .before .before .before .before .before .before .before .args .count) (sym (c .before .before .is-twice .ensures) ∙ c .before .if2 .left)))
+store-requires c κs =
+    let a = c .before .before .before .before .before .before .before .before .args in
+    let p = c .before .before .before .before .before .before .before .before .pre in
+    let within = none-past _ (a .address) (a .count) (sym (c .before .before .before .before .before .is-past .ensures) ∙ c .before .before .before .before .if1 .left) in
+    let clear = sym (c .before .before .is-twice .ensures) ∙ c .before .if2 .left in
+    (p .0, (p .1, within, none-true (λ k. bitOf (a .size) (now (a .work)) (a .address + k)) (a .count) clear))
 
 same-length-2 : tie.Need-same-length-2
 same-length-2 c = search needs
 
 returns-3 : tie.Need-returns-3
-returns-3 c = takes-it _ _ _ (c .before .before .before .before .before .before .before .before .before .before .before .args .count) (bytes-at-length (now (c .before .before .before .before .before .before .before .before .before .before .before .args .text)) (c .before .before .before .before .before .before .before .before .before .before .before .args .first) (c .before .before .before .before .before .before .before .before .before .before .before .args .count) (c .before .before .before .before .before .before .before .before .before .before .before .pre .0 .within)) _ (sym (c .before .before .before .before .before .before .before .before .is-past .ensures) ∙ c .before .before .before .before .before .before .before .if1 .left) (sym (c .before .before .before .before .before .is-twice .ensures) ∙ c .before .before .before .before .if2 .left) (c .before .before .store .ensures .0) (c .before .before .store .ensures .1)
+returns-3 c =
+    let a = c .before .before .before .before .before .before .before .before .before .before .before .args in
+    let n = bytes-at-length (now (a .text)) (a .first) (a .count) (c .before .before .before .before .before .before .before .before .before .before .before .pre .0 .within) in
+    let within = sym (c .before .before .before .before .before .before .before .before .is-past .ensures) ∙ c .before .before .before .before .before .before .before .if1 .left in
+    let once = sym (c .before .before .before .before .before .is-twice .ensures) ∙ c .before .before .before .before .if2 .left in
+    let held = c .before .before .store .ensures in takes-it _ _ _ (a .count) n _ within once (held .0) (held .1)
 
 pub take-data-spec : {M : Type 1} → statement M
 take-data-spec =

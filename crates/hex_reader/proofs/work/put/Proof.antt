@@ -21,7 +21,11 @@ weight-requires : tie.Need-weight-requires
 weight-requires c κs = search needs
 
 add-bits : tie.Need-add-bits
-add-bits c = record { fits = rw (c .weight .ensures) (sum-fits (getD (now (c .before .before .before .args .work)) (c .before .before .before .args .size + c .before .before .before .args .address / 8) 0) (c .before .before .before .args .address % 8) 0 (c .before .slice-known2 .given (c .before .before .before .args .size + c .before .before .before .args .address / 8) .fits) (omega arith) (omega arith) (c .before .before .before .pre .2)) }
+add-bits c =
+    let a = c .before .before .before .args in
+    let at = a .size + a .address / 8 in
+    let fits = sum-fits (getD (now (a .work)) at 0) (a .address % 8) 0 (c .before .slice-known2 .given at .fits) (omega arith) (omega arith) (c .before .before .before .pre .2) in
+    record { fits = rw (c .weight .ensures) fits }
 
 slice-write-work : tie.Need-slice-write-work
 slice-write-work c = search needs
@@ -34,7 +38,11 @@ same-length c = search needs
 
 returns : tie.Need-returns
 unfolding stored
-returns c = rw (c .weight .ensures) (puts (c .before .before .before .args .size) (now (c .before .before .before .args .work)) (c .before .before .before .args .address) (c .before .before .before .args .byte) (c .before .before .before .pre .0) (c .before .before .before .pre .1) (c .before .before .before .pre .2) (c .before .slice-known2 .given (c .before .before .before .args .size + c .before .before .before .args .address / 8) .fits))
+returns c =
+    let a = c .before .before .before .args in
+    let p = c .before .before .before .pre in
+    let small = c .before .slice-known2 .given (a .size + a .address / 8) .fits in
+    rw (c .weight .ensures) (puts (a .size) (now (a .work)) (a .address) (a .byte) (p .0) (p .1) (p .2) small)
 
 pub put-spec : {M : Type 1} → statement M
 put-spec =
