@@ -199,8 +199,8 @@ time, included, up to the SP at the entry, not included. The two cycles of the
 acceptance come before N. The depth says how many levels of the stack the handler
 needs beside the one that its acceptance took. On the EM73P982 N is of records
 whose P3 is the one above.
-Statement: Demand3OfAnswers and Demand3OfCalls, proved; docs/AUDIT.md of the
-checker says where they stand and what they rest on.
+Statements: Demand3OfCalls and Demand3OfAnswersAtDepth0, proved; docs/AUDIT.md
+of the checker says where they stand and what they rest on.
 
 What a refusal means
 21 an excluded instruction can be reached; its lowest address

@@ -10,15 +10,17 @@ use hex_writer::write_hex;
 use hex_writer::write_p982_hex;
 use libc::STDERR_FILENO;
 use program::image::chosen_device;
-use program::image::read_image;
+use program::image::open_image;
 use program::streams::ending_of;
 use program::streams::say;
 use program::streams::show;
 use program::words::Choice;
 use program::words::Chosen;
 
+const USAGE: [u8; 35] = *b"usage: tohex [--device NAME] IMAGE\n";
+
 fn usage() {
-    io::write_all(STDERR_FILENO, b"usage: tohex [--device NAME] IMAGE\n");
+    io::write_all(STDERR_FILENO, &USAGE);
 }
 
 fn refuse() -> bool {
@@ -51,17 +53,14 @@ fn show_text(d: Device, image: &[u8]) -> bool {
 // Whether all that it has to say was written. The buffer has a byte more than an image, so that a file that is too long shows.
 fn run(c: Chosen) -> bool {
     let d = c.device;
+    let word = c.before as usize + 1;
     let mut image = [0u8; 16385];
-    let file = read_image(c.before as usize + 1, &mut image);
-    if !file.readable {
-        usage();
-        return refuse();
-    }
+    let file = open_image(d, word, &mut image, &USAGE);
     let size = file.size;
     if size != image_size(d) {
-        return refuse();
+        return file.written;
     }
-    if c.before as usize + 2 < os::arg_count() {
+    if word + 1 < os::arg_count() {
         usage();
         return true;
     }

@@ -52,8 +52,7 @@ add-certify-word c = search needs
 certify-word-requires : tie.Need-certify-word-requires
 certify-word-requires c κs =
     let chosen = c .before .before .before .before .before .before .before .before .before .before .before .args .c in
-    let file = c .before .before .before .before .before .before .before .open-image in
-    (
+    let file = c .before .before .before .before .before .before .before .open-image in (
       window-shown (chosen .device) (chosen .p3) (file .last .1 .1 .0) (c .before .before .before .is-banked .ensures) (c .before .before .if2 .left) (file .ensures .0) (c .before .before .before .before .if1 .left) (c .before .before .before .before .before .image-size .ensures),
       omega (arith, file .ensures .0, file .ensures .1),
     )
