@@ -156,11 +156,20 @@ mod linked {
 
     fn bounds() {
         bound("em73862_bound, a handler of 20 rows, its path given", &short_handler(), 0x100, 2_000);
+        for name in ["kitchen-timer", "calling-handler"] {
+            bound(&format!("em73862_bound, examples/{name}.bin from 0006"), &example(name), 6, 1_000);
+        }
         for kind in WORST {
             let worst = plain::worst_of(kind).expect("each of the worst has an image");
             let what = format!("em73862_bound, {kind} of plain-worst from {:04X} ({})", worst.start, worst.answer);
             bound(&what, &worst.image, worst.start as u32, 40);
         }
+    }
+
+    fn example(name: &str) -> [u8; IMAGE_SIZE] {
+        let path = format!("{}/../../examples/{name}.bin", env!("CARGO_MANIFEST_DIR"));
+        let bytes = std::fs::read(path).expect("the example is there");
+        bytes.try_into().expect("the example has an image's size")
     }
 
     /// At 0100h: a test, a branch over a load, and two rows more, by turns; 20 rows with the RTI.
