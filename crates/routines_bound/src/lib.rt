@@ -1,5 +1,5 @@
 // The bound of a handler whose routines are words by number: 24, 21, 22, 25, 23, or N and the depth with a path for each.
-// The arrays of each part are gone before the next begins, so that no more than 512 KiB are in use with the words and the map.
+// The arrays of each part are gone before the next begins, so that the parts share the stack's room; docs/PERFORMANCE.md has how much it is.
 use graph::PLACES;
 use routines_joined::ENTRIES;
 use routines_joined::Judgement;
