@@ -1,4 +1,6 @@
 // The sums, differences, logic and rotations of nibbles that rows make, each with its carry.
+#![tactic(auto)]
+
 ghost use Rattle.std.specs.Prelude.{◌≡◌, ◌<◌};
 ghost use Rattle.sheet.specs.Operation.Op.{Plus, PlusCF, Minus, MinusCF', And, Or, Xor, RotateLeft, RotateRight};
 ghost use Rattle.alu.specs.Making.{made, nibble_of};
@@ -6,7 +8,7 @@ ghost use Rattle.alu.specs.Making.{made, nibble_of};
 use bits::bit_of;
 
 // A nibble, and the carry of the operation that made it.
-#[derive(Drop)]
+#[derive(Clone, Copy)]
 pub struct Made {
     pub value: u8,
     pub carry: bool,

@@ -1,4 +1,6 @@
 // Bits of small numbers, each named by its weight, the highest of six by leading zeros, and shifts and masks that take bits out.
+#![tactic(auto)]
+
 ghost use Rattle.std.specs.Prelude.{◌≡◌, ◌+◌, ◌/◌, ◌%◌, ◌^◌, ◌<◌};
 ghost use Rattle.bits.specs.Bits.{has_bit, with_bit, without_bit, highest_bit, bit_of};
 

@@ -1,4 +1,6 @@
 // The handler bound: the most cycles that any path of the flow rules takes from an address to RTI, the greatest depth of its calls, and a path for each.
+#![tactic(auto)]
+
 ghost use Rattle.std.specs.Prelude.{◌≡◌, ◌+◌, ◌*◌, ◌%◌, ◌<◌, ◌≤◌, length};
 ghost use Rattle.device.specs.Device.{rom_of, window_end};
 ghost use Rattle.graph_search.specs.Marks.{Blank};
@@ -23,7 +25,7 @@ use reader::p3_given;
 use routines_bound::{Found, Greatest, bound_words};
 
 // What the call answers; specs/Answer.antt gives the paper's number and values for each.
-#[derive(Drop)]
+#[derive(Clone, Copy)]
 pub enum Bounded {
     ImageSize,
     P3Range,
@@ -118,7 +120,7 @@ pub fn bound(
 }
 
 // The paper's number of an answer, and the values that come with it: N and the depth, or what comes with a refusal.
-#[derive(Drop)]
+#[derive(Clone, Copy)]
 pub struct BoundNumbers {
     pub number: u8,
     pub value: usize,

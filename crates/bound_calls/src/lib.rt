@@ -1,4 +1,6 @@
 // The places of an image as a flow with calls: document 01, "The handler bound", and request Q-9.
+#![tactic(auto)]
+
 ghost use Rattle.std.specs.Prelude.{◌≡◌, ◌+◌, ◌*◌, ◌%◌, ◌<◌, ◌≤◌, length};
 ghost use Rattle.numbers.specs.Sizes.{addresses};
 ghost use Rattle.device.specs.Device.{rom_of, window_end};
@@ -15,7 +17,7 @@ use reader::read_at;
 use sheet::{Cost, Insn, Read};
 
 // A place's kind in the flow, the places that follow it, the entry of the routine that it calls, and its cycles.
-#[derive(Drop)]
+#[derive(Clone, Copy)]
 pub struct CallNode {
     pub kind: u8,
     pub next: u16,

@@ -1,4 +1,6 @@
 // The places of an image that a handler's routines may reach, calls and both places after them included, numbered as they are found and laid as words by number.
+#![tactic(auto)]
+
 ghost use Rattle.std.specs.Prelude.{◌≡◌, ℕ, ◌+◌, ◌*◌, ◌%◌, ◌<◌, ◌≤◌, length, get_or};
 ghost use Rattle.device.specs.Device.{rom_of, window_end};
 ghost use Rattle.graph_search.specs.Marks.{Blank};

@@ -1,5 +1,7 @@
 // bounder [--device NAME [--p3 N]] IMAGE [ADDRESS]: the most cycles from an address to RTI and the path that takes them, then the greatest depth of calls and the path that comes to it, or why there is no such bound. Without an address: the five interrupt entries, a line each. The image is seen through the window of P3.
 // The words are judged from the left: the device and P3, the image, whether P3 may stand, the address, and that there are no more.
+#![tactic(auto)]
+
 mod help;
 
 ghost use Rattle.std.specs.Prelude.{◌≡◌, ◌+◌, ◌*◌, ◌%◌, ◌<◌, ◌≤◌, length};
@@ -38,7 +40,7 @@ fn refuse_address() -> bool {
 }
 
 // What came of an output: whether all of it was written so far, as each function here answers, and how many bytes of the buffer wait to be.
-#[derive(Drop)]
+#[derive(Clone, Copy)]
 struct Output {
     written: bool,
     end: usize,

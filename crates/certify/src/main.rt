@@ -1,5 +1,7 @@
 // certify [--device NAME [--p3 N]] IMAGE: a page of plain text about the interrupt handlers of an image, for an inspector to sign.
 // It says what it is about (the image's SHA-256, its size, the device and P3), the bound of each entry with the rows of N's path and the sheet's line by which each was read, what N promises, and which lines of the sheet were used.
+#![tactic(auto)]
+
 mod help;
 
 ghost use Rattle.std.specs.Prelude.{◌≡◌, ◌+◌, ◌*◌, ◌%◌, ◌<◌, ◌≤◌, length};
@@ -216,7 +218,7 @@ fn show_heading(section: u8) -> bool
 }
 
 // What came of listing rows: whether all of it was written, and the section whose heading was written last.
-#[derive(Drop)]
+#[derive(Clone, Copy)]
 struct Listed {
     written: bool,
     section: u8,

@@ -1,11 +1,13 @@
 // The time base, the timers TA and TB and the latches that they set: one cycle, some cycles, event counts.
+#![tactic(auto)]
+
 ghost use Rattle.std.specs.Prelude.{◌≡◌, ◌+◌, ◌<◌};
 ghost use Rattle.clock.specs.Clock.{is_multiple, runs, counts, tbi_sets, latched, counted, count, met, tick, passed, event_count, InRange};
 
 use laws::both;
 
 // Time base, timers, and the latches IL5 to IL0 as bits 5 to 0.
-#[derive(Drop)]
+#[derive(Clone, Copy)]
 pub struct Time {
     pub base: u32,
     pub ta: u16,
@@ -14,7 +16,7 @@ pub struct Time {
 }
 
 // The settings, and the pins P8.3 and P8.1, of TA and TB, in this step's frame.
-#[derive(Drop)]
+#[derive(Clone, Copy)]
 pub struct Rates {
     pub p25: u8,
     pub p28: u8,

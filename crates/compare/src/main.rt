@@ -1,5 +1,7 @@
 // compare [--device NAME] IMAGE SCRIPT LISTING: whether a listing is what the runner prints for an image and a script, or where it differs first.
 // Both texts are read in parts, and neither is held: of the script at most as many characters are kept as a frame has, of the listing none.
+#![tactic(auto)]
+
 mod help;
 
 ghost use Rattle.std.specs.Prelude.{◌≡◌, true, ◌+◌, ◌<◌, ◌≤◌, length, take};
@@ -25,7 +27,7 @@ use record::start::fresh;
 const MOST_LINES: u64 = 18446744073709000000;
 
 // Which part of either buffer is still to be compared, whether that of the listing is its last, and that of the script, and whether the last read failed.
-#[derive(Drop)]
+#[derive(Clone, Copy)]
 struct Parts {
     from: usize,
     to: usize,
@@ -36,21 +38,21 @@ struct Parts {
     failed: bool,
 }
 
-#[derive(Drop)]
+#[derive(Clone, Copy)]
 struct After {
     progress: Progress,
     parts: Parts,
 }
 
 // What the comparison came to, or that the listing cannot be read.
-#[derive(Drop)]
+#[derive(Clone, Copy)]
 enum Found {
     Told(Compared),
     NoListing,
 }
 
 // The files that the words name; one that cannot be opened is negative.
-#[derive(Drop)]
+#[derive(Clone, Copy)]
 struct Files {
     script: i32,
     listing: i32,

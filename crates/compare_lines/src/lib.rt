@@ -1,9 +1,11 @@
 // Document 02, Q-13: a line of ours against a part of their listing, which is not held: where in our line theirs has come to, or which field differs and how the line is spaced so far.
+#![tactic(auto)]
+
 ghost use Rattle.std.specs.Prelude.{◌≡◌, true, false, List, [], ◌∷◌, ◌++◌, ℕ, suc, ◌+◌, ◌<◌, ◌≤◌, length, get_or};
 ghost use Rattle.laws.specs.Choice.{pick};
 ghost use Rattle.compare_lines.specs.Left.{spaced_from, spaced_of, left_of, OneLine, blanks_in, clash, settled, Placed, Runs, Hears, Heeds, CutShort, Onward};
 
-#[derive(Drop)]
+#[derive(Clone, Copy)]
 pub enum Compared {
     ImageOfAnotherSize,
     NotAFrame,
@@ -12,7 +14,7 @@ pub enum Compared {
 }
 
 // How a line is spaced: not known yet, so many blanks being left and the present field being empty or not; right; or wrong.
-#[derive(Drop)]
+#[derive(Clone, Copy)]
 pub enum Form {
     Open { left: u8, empty: bool },
     Spaced,
@@ -20,21 +22,21 @@ pub enum Form {
 }
 
 // How far our present line is compared: theirs is ours up to a place; a field differs, and their spacing is judged; or all is known.
-#[derive(Drop)]
+#[derive(Clone, Copy)]
 pub enum Phase {
     Matching { at: usize },
     Judging { field: u8, left: u8, empty: bool },
     Found { field: u8 },
 }
 
-#[derive(Drop)]
+#[derive(Clone, Copy)]
 pub struct Heard {
     pub phase: Phase,
     pub used: usize,
 }
 
 // How our next line is compared, and its number.
-#[derive(Drop)]
+#[derive(Clone, Copy)]
 pub struct Turned {
     pub phase: Phase,
     pub line: u64,

@@ -1,4 +1,6 @@
 // Document 02, Q-13: a script and their listing, both in parts, against what the runner prints. Our listing is made a line at a time, and neither text is held.
+#![tactic(auto)]
+
 ghost use Rattle.std.specs.Prelude.{◌≡◌, true, false, List, [], ℕ, ◌+◌, ◌<◌, ◌≤◌, length, take};
 ghost use Rattle.device.specs.Device.{image_size, rom_of};
 ghost use Rattle.frame.specs.Frame.{frame_of};
@@ -18,7 +20,7 @@ use record::{Core, Ram};
 use text::script::line_end;
 
 // The record but for RAM; whether ours has ended, and with a line of the script that is no frame; our present line's number, its size, and how far it is compared.
-#[derive(Drop)]
+#[derive(Clone, Copy)]
 pub struct Progress {
     pub core: Core,
     pub ended: bool,
@@ -29,7 +31,7 @@ pub struct Progress {
 }
 
 // How many characters of the parts are used.
-#[derive(Drop)]
+#[derive(Clone, Copy)]
 pub struct Gone {
     pub progress: Progress,
     pub script: usize,

@@ -1,4 +1,6 @@
 // What differs between the devices, as code: each function gives what the page specs/Device.antt says.
+#![tactic(auto)]
+
 ghost use Rattle.std.specs.Prelude.{◌≡◌, ◌<◌, get_or};
 ghost use Rattle.laws.specs.Among.{among};
 ghost use Rattle.device.specs.Device.{image_size, frame_size, limit_of, fresh_frame, also_writable, also_below, reset_of, reserved, p4_pins, ends_speech, guarded, in_image, is_banked};
@@ -6,14 +8,14 @@ ghost use Rattle.device.specs.Device.{image_size, frame_size, limit_of, fresh_fr
 use bits::with_bit;
 use laws::{both, either};
 
-#[derive(Drop)]
+#[derive(Clone, Copy)]
 pub enum Device {
     Em73862,
     Em73P982,
 }
 
 // wake has the enable bits of P0.0 to P0.3 and P8.0 to P8.3, from bit 0 up; sound is SOUND enabled at P4.0.
-#[derive(Drop)]
+#[derive(Clone, Copy)]
 pub struct Options {
     pub device: Device,
     pub wake: u8,

@@ -1,4 +1,6 @@
 // Document 01, "Display": the forty bytes that say which dots are on.
+#![tactic(auto)]
+
 ghost use Rattle.std.specs.Prelude.{◌≡◌, ◌<◌, ◌≤◌, length};
 ghost use Rattle.record.specs.Valid.{Nibbles};
 ghost use Rattle.display.specs.Bytes.{pair_at, byte_in};

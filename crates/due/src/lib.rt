@@ -1,4 +1,6 @@
 // The source that is due, by its latch and by the number that the record keeps.
+#![tactic(auto)]
+
 ghost use Rattle.std.specs.Prelude.{◌≡◌, ◌<◌};
 ghost use Rattle.due.specs.Due.{due_source, due_number, number_of, latch_of_source};
 

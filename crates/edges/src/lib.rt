@@ -1,4 +1,6 @@
 // The edges between the last frame and this one, and the pins that wake.
+#![tactic(auto)]
+
 ghost use Rattle.std.specs.Prelude.{◌≡◌, ◌<◌};
 ghost use Rattle.edges.specs.Edges.{fell, rose, pin_wakes, port_wakes, wakes};
 

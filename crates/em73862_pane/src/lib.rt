@@ -1,6 +1,8 @@
 // The calls of the EM73862 for C on an image and an address, without a record, and the writing of an instruction, which is the same of both devices: include/em73862_pane.h and include/em73862.h declare them.
 // Each names the device and hands on to image_calls. They are an object of their own, so that a read knows that this device has one window.
 // Two answers of a call to the same inputs are equal: proofs/ of image_calls.
+#![tactic(auto)]
+
 ghost use Rattle.device.specs.declared.Device.TheVariants.{Em73862};
 ghost use Rattle.image_calls.specs.Pane.{ReadCall, LengthCall, RowCall, NotationCall, BoundCall};
 ghost use Rattle.image_calls.specs.Write.{WriteCall};

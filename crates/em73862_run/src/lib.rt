@@ -1,4 +1,6 @@
 // em73862_run in an archive of its own, where nothing else makes steps: what one step is then stands within the loop.
+#![tactic(auto)]
+
 ghost use Rattle.device.specs.declared.Device.TheVariants.{Em73862};
 ghost use Rattle.record_calls.specs.Calls.{options_of, RunCall};
 

@@ -1,5 +1,7 @@
 // The calls of the EM73P982 for C on an image, a P3 and an address, without a record: include/em73p982.h declares them. Each names the device and hands on to image_calls.
 // Two answers of a call to the same inputs are equal: proofs/ of image_calls.
+#![tactic(auto)]
+
 ghost use Rattle.device.specs.declared.Device.TheVariants.{Em73P982};
 ghost use Rattle.image_calls.specs.Pane.{ReadCall, LengthCall, RowCall, NotationCall, BoundCall};
 

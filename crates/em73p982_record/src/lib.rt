@@ -1,5 +1,7 @@
 // The calls of the EM73P982 for C on a record, but for the run: include/em73p982.h declares them. Each names the device and hands on to record_calls.
 // Two answers of a call to the same inputs are equal: proofs/ of record_calls.
+#![tactic(auto)]
+
 ghost use Rattle.device.specs.declared.Device.TheVariants.{Em73P982};
 ghost use Rattle.record_calls.specs.Calls.{options_of, FreshCall, ResetCall, ValidCall, StepCall, LookCall, ActCall, DisplayCall};
 ghost use Rattle.record_calls.specs.Compare.{CompareCall};

@@ -1,5 +1,7 @@
 // flow [--device NAME [--p3 N]] IMAGE ADDRESS: the flow of the handler at an address in Graphviz's DOT. The image is seen through the window of P3.
 // The words are judged from the left: the device and P3, the image, whether P3 may stand, the address, and that there are no more.
+#![tactic(auto)]
+
 mod help;
 
 ghost use Rattle.std.specs.Prelude.{◌≡◌, ◌+◌, ◌*◌, ◌%◌, ◌<◌, ◌≤◌, length};

@@ -1,4 +1,6 @@
 // Frames: three or four characters as pins, and sequences of them. Characters are judged and read without a branch on what they are, and frames that are as those before 24 characters at a time.
+#![tactic(auto)]
+
 ghost use Rattle.std.specs.Prelude.{◌≡◌, true, [], ◌∷◌, ◌+◌, ◌-◌, ◌%◌, ◌<◌, ◌≤◌, ltb, length};
 ghost use Rattle.text.specs.Hexadecimal.{digit_of};
 ghost use Rattle.device.specs.Device.{frame_size};
@@ -9,7 +11,7 @@ use device::{Device, frame_size};
 use laws::{both, either};
 
 // What a frame says of the pins: P0, P8, P4, and 1 where speech ends. A digit that the device's frames do not have is 0.
-#[derive(Drop)]
+#[derive(Clone, Copy)]
 pub struct Pins {
     pub p0: u8,
     pub p8: u8,
@@ -17,7 +19,7 @@ pub struct Pins {
     pub speech: u8,
 }
 
-#[derive(Drop)]
+#[derive(Clone, Copy)]
 pub enum Frame {
     Seen(Pins),
     NoFrame,

@@ -1,4 +1,6 @@
 // fromhex [--device NAME]: the image of the Intel HEX on standard input, which is read in parts; of the text one line is held.
+#![tactic(auto)]
+
 mod help;
 
 ghost use Rattle.std.specs.Prelude.{◌<◌, ◌≤◌, length};

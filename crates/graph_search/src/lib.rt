@@ -1,4 +1,6 @@
 // The places that are reached from a place, and the lowest of them that is excluded.
+#![tactic(auto)]
+
 ghost use Rattle.std.specs.Prelude.{◌≡◌, ◌⊎◌, ◌<◌, ◌≤◌, length, get_or};
 ghost use Rattle.graph.specs.Laid.{most_nodes};
 ghost use Rattle.graph.specs.Graph.{Edge};

@@ -1,5 +1,7 @@
 // Intel HEX on numbers and byte buffers, for C and for whatever calls C: include/em73862_hex.h and include/em73p982_hex.h declare the calls.
 // Two answers of a call to the same inputs are equal: proofs/OneAnswer.antt.
+#![tactic(auto)]
+
 pub mod state;
 
 ghost use Rattle.std.specs.Prelude.{◌≡◌, ◌≤◌};

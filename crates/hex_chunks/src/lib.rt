@@ -1,4 +1,6 @@
 // Document 02, Q-10: Intel HEX that comes in chunks. A state by value and a lent work buffer carry what was fed; the image is written at the end, where the whole text is good.
+#![tactic(auto)]
+
 pub mod held;
 
 ghost use Rattle.std.specs.Prelude.{◌≡◌, true, false, List, [], ◌++◌, ℕ, ◌+◌, ◌-◌, ◌^◌, ◌<◌, ◌≤◌, length};
@@ -16,7 +18,7 @@ use numbers::{IMAGE_OF_ANOTHER_SIZE, WORK_BUFFER_IS_NOT_9216_BYTES};
 use text::script::line_end;
 
 // The line that is begun and how many characters it has, its number, what the lines before it came to, whether the work buffer is in use, and whether the end was declared of a good text.
-#[derive(Drop)]
+#[derive(Clone, Copy)]
 pub struct HexChunks {
     pub held: [u8; 522],
     pub count: usize,
@@ -26,14 +28,14 @@ pub struct HexChunks {
     pub over: bool,
 }
 
-#[derive(Drop)]
+#[derive(Clone, Copy)]
 pub enum Told {
     More,
     Good,
     Refused { number: u8, line: usize },
 }
 
-#[derive(Drop)]
+#[derive(Clone, Copy)]
 pub struct Fed {
     pub state: HexChunks,
     pub told: Told,

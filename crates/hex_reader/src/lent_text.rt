@@ -7,14 +7,14 @@ use crate::line::{Line, judge};
 use crate::lines::line_at;
 
 // What stands at a place of a text: a line, judged, and the place after it; or nothing.
-#[derive(Drop)]
+#[derive(Clone, Copy)]
 pub enum Found {
     Record { line: Line, next: usize },
     Over,
 }
 
 // A text that is lent, and the place where the next record begins.
-#[derive(Drop)]
+#[derive(Clone, Copy)]
 pub struct HexText<'a> {
     pub text: &'a [u8],
     pub at: usize,

@@ -1,4 +1,6 @@
 // Intel HEX read into an image, a whole text at once.
+#![tactic(auto)]
+
 pub mod data;
 pub mod lent_text;
 pub mod line;
@@ -18,7 +20,7 @@ use crate::work::{IMAGE_SIZE, P982_IMAGE_SIZE, P982_WORK_SIZE, WORK_SIZE, clear,
 use numbers::IMAGE_OF_ANOTHER_SIZE;
 
 // 0, or a refusal with the line of the first fault; a refusal of a buffer has line 0.
-#[derive(Drop)]
+#[derive(Clone, Copy)]
 pub struct HexRead {
     pub number: u8,
     pub line: usize,

@@ -25,7 +25,7 @@ const DATA_RECORD: usize = 0;
 const END_RECORD: usize = 1;
 
 // A line judged: a data record by its address, the number of its bytes and the place of their first digit; or the end record; or the first fault's number.
-#[derive(Drop)]
+#[derive(Clone, Copy)]
 pub enum Line {
     Data {
         address: usize,

@@ -5,7 +5,7 @@ ghost use Rattle.hex_reader.specs.Lines.{without_cr, LineAt};
 use text::script::line_end;
 
 // The place after a line's last character, and the place after its ending.
-#[derive(Drop)]
+#[derive(Clone, Copy)]
 pub struct Ends {
     pub to: usize,
     pub next: usize,

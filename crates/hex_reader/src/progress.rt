@@ -10,14 +10,14 @@ use crate::line::Line;
 use numbers::END_MISSING_OR_TEXT_AFTER;
 
 // Before the end record, after it, or stopped by the first fault.
-#[derive(Drop)]
+#[derive(Clone, Copy)]
 pub enum Stage {
     Going,
     Ended,
     Stopped { number: u8, line: usize },
 }
 
-#[derive(Drop)]
+#[derive(Clone, Copy)]
 pub enum Outcome {
     Good,
     Refused { number: u8, line: usize },

@@ -1,4 +1,6 @@
 // An image written as Intel HEX.
+#![tactic(auto)]
+
 pub mod round_trip;
 
 ghost use Rattle.std.specs.Prelude.{◌≡◌, ◌∷◌, ◌++◌, ◌+◌, ◌*◌, ◌<◌, ◌≤◌, ◌%◌, ◌/◌, length, drop};

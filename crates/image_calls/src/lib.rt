@@ -1,5 +1,7 @@
 // The calls on an image, P3 and an address by the device, which em73862_* and em73p982_* hand on to: a debugger's pane needs no more. They know no record.
 // Two answers of a call to the same inputs are equal: proofs/OneAnswer.antt.
+#![tactic(auto)]
+
 pub mod write;
 
 ghost use Rattle.std.specs.Prelude.{◌≡◌, ◌<◌};
@@ -26,7 +28,7 @@ const TEXT_ROOM: usize = 24;
 const NOWHERE: u16 = 8192;
 
 // What the reader answers, as numbers.
-#[derive(Drop)]
+#[derive(Clone, Copy)]
 pub struct ReadNumbers {
     pub number: u8,
     pub insn: Insn,
@@ -35,7 +37,7 @@ pub struct ReadNumbers {
 }
 
 // The operands of a row in its mnemonic's order.
-#[derive(Drop)]
+#[derive(Clone, Copy)]
 pub struct Operands {
     pub first: u16,
     pub second: u16,

@@ -8,7 +8,7 @@ use sheet::Insn;
 use writer::{Written, write};
 
 // What the writer answers, as numbers.
-#[derive(Drop)]
+#[derive(Clone, Copy)]
 pub struct WriteNumbers {
     pub number: u8,
     pub count: u8,

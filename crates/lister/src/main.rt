@@ -1,5 +1,7 @@
 // lister [--device NAME [--p3 N]] IMAGE [ADDRESS [COUNT]]: the rows of an image, one a line, in the sheet's notation, seen through the window of P3.
 // The words are judged from the left: the device and P3, the image, whether P3 may stand, the address, the number of lines, and that there are no more.
+#![tactic(auto)]
+
 mod help;
 
 ghost use Rattle.std.specs.Prelude.{◌≡◌, ◌+◌, ◌*◌, ◌%◌, ◌≤◌, length};

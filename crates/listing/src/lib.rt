@@ -1,4 +1,6 @@
 // The runner's listing: one line of a script answered, and the lines of a part of a script.
+#![tactic(auto)]
+
 pub mod line;
 
 ghost use Rattle.std.specs.Prelude.{◌≡◌, ◌+◌, ◌≤◌, length};
@@ -16,7 +18,7 @@ use text::refusal::refused_line;
 use text::script::line_end;
 
 // The record after a line but for RAM, whether the line is the last, and the place after what was written.
-#[derive(Drop)]
+#[derive(Clone, Copy)]
 pub struct Told {
     pub core: Core,
     pub ended: bool,
@@ -24,7 +26,7 @@ pub struct Told {
 }
 
 // The record after the lines but for RAM, whether one of them is the last, how many characters they had, and the place after what was written.
-#[derive(Drop)]
+#[derive(Clone, Copy)]
 pub struct Fed {
     pub core: Core,
     pub ended: bool,

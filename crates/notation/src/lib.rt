@@ -1,4 +1,6 @@
 // A row in the sheet's notation.
+#![tactic(auto)]
+
 pub mod sources;
 
 ghost use Rattle.std.specs.Prelude.{◌≡◌, [], ◌∷◌, ◌++◌, ◌+◌, ◌<◌, ◌≤◌, length, get_or};

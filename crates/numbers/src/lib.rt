@@ -1,4 +1,5 @@
 // Document 01's numbers by name: what comes back, and how many there are of what it counts.
+#![tactic(auto)]
 
 // "Image: exactly 8,192 bytes."
 pub const IMAGE_BYTES: usize = 8192;

@@ -1,4 +1,6 @@
 // The ports: what reading one gives, what writing one leaves in its latch, and what writing P16 does to the mode.
+#![tactic(auto)]
+
 ghost use Rattle.std.specs.Prelude.{◌≡◌, ◌<◌};
 ghost use Rattle.device.specs.Device.{limit_of};
 ghost use Rattle.ports.specs.Ports.{enters, latch_of, with_latch, is_writable, read_as, read_port, write_stop, p27_after, write_port, mode_after};
@@ -10,7 +12,7 @@ use laws::both;
 use numbers::{ABSENT_PORT, RESERVED_VALUE};
 
 // The latches. P0 has none, and that of a port that the device does not have holds 0.
-#[derive(Drop)]
+#[derive(Clone, Copy)]
 pub struct Ports {
     pub p3: u8,
     pub p4: u8,
@@ -29,7 +31,7 @@ pub struct Ports {
     pub p30: u8,
 }
 
-#[derive(Drop)]
+#[derive(Clone, Copy)]
 pub enum Mode {
     Running,
     Sleep,
@@ -37,7 +39,7 @@ pub enum Mode {
 }
 
 // A stop or 0, the value read, and the latches then.
-#[derive(Drop)]
+#[derive(Clone, Copy)]
 pub struct PortRead {
     pub stop: u8,
     pub value: u8,
@@ -45,7 +47,7 @@ pub struct PortRead {
 }
 
 // A stop or 0, and the latches then.
-#[derive(Drop)]
+#[derive(Clone, Copy)]
 pub struct PortWrite {
     pub stop: u8,
     pub ports: Ports,

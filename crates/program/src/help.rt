@@ -5,7 +5,7 @@ ghost use Rattle.program.specs.Help.{asked_by};
 use crate::streams::{ending_of, say, show};
 use check::same;
 
-#[derive(Drop)]
+#[derive(Clone, Copy)]
 pub enum Asked {
     Nothing,
     Help,

@@ -11,7 +11,7 @@ use libc::STDERR_FILENO;
 use text::digits::decimal;
 
 // What came of reading a file: whether it was opened, whether a read failed, and how many of its bytes are in the buffer.
-#[derive(Drop)]
+#[derive(Clone, Copy)]
 struct FileRead {
     opened: bool,
     failed: bool,
@@ -19,7 +19,7 @@ struct FileRead {
 }
 
 // The size of an image that a word names, none where it was refused, and whether that was written.
-#[derive(Drop)]
+#[derive(Clone, Copy)]
 pub struct ImageFile {
     pub size: usize,
     pub written: bool,

@@ -1,3 +1,5 @@
+#![tactic(auto)]
+
 pub mod help;
 pub mod image;
 pub mod part;

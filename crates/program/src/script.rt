@@ -7,7 +7,7 @@ use crate::streams::Got;
 use libc::STDIN_FILENO;
 
 // Whether the script cannot be read, whether what no LF ends is the last line, and which part of the buffer is still to be told.
-#[derive(Drop)]
+#[derive(Clone, Copy)]
 pub struct Span {
     pub failed: bool,
     pub last: bool,

@@ -6,13 +6,13 @@ ghost use Rattle.program.specs.Answers.{got_of, ending_of};
 use libc::{STDERR_FILENO, STDOUT_FILENO};
 
 // What a read gave: it failed, or so many bytes, none where the input has ended.
-#[derive(Drop)]
+#[derive(Clone, Copy)]
 pub struct Got {
     pub failed: bool,
     pub count: usize,
 }
 
-#[derive(Drop)]
+#[derive(Clone, Copy)]
 pub enum Ending {
     Done,
     CannotRead,

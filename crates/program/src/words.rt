@@ -7,14 +7,14 @@ use device::{Device, also_writable};
 use text::words::{Address, Number, read_address, read_number};
 
 // The device, P3, and how many words stand before the image.
-#[derive(Drop)]
+#[derive(Clone, Copy)]
 pub struct Chosen {
     pub device: Device,
     pub p3: u32,
     pub before: u8,
 }
 
-#[derive(Drop)]
+#[derive(Clone, Copy)]
 pub enum Choice {
     Made(Chosen),
     Usage,

@@ -1,4 +1,6 @@
 // The reader: what a code is, by its bytes and by an image, P3 and an address.
+#![tactic(auto)]
+
 pub mod row_number;
 
 ghost use Rattle.std.specs.Prelude.{◌≡◌, [], ◌∷◌, length, ◌+◌, ◌*◌, ◌%◌, ◌<◌, ◌≤◌};
@@ -13,14 +15,14 @@ use numbers::{LAST_ADDRESS, PAST_END, UNASSIGNED_CODE};
 use sheet::{Insn, Read};
 
 // What is read at an address: the instruction, its bytes and its cycles.
-#[derive(Drop)]
+#[derive(Clone, Copy)]
 pub struct Decoded {
     pub insn: Insn,
     pub bytes: u8,
     pub cycles: u8,
 }
 
-#[derive(Drop)]
+#[derive(Clone, Copy)]
 pub enum Answer {
     Row(Decoded),
     Unassigned,

@@ -1,4 +1,6 @@
 // The record: its types. ram.rt and pack.rt read and write RAM, stack.rt is for calls and interrupts.
+#![tactic(auto)]
+
 mod pack;
 pub mod ram;
 pub mod stack;
@@ -14,7 +16,7 @@ use frame::Pins;
 use numbers::RAM_NIBBLES;
 use ports::{Mode, Ports};
 
-#[derive(Drop)]
+#[derive(Clone, Copy)]
 pub struct Registers {
     pub acc: u8,
     pub hr: u8,
@@ -24,14 +26,14 @@ pub struct Registers {
     pub sf: bool,
 }
 
-#[derive(Drop)]
+#[derive(Clone, Copy)]
 pub struct Pointers {
     pub sp: u8,
     pub dp: u16,
 }
 
 // il has the latches IL5 to IL0 as bits 5 to 0. due is the source that would be accepted were EI set: 0 none, 1 to 5 INT0, TRGA, TRGB, TBI, INT1.
-#[derive(Drop)]
+#[derive(Clone, Copy)]
 pub struct Interrupts {
     pub ei: bool,
     pub il: u8,
@@ -39,7 +41,7 @@ pub struct Interrupts {
     pub due: u8,
 }
 
-#[derive(Drop)]
+#[derive(Clone, Copy)]
 pub struct Timers {
     pub base: u32,
     pub ta: u16,
@@ -47,7 +49,7 @@ pub struct Timers {
 }
 
 // All but RAM. The mark is left by a look at the frame in sleep or hold, which is the whole step: acting does nothing then.
-#[derive(Drop)]
+#[derive(Clone, Copy)]
 pub struct Core {
     pub regs: Registers,
     pub pc: u16,
@@ -63,7 +65,7 @@ pub struct Core {
 // "RAM: 372 nibbles, 000h to 0F3h and 100h to 17Fh", a nibble a place.
 pub type Ram = [u8; RAM_NIBBLES];
 
-#[derive(Drop)]
+#[derive(Clone, Copy)]
 pub struct Machine {
     pub core: Core,
     pub ram: Ram,

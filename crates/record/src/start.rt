@@ -10,7 +10,7 @@ use numbers::{RAM_NIBBLES, RECORD_OUTSIDE_THE_RANGES};
 use ports::{Mode, Ports};
 
 // What reset answers: 0 and the record, or a refusal's number and the record as it was.
-#[derive(Drop)]
+#[derive(Clone, Copy)]
 pub struct AfterReset {
     pub refusal: u8,
     pub machine: Machine,

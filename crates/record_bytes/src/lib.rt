@@ -1,4 +1,5 @@
 // The record as 416 bytes, and back. The layout loses nothing: proofs/Tells.antt, `one_record`.
+#![tactic(auto)]
 
 ghost use Rattle.std.specs.Prelude.{◌≡◌, false, [], ◌∷◌, ◌+◌, ◌/◌, ◌%◌, ◌<◌, ◌≤◌, length, take, drop};
 ghost use Rattle.laws.specs.Decides.{Decides};
@@ -24,7 +25,7 @@ pub const RECORD_BYTES: usize = 416;
 const HEAD_BYTES: usize = 44;
 
 // Whether a buffer holds a record, and that record; where it holds none, the fresh one.
-#[derive(Drop)]
+#[derive(Clone, Copy)]
 pub struct Unpacked {
     pub held: bool,
     pub machine: Machine,

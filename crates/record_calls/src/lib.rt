@@ -1,5 +1,7 @@
 // The calls on a record's bytes by the device, which em73862_* and em73p982_* hand on to. Each takes its bytes apart, calls the public function and puts numbers back.
 // Two answers of a call to the same inputs are equal: proofs/OneAnswer.antt. A refusal leaves the record's bytes as they were: proofs/Kept.antt.
+#![tactic(auto)]
+
 pub mod compare;
 pub mod frames;
 pub mod why;

@@ -13,7 +13,7 @@ use record_bytes::unpack;
 use step_why::{Answer, Reason, why};
 
 // Document 01's number, which of the six holds, the source that is accepted, and the set of sources.
-#[derive(Drop)]
+#[derive(Clone, Copy)]
 pub struct WhyNumbers {
     pub number: u8,
     pub holds: u8,

@@ -1,5 +1,7 @@
 // The bound of a handler whose routines are words by number: 24, 21, 22, 25, 23, or N and the depth with a path for each.
 // The arrays of each part are gone before the next begins, so that the parts share the stack's room; docs/PERFORMANCE.md has how much it is.
+#![tactic(auto)]
+
 ghost use Rattle.std.specs.Prelude.{◌≡◌, false, ◌<◌, ◌≤◌, length};
 ghost use Rattle.graph_search.specs.Marks.{Blank};
 ghost use Rattle.routines.specs.Calling.{unknown};
@@ -19,14 +21,14 @@ use routines_paths::write_paths;
 use routines_sums::sums;
 
 // The greatest of what is spent, and of the calls that are open at once.
-#[derive(Drop)]
+#[derive(Clone, Copy)]
 pub struct Greatest {
     pub cycles: usize,
     pub depth: usize,
 }
 
 // What the bound comes to; an entry, an address, bytes.
-#[derive(Drop)]
+#[derive(Clone, Copy)]
 pub enum Found {
     Recursion(usize),
     Excluded(usize),

@@ -1,4 +1,6 @@
 // Numbers of counts in mixed radix: how many there are at a place, and where a step leads. A count is one number: its address, and from bit 16 up how often its row may be executed.
+#![tactic(auto)]
+
 pub mod bases;
 pub mod masks;
 pub mod nodes;

@@ -10,7 +10,7 @@ use graph_search::{clear, mark};
 use routines_numbered::{kind_of, next_of, other_of, place_of};
 
 // Where a place goes on, if it does; after a call, at its next.
-#[derive(Drop)]
+#[derive(Clone, Copy)]
 pub struct Over {
     pub goes: bool,
     pub next: usize,

@@ -9,7 +9,7 @@ use std::num::{wrapping_add_u16, wrapping_sub_u16};
 
 // The node v that the walk is at; the top of the stack of nodes that wait for their component; the rank of the last node that was begun; and
 // how many components are complete. A node that is not one of the nodes stands for none.
-#[derive(Drop)]
+#[derive(Clone, Copy)]
 pub struct Spot {
     pub v: usize,
     pub top: usize,

@@ -1,4 +1,6 @@
 // After which calls SF is known: marks, by number, the places from which a RET at an unknown place is reached, all routines at once.
+#![tactic(auto)]
+
 ghost use Rattle.std.specs.Prelude.{◌≡◌, ◌+◌, ◌*◌, ◌<◌, ◌≤◌, length, get_or};
 ghost use Rattle.graph_search.specs.Marks.{Blank};
 ghost use Rattle.routines_numbered.specs.Packed.{into_in};
@@ -107,7 +109,7 @@ fn enter(words: &[u64], first: &mut [u32], link: &mut [u32], v: usize)
 }
 
 // How many numbers wait on the stack, and the edge to be followed back, 0 for none.
-#[derive(Drop)]
+#[derive(Clone, Copy)]
 struct Spot {
     top: usize,
     edge: usize,

@@ -1,11 +1,13 @@
 // Places numbered as they are found: one map by place, and one array by number of words, which holds the place until its node is laid there. No chip.
+#![tactic(auto)]
+
 ghost use Rattle.std.specs.Prelude.{◌≡◌, ◌+◌, ◌<◌, ◌≤◌, length};
 ghost use Rattle.routines.specs.Exploring.{Told};
 ghost use Rattle.routines_numbered.specs.Packed.{place_in, kind_in, next_in, other_in, into_in, cost_in, packed, Fits, name_in, map_in};
 ghost use Rattle.routines_numbered.specs.Numbering.{Numbers};
 
 // What follows a node, by number: of a call the places after it where SF is unknown and where it is known, and the first place of its routine.
-#[derive(Drop)]
+#[derive(Clone, Copy)]
 pub struct Links {
     pub next: usize,
     pub other: usize,

@@ -9,7 +9,7 @@ use crate::place::{latest, more, put};
 use routines_sums::{Way, way_of};
 
 // A number, how many calls are open there, and how many were at most.
-#[derive(Drop)]
+#[derive(Clone, Copy)]
 pub struct Deep {
     pub v: usize,
     pub top: usize,

@@ -1,4 +1,6 @@
 // N's path and depth's path through the calls over words by number, each in a buffer of its own, where sums and depths are settled. The start is number 0.
+#![tactic(auto)]
+
 pub mod deepest;
 pub mod place;
 pub mod route;

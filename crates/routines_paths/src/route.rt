@@ -10,7 +10,7 @@ use crate::place::{latest, more, put};
 use routines_sums::{Way, way_of};
 
 // A number, and how many calls are open there.
-#[derive(Drop)]
+#[derive(Clone, Copy)]
 pub struct At {
     pub v: usize,
     pub top: usize,

@@ -1,4 +1,6 @@
 // What any row does to the record, by definition; and what executing one leaves where RAM is lent.
+#![tactic(auto)]
+
 ghost use Rattle.std.specs.Prelude.{◌≡◌};
 ghost use Rattle.row.specs.Rows.{spent};
 ghost use Rattle.row.specs.Turns.{stopped_turn, Gives};
@@ -6,7 +8,7 @@ ghost use Rattle.row.specs.Turns.{stopped_turn, Gives};
 use record::{Core, Machine, Ram};
 
 // A stop or 0, the cycles, and the scalars.
-#[derive(Drop)]
+#[derive(Clone, Copy)]
 pub struct Turn {
     pub stop: u8,
     pub cycles: u16,

@@ -1,4 +1,6 @@
 // Executing one row: the arm is found by the row's group. What it gives is what the definition of crate row says.
+#![tactic(auto)]
+
 mod keeps;
 mod lends;
 

@@ -1,4 +1,6 @@
 // The ends of rows by what they change: a register or none, and the flags by the marks C Z S, which each name's comment has. n and t are the row's bytes and cycles.
+#![tactic(auto)]
+
 ghost use Rattle.std.specs.Prelude.{◌≡◌, ◌<◌};
 ghost use Rattle.numbers.specs.Sizes.{addresses};
 ghost use Rattle.row_ends.specs.Ends.{acc_loaded, acc_hr_exchanged, acc_lr_exchanged, acc_summed, acc_lessened, acc_logical, acc_carried, acc_borrowed, hr_loaded, hr_summed, lr_loaded, lr_summed, lr_lessened, went_on, summed, lessened, logical, compared, cf_tested, tested, nothing, goes_past, jumped, stopped};
@@ -8,7 +10,7 @@ use numbers::ADDRESSES;
 use record::{Core, Registers};
 
 // What a row that touches the registers alone leaves: a stop or 0, its cycles, PC and the registers.
-#[derive(Drop)]
+#[derive(Clone, Copy)]
 pub struct Act {
     pub stop: u8,
     pub cycles: u16,

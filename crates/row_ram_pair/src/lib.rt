@@ -1,4 +1,6 @@
 // LDHL and EXHL: LR and the nibble by x, HR and the nibble beside it. "Direct x: same bank."
+#![tactic(auto)]
+
 ghost use Rattle.std.specs.Prelude.{◌≡◌, ◌<◌};
 ghost use Rattle.numbers.specs.Sizes.{addresses};
 ghost use Rattle.row_ram.specs.Cells.{Does, Fits};

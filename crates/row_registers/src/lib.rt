@@ -1,4 +1,6 @@
 // Rows that touch the registers alone: an arm a row, on the scalars, each proved to be its line of the table.
+#![tactic(auto)]
+
 pub mod asks;
 pub mod branches;
 pub mod makes;

@@ -1,4 +1,6 @@
 // A run: one step a frame, up to a stop. RAM stays in one place over all its steps.
+#![tactic(auto)]
+
 ghost use Rattle.std.specs.Prelude.{◌≡◌, true, ◌*◌, ◌≤◌, length};
 ghost use Rattle.device.specs.Device.{image_size, frame_size, rom_of};
 ghost use Rattle.frame.specs.Frame.{are_frames, frames_of};
@@ -17,7 +19,7 @@ use step::advance;
 const MOST_FRAMES: usize = 65536;
 
 // Document 01's number, a refusal's or a stop's or 0; the steps completed, the cycles spent and the record.
-#[derive(Drop)]
+#[derive(Clone, Copy)]
 pub struct Ran {
     pub number: u8,
     pub steps: u32,

@@ -1,5 +1,7 @@
 // runner [--device NAME] IMAGE: the listing of an image for the script on standard input.
 // All that it has to say is written before it reads on, so that a person at a terminal sees each answer.
+#![tactic(auto)]
+
 mod help;
 
 ghost use Rattle.std.specs.Prelude.{◌≡◌, ◌<◌, ◌≤◌, length};

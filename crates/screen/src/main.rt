@@ -1,5 +1,7 @@
 // screen [--device NAME] [--pbm] IMAGE [STEP]: the display after a step of the script on standard input, or after the last.
 // The words are judged from the left: the device, the form, the image, the step, and that there are no more.
+#![tactic(auto)]
+
 mod help;
 
 ghost use Rattle.std.specs.Prelude.{◌≡◌, ◌<◌, ◌≤◌, length};
@@ -23,14 +25,14 @@ use text_screen::{Form, screen};
 use text_why::step_word;
 
 // The picture's form, and the number of the step to show; 0 is the last.
-#[derive(Drop)]
+#[derive(Clone, Copy)]
 struct Wish {
     form: Form,
     only: u64,
 }
 
 // The record but for RAM after a line of the script, whether it is the last, whether it is no frame, and how many characters it had.
-#[derive(Drop)]
+#[derive(Clone, Copy)]
 struct Turn {
     core: Core,
     ended: bool,

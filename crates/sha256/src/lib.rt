@@ -1,4 +1,6 @@
 // SHA-256 after FIPS 180-4, of a message of bytes: specs/Sha256.antt quotes the standard. A call for C: include/em73862_sha256.h declares it.
+#![tactic(auto)]
+
 pub mod message;
 pub mod words;
 
@@ -20,7 +22,7 @@ const MESSAGE_TOO_LONG: u8 = 1;
 const DIGEST_BUFFER_NOT_32_BYTES: u8 = 5;
 
 // The eight working variables, and the eight words of a hash value.
-#[derive(Drop)]
+#[derive(Clone, Copy)]
 pub struct State {
     pub a: u32,
     pub b: u32,

@@ -1,5 +1,7 @@
 // The instruction table of sheet 000 for the code: an instruction, what reading gives, the rows' numbers by name, and the length and cycles by first byte.
 // The rows themselves are the definition in specs/Table.antt.
+#![tactic(auto)]
+
 pub mod flow;
 pub mod rows;
 
@@ -7,21 +9,21 @@ ghost use Rattle.std.specs.Prelude.{◌≡◌, ◌/◌};
 ghost use Rattle.sheet.specs.Timing.{TimedFrom, NoneFrom};
 
 // One row by its number, and its operands: a is its x, k, a, b, r or n, and b its y or p; 0 for one that it does not have.
-#[derive(Drop)]
+#[derive(Clone, Copy)]
 pub struct Insn {
     pub row: u8,
     pub a: u16,
     pub b: u8,
 }
 
-#[derive(Drop)]
+#[derive(Clone, Copy)]
 pub enum Read {
     Row(Insn),
     Unassigned,
     PastEnd,
 }
 
-#[derive(Drop)]
+#[derive(Clone, Copy)]
 pub struct Cost {
     pub bytes: u8,
     pub cycles: u8,

@@ -1,4 +1,6 @@
 // A line of the sheet's instruction table as characters, and the section in which it stands.
+#![tactic(auto)]
+
 ghost use Rattle.std.specs.Prelude.{◌≡◌, ◌+◌, ◌<◌, ◌≤◌, length, get_or};
 ghost use Rattle.laws.specs.Writing.{Wrote};
 ghost use Rattle.sheet_text.specs.Lines.{sheet_text, section_of};

@@ -1,5 +1,7 @@
 // sound: the commands on standard input, each answered by a line.
 // All that it has to say is written before it reads on, so that a person at a terminal sees each answer. No line is held.
+#![tactic(auto)]
+
 mod help;
 
 ghost use Rattle.std.specs.Prelude.{◌*◌, ◌<◌, ◌≤◌, length};

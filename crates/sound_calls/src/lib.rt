@@ -1,5 +1,7 @@
 // The sound pin's calls on a state in bytes, for C and for whatever calls C: include/em73862_sound.h declares them.
 // Two answers of a call to the same are equal, and a refusal leaves the bytes: proofs/OneAnswer.antt.
+#![tactic(auto)]
+
 ghost use Rattle.std.specs.Prelude.{◌≡◌, ◌<◌, length};
 ghost use Rattle.sound_generator.specs.Answers.{p30_written, p24_written, p23_written, made_sleep, made_wake};
 ghost use Rattle.sound_generator.specs.Advance.{advanced_by};

@@ -1,5 +1,7 @@
 // The sound pin's state: its ranges, its start, the writes of P30, P24 and P23, sleep and waking, and the output.
 // Each public call answers 0 and what comes of it, or a refusal's number and the state as it was; two answers to the same are equal: proofs/Answers.antt.
+#![tactic(auto)]
+
 pub mod advance;
 pub mod random;
 
@@ -12,7 +14,7 @@ use laws::{both, either};
 use numbers::RECORD_OUTSIDE_THE_RANGES;
 
 // mode is P30 bits 1..0, p24 the value of P24 as it stands, bits the last nine random bits, bit 0 the latest.
-#[derive(Drop)]
+#[derive(Clone, Copy)]
 pub struct Sound {
     pub mode: u8,
     pub asleep: bool,
@@ -23,13 +25,13 @@ pub struct Sound {
     pub p24: u8,
 }
 
-#[derive(Drop)]
+#[derive(Clone, Copy)]
 pub struct Answer {
     pub number: u8,
     pub state: Sound,
 }
 
-#[derive(Drop)]
+#[derive(Clone, Copy)]
 pub struct Shown {
     pub number: u8,
     pub high: bool,

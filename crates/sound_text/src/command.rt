@@ -8,7 +8,7 @@ ghost use Rattle.sound_text.specs.Entry.{Entered, Fits, Feeds};
 use check::same;
 use laws::{both, either};
 
-#[derive(Drop)]
+#[derive(Clone, Copy)]
 pub enum Command {
     P30(u8),
     P24(u8),
@@ -21,7 +21,7 @@ pub enum Command {
 }
 
 // The word's first characters, and how many; whether a blank came; and of what came after it: whether there is any, whether all are digits, and their value.
-#[derive(Drop)]
+#[derive(Clone, Copy)]
 pub struct Entry {
     pub word: [u8; 8],
     pub kept: usize,

@@ -1,4 +1,6 @@
 // What the program sound writes: a line for each command, and the lines for a part of its input.
+#![tactic(auto)]
+
 pub mod command;
 
 ghost use Rattle.std.specs.Prelude.{◌≡◌, true, [], ◌∷◌, ◌++◌, ◌+◌, ◌*◌, ◌<◌, ◌≤◌, length};
@@ -19,14 +21,14 @@ use text::digits::{decimal, number, put, put_text};
 use text::refusal::refused_line;
 
 // Whether a line was a command, and what came of it.
-#[derive(Drop)]
+#[derive(Clone, Copy)]
 pub struct Performed {
     pub known: bool,
     pub answer: Answer,
 }
 
 // The state and the line that was begun, after some characters, and the place after what was written.
-#[derive(Drop)]
+#[derive(Clone, Copy)]
 pub struct Progress {
     pub state: Sound,
     pub entry: Entry,

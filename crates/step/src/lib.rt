@@ -1,4 +1,6 @@
 // One step: for any image, options, record and frame the record, the stop and the cycles that document 01 says, or a refusal by number that changes nothing.
+#![tactic(auto)]
+
 pub mod apart;
 
 ghost use Rattle.std.specs.Prelude.{◌≡◌, length};
@@ -19,7 +21,7 @@ use step_act::act;
 use step_look::{is_running, seen, waited};
 
 // Document 01's number, a refusal's or a stop's or 0; the cycles and the record.
-#[derive(Drop)]
+#[derive(Clone, Copy)]
 pub struct Stepped {
     pub number: u8,
     pub cycles: u16,

@@ -1,4 +1,6 @@
 // What a running record does once it has seen the frame: it accepts an interrupt or executes one row, then time passes.
+#![tactic(auto)]
+
 ghost use Rattle.std.specs.Prelude.{◌≡◌, ◌<◌, length};
 ghost use Rattle.numbers.specs.Sizes.{addresses};
 ghost use Rattle.device.specs.Device.{image_size, rom_of};

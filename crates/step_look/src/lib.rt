@@ -1,4 +1,6 @@
 // What a step sees of its frame, before it acts.
+#![tactic(auto)]
+
 ghost use Rattle.std.specs.Prelude.{◌≡◌, true, ◌<◌};
 ghost use Rattle.ports.specs.declared.Mode.{Mode};
 ghost use Rattle.record.specs.Valid.{ValidInterrupts, ValidTimers};
@@ -12,7 +14,7 @@ use ports::Mode;
 use record::{Core, with_latches};
 
 // The scalars then, and the cycles of a step that only looks.
-#[derive(Drop)]
+#[derive(Clone, Copy)]
 pub struct Looked {
     pub core: Core,
     pub cycles: u16,

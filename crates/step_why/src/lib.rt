@@ -1,4 +1,6 @@
 // Why an interrupt was taken or not: for any image, options, record and frame which of six reasons holds for that step, or a refusal by number.
+#![tactic(auto)]
+
 ghost use Rattle.std.specs.Prelude.{◌≡◌, ◌<◌};
 ghost use Rattle.frame.specs.Frame.{PinsInRange};
 ghost use Rattle.record.specs.Valid.{ValidInterrupts, ValidCore};
@@ -15,14 +17,14 @@ use record::{Core, Machine};
 use step_look::{is_running, seen};
 
 // The source that is accepted, by its latch's number, and the due ones that must wait.
-#[derive(Drop)]
+#[derive(Clone, Copy)]
 pub struct Taken {
     pub source: u8,
     pub waiting: u8,
 }
 
 // Which of the request's six holds, in its order; a set of sources has bit n where the source of ILn is in it.
-#[derive(Drop)]
+#[derive(Clone, Copy)]
 pub enum Reason {
     Waiting,
     Disabled,
@@ -33,7 +35,7 @@ pub enum Reason {
 }
 
 // What the call answers; specs/Answers.antt gives document 01's number and values for each.
-#[derive(Drop)]
+#[derive(Clone, Copy)]
 pub enum Answer {
     ImageSize,
     RecordRange,

@@ -7,13 +7,13 @@ ghost use Rattle.text.specs.Words.{number_of, word_address};
 use crate::hexadecimal::digit;
 use numbers::LAST_ADDRESS;
 
-#[derive(Drop)]
+#[derive(Clone, Copy)]
 pub enum Number {
     Value(u32),
     Nothing,
 }
 
-#[derive(Drop)]
+#[derive(Clone, Copy)]
 pub enum Address {
     At(u16),
     Refused,

@@ -1,4 +1,6 @@
 // What the bounder says, as characters in a buffer: each function answers the place after what it wrote.
+#![tactic(auto)]
+
 ghost use Rattle.std.specs.Prelude.{◌≡◌, ◌+◌, ◌*◌, ◌%◌, ◌<◌, ◌≤◌, length};
 ghost use Rattle.numbers.specs.Sizes.{addresses};
 ghost use Rattle.numbers.specs.ComesBack.{value_at};

@@ -1,4 +1,6 @@
 // The lines of the program flow, in Graphviz's DOT, as characters in a buffer: each function answers the place after what it wrote.
+#![tactic(auto)]
+
 ghost use Rattle.std.specs.Prelude.{◌≡◌, Bool, ◌+◌, ◌*◌, ◌%◌, ◌<◌, ◌≤◌, length};
 ghost use Rattle.numbers.specs.Sizes.{addresses};
 ghost use Rattle.device.specs.Device.{rom_of, window_end};
@@ -9,14 +11,14 @@ use bound_calls::CallNode;
 use text::digits::{number, put_text};
 use text_lister::line::columns;
 
-#[derive(Drop)]
+#[derive(Clone, Copy)]
 pub enum Look {
     Plain,
     Bold,
     Red,
 }
 
-#[derive(Drop)]
+#[derive(Clone, Copy)]
 pub enum Stroke {
     Solid,
     SolidBold,
@@ -25,7 +27,7 @@ pub enum Stroke {
 }
 
 // Which of a place's two arrows N's path takes.
-#[derive(Drop)]
+#[derive(Clone, Copy)]
 pub struct Taken {
     pub next: bool,
     pub other: bool,

@@ -1,2 +1,4 @@
 // The lister's text: a line and the listing.
+#![tactic(auto)]
+
 pub mod line;

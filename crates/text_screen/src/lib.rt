@@ -1,4 +1,6 @@
 // The display of a record as a picture in a buffer. Each writing function answers the place after what it wrote.
+#![tactic(auto)]
+
 ghost use Rattle.std.specs.Prelude.{◌≡◌, ◌∷◌, [], ◌++◌, ◌+◌, ◌<◌, ◌≤◌, length};
 ghost use Rattle.laws.specs.Writing.{Wrote};
 ghost use Rattle.record.specs.Valid.{Valid};
@@ -15,7 +17,7 @@ const ROWS: usize = 8;
 
 const DOTS: usize = 40;
 
-#[derive(Drop)]
+#[derive(Clone, Copy)]
 pub enum Form {
     Signs,
     Pbm,

@@ -1,4 +1,6 @@
 // What the program why writes, as characters in a buffer: the line of an answer, and a line of the script answered. Each writing function answers the place after what it wrote.
+#![tactic(auto)]
+
 ghost use Rattle.std.specs.Prelude.{◌≡◌, ◌++◌, ◌+◌, ◌≤◌, min, length};
 ghost use Rattle.laws.specs.Writing.{Wrote};
 ghost use Rattle.device.specs.Device.{image_size, rom_of};

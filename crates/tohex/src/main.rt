@@ -1,4 +1,6 @@
 // tohex [--device NAME] IMAGE: the text of an image as Intel HEX.
+#![tactic(auto)]
+
 mod help;
 
 use crate::help::is_asked;

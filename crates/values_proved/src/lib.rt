@@ -1,1 +1,2 @@
 // Document 01's worked values marked P: definitions and their proof. It has no code.
+#![tactic(auto)]

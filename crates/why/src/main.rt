@@ -1,5 +1,7 @@
 // why [--device NAME] IMAGE [STEP]: for each step of the script on standard input, or for that step alone, why an interrupt was taken or not.
 // Each answer is written before more of the script is read. The words are judged from the left: the device, the image, the step, and that there are no more.
+#![tactic(auto)]
+
 mod help;
 
 ghost use Rattle.std.specs.Prelude.{◌≡◌, ◌<◌, ◌≤◌, length};
@@ -19,7 +21,7 @@ use text::script::line_end;
 use text_why::{step_word, tell};
 
 // The record but for RAM after a line of the script, whether it is the last, how many characters it had, and whether its answer was written.
-#[derive(Drop)]
+#[derive(Clone, Copy)]
 struct Turn {
     core: Core,
     ended: bool,

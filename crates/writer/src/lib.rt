@@ -1,4 +1,6 @@
 // The writer: from an instruction to its bytes.
+#![tactic(auto)]
+
 ghost use Rattle.std.specs.Prelude.{◌≡◌, [], ◌∷◌, ◌<◌};
 ghost use Rattle.sheet.specs.Reading.{read_bytes};
 ghost use Rattle.writer.specs.Spelling.{spelling, placed, far_spelled, first_byte, second_byte, behind, same_insn, reads_as};
@@ -64,7 +66,7 @@ fn digits_behind(row: u8) -> u8
 }
 
 // The code of an instruction: so many bytes of the three, and 0 for the others.
-#[derive(Drop)]
+#[derive(Clone, Copy)]
 pub struct Code {
     pub len: u8,
     pub b0: u8,
@@ -72,7 +74,7 @@ pub struct Code {
     pub b2: u8,
 }
 
-#[derive(Drop)]
+#[derive(Clone, Copy)]
 pub enum Written {
     Bytes(Code),
     Refused,

@@ -1,0 +1,52 @@
+-- `bound::bound_shown` meets its contract.
+use mathlib.Core.Path.{sym, ◌∙◌}
+use native.Mathlib.Omega.{arith}
+use borrow.Author.Tests.{not-true, not-false}
+use Rattle.laws.proofs.Computed.{true→T}
+use Rattle.device.proofs.Laws.{also_nibble, banked, window_fits}
+use Rattle.bound_calls.specs.CallAnswer.{gives_1, gives_2, gives_20}
+use Rattle.bound.proofs.Answers.{kept, answers}
+use Rattle.bound.proofs.bound_shown.Goals as goal
+
+pub returns-then-image-image_size : goal.returns-then-image-image_size
+returns-then-image-image_size c = gives_1 (λ e. c.if-image-image_size.true (e ∙ sym c.image_size.ensures)) (kept _ _)
+
+pub returns-then-not-is_banked : goal.returns-then-not-is_banked
+returns-then-not-is_banked c = gives_2 (c.if-image-image_size.false ∙ c.image_size.ensures) (λ b. rw (sym c.is_banked.ensures ∙ not-true _ c.if-not-is_banked.true) at b) (kept _ _)
+
+pub returns-then-address-gt-LAST_ADDRESS : goal.returns-then-address-gt-LAST_ADDRESS
+returns-then-address-gt-LAST_ADDRESS c =
+    let if1 = c.if-image-image_size in
+    let image-size = c.image_size in
+    let is-banked = c.is_banked in
+    let if2 = c.if-not-is_banked in
+    let if3 = c.if-address-gt-LAST_ADDRESS in
+    gives_20 (if1.false ∙ image-size.ensures) (true→T (sym is-banked.ensures ∙ not-false _ if2.false)) if3.true (kept _ _)
+
+pub overflow_cast-p3 : goal.overflow_cast-p3
+overflow_cast-p3 c =
+    let args = c.args in
+    let is-banked = c.is_banked in
+    let if2 = c.if-not-is_banked in
+    let h = ((banked args.d args.p3).sound (true→T (sym is-banked.ensures ∙ not-false _ if2.false))).0 in let n = also_nibble args.d 3 in omega arith
+
+pub found-found-requires : goal.found-found-requires
+found-found-requires c =
+    let if1 = c.if-image-image_size in
+    let image-size = c.image_size in
+    let args = c.args in
+    let is-banked = c.is_banked in
+    let if2 = c.if-not-is_banked in
+    let if3 = c.if-address-gt-LAST_ADDRESS in
+    (rw (if1.false ∙ image-size.ensures) (window_fits args.d args.p3 (true→T (sym is-banked.ensures ∙ not-false _ if2.false))), omega (arith, if3.false))
+
+pub returns : goal.returns
+returns c =
+    let answer = c.answer in
+    let found = c.found-found in
+    let if1 = c.if-image-image_size in
+    let image-size = c.image_size in
+    let is-banked = c.is_banked in
+    let if2 = c.if-not-is_banked in
+    let if3 = c.if-address-gt-LAST_ADDRESS in
+    rw answer.ensures (answers _ _ _ _ _ _ _ _ found.result (if1.false ∙ image-size.ensures) (true→T (sym is-banked.ensures ∙ not-false _ if2.false)) (omega (arith, if3.false)) found.ensures)

@@ -1,0 +1,8 @@
+-- `bound_calls::fork` meets its contract.
+use Rattle.bound_calls.proofs.fork.Goals as goal
+
+pub returns-then-known : goal.returns-then-known
+returns-then-known c = rw (c.onward.ensures, c.if-known.true)
+
+pub returns : goal.returns
+returns c = rw (c.onward-2.ensures, c.if-known.false)

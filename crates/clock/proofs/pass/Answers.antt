@@ -1,0 +1,9 @@
+-- `clock::pass` meets its contract: the quick way out is a law of the definition.
+use mathlib.Core.Path.{sym}
+use Rattle.clock.proofs.Quiet.{passed_quiet}
+use Rattle.clock.proofs.pass.Goals as goal
+
+pub returns-then-t-gain-lt256 : goal.returns-then-t-gain-lt256
+returns-then-t-gain-lt256 c =
+    let e = c.before.before.before in
+    sym (passed_quiet _ _ _ e.requires.1 e.requires.0.base c.if-t-gain-lt256.true)

@@ -1,0 +1,18 @@
+-- `clock::tick` meets its contract: between two multiples of 256 only the time base moves.
+use mathlib.Core.Path.{sym}
+use Rattle.clock.specs.Clock.{tick}
+use Rattle.clock.proofs.Quiet.{tick_quiet}
+use Rattle.clock.proofs.Ranges.{gained_in_range}
+use Rattle.clock.proofs.tick.Goals as goal
+
+pub met-requires : goal.met-requires
+met-requires c = let e = c.before.before.before in (gained_in_range e.args.t e.requires.0, e.requires.1)
+
+pub returns-then-s-eq0 : goal.returns-then-s-eq0
+unfolding tick
+returns-then-s-eq0 c = c.met.ensures
+
+pub returns : goal.returns
+returns c =
+    let e = c.before.before.before in
+    sym (tick_quiet _ e.args.t e.requires.1 c.if-s-eq0.false)

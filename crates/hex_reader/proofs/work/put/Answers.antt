@@ -1,0 +1,24 @@
+-- `hex_reader::work::put` meets its contract.
+use lib.ListN.{get_or, length-set}
+use Prim.Native.Nat.{◌+◌, ◌/◌, ◌%◌}
+use Rattle.hex_reader.proofs.work.Puts.{sum_fits, stored, puts}
+use native.Mathlib.Omega.{arith}
+use Rattle.hex_reader.proofs.work.put.Goals as goal
+
+pub overflow_add-bits : goal.overflow_add-bits
+overflow_add-bits c =
+    let a = c.args in
+    let at = a.size + a.address / 8 in
+    let fits = sum_fits (get_or a.work.now at 0) (a.address % 8) 0 (c.type_inv.work at).fits (omega arith) (omega arith) c.requires.2 in
+    record { fits = rw c.weight.ensures fits }
+
+pub bounds-work-at-2 : goal.bounds-work-at-2
+bounds-work-at-2 c = omega (arith, length-set c.args.work.now c.args.address c.args.byte)
+
+pub returns : goal.returns
+unfolding stored
+returns c =
+    let a = c.args in
+    let p = c.requires in
+    let small = (c.type_inv.work (a.size + a.address / 8)).fits in
+    rw c.weight.ensures (puts a.size a.work.now a.address a.byte p.0 p.1 p.2 small)

@@ -1,0 +1,13 @@
+-- `listing::feed` meets its contract: the lines before `used` are told.
+use Prim.Native.Nat.{◌-◌}
+use lib.ListN.{length}
+use Rattle.device.specs.Device.{rom_of}
+use Rattle.record.specs.With.{assembled}
+use Rattle.listing.proofs.Feeding.{Feeding}
+use Rattle.listing.proofs.feed.Given as goal
+
+abbrev pub invariant-loop-out : goal.invariant-loop-out
+invariant-loop-out l = Feeding l.d (rom_of l.image) (assembled l.initial.core l.initial.ram) l.part l.initial.out l.out l.from l.at (assembled l.core l.ram) l.used
+
+abbrev pub decreases-loop-out : goal.decreases-loop-out
+decreases-loop-out l = length l.part - l.used

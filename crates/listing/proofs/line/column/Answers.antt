@@ -1,0 +1,7 @@
+-- `listing::line::column` meets its contract.
+use native.Mathlib.Omega.{arith}
+use Rattle.laws.proofs.Writing.{wrote_then}
+use Rattle.listing.proofs.line.column.Goals as goal
+
+pub returns : goal.returns
+returns c = (wrote_then c.number-end.ensures.0 c.put.ensures, omega arith)

@@ -1,0 +1,7 @@
+-- `listing::line::registers` meets its contract.
+use native.Mathlib.Omega.{arith}
+use Rattle.laws.proofs.Writing.{wrote_then, wrote_last}
+use Rattle.listing.proofs.line.registers.Goals as goal
+
+pub returns : goal.returns
+returns c = (wrote_then c.column-end.ensures.0 (wrote_then c.column-end-2.ensures.0 (wrote_then c.column-end-3.ensures.0 (wrote_then c.column-end-4.ensures.0 (wrote_last c.column.ensures.0)))), omega arith)

@@ -1,0 +1,12 @@
+-- `reader::last_one` meets its contract.
+use mathlib.Core.Path.{◌∙◌}
+use Rattle.reader.proofs.Lasts.{one-enough, one-past}
+use native.Mathlib.Omega.{arith}
+use borrow.Author.Rules.{rules}
+use Rattle.reader.proofs.last_one.Goals as goal
+
+pub returns-then-cost-lt2 : goal.returns-then-cost-lt2
+returns-then-cost-lt2 c = c.decode.ensures ∙ one-enough _ _ _ (search rules) c.timing-cost.ensures (omega arith)
+
+pub returns : goal.returns
+returns c = one-past _ _ _ (search rules) c.timing-cost.ensures (omega arith)

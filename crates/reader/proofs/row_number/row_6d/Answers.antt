@@ -1,0 +1,18 @@
+-- `reader::row_number::row_6d` meets its contract.
+use Prim.Native.Nat.{◌%◌}
+use native.Mathlib.Omega.{arith}
+use Rattle.sheet.specs.Reading.{row_number, row_with}
+use Rattle.reader.proofs.row_number.Arms.{by-quarter}
+use Rattle.reader.proofs.row_number.row_6d.Goals as goal
+
+pub returns-in-0 : goal.returns-in-0
+returns-in-0 c ds = unfold row_with in by-quarter 6 13 67 (c.args.b1 % 16) ds 0 (unfold row_number in tt) c.args.b1 (omega arith) c.in-0.is
+
+pub returns-in-1 : goal.returns-in-1
+returns-in-1 c ds = unfold row_with in by-quarter 6 13 61 (c.args.b1 % 16) ds 1 (unfold row_number in tt) c.args.b1 (omega arith) c.in-1.is
+
+pub returns-in-2 : goal.returns-in-2
+returns-in-2 c ds = unfold row_with in by-quarter 6 13 70 (c.args.b1 % 16) ds 2 (unfold row_number in tt) c.args.b1 (omega arith) c.in-2.is
+
+pub returns-in_default : goal.returns-in_default
+returns-in_default c ds = unfold row_with in by-quarter 6 13 57 (c.args.b1 % 16) ds 3 (unfold row_number in tt) c.args.b1 (omega arith) (omega arith)

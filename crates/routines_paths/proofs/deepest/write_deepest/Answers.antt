@@ -1,0 +1,70 @@
+-- `routines_paths::deepest::write_deepest` meets its contract: the bytes of the places that are passed stand in the buffer.
+use mathlib.Core.Path.{refl, ◌∙◌}
+use Prim.Native.Nat.{◌-◌}
+use native.Mathlib.Omega.{arith}
+use Rattle.routines_paths.specs.Open.{open_of}
+use Rattle.routines_paths.proofs.Open.{open_length, none_open}
+use Rattle.routines_paths.proofs.deepest.Ways.{route_goes}
+use Rattle.routines_paths.proofs.deepest.Along.{along_stack, writing_start, writing-room, writing_more, writing_end}
+use Rattle.routines_paths.proofs.deepest.write_deepest.Goals as goal
+
+pub loop-path-init : goal.loop-path-init
+loop-path-init c =
+    let pre = c.requires in
+    (refl, refl, refl, pre.2, pre.1, unfold open_of in writing_start _ pre.3)
+
+pub more-requires : goal.more-requires
+more-requires c =
+    let pre = c.requires in
+    let inv = c.loop-path.invariant in
+    omega (arith, pre.0.words, pre.0.few, inv.4)
+
+pub put-requires : goal.put-requires
+put-requires c =
+    let pre = c.requires in
+    let inv = c.loop-path.invariant in
+    (omega (arith, pre.0.words, pre.0.few, inv.4), omega (arith, inv.0, writing-room inv.5))
+
+pub deep_on-here-requires : goal.deep_on-here-requires
+deep_on-here-requires c =
+    let pre = c.requires in
+    let the-loop = c.loop-path in
+    let inv = the-loop.invariant in
+    (pre.0, inv.4, omega (arith, inv.1, along_stack inv.5.along, open_length the-loop.stack the-loop.here.top), inv.3, route_goes inv.5.along.rest_is (c.more.ensures.goes_on c.loop-path-test.true))
+
+pub overflow_add-at : goal.overflow_add-at
+overflow_add-at c =
+    let inv = c.loop-path.invariant in
+    omega (arith, writing-room inv.5, c.well_formed.1.1.1.1.1.0.0)
+
+pub loop-path-smaller : goal.loop-path-smaller
+loop-path-smaller c =
+    let inv = c.loop-path.invariant in
+    omega (arith, writing-room inv.5)
+
+pub loop-path-preserved : goal.loop-path-preserved
+loop-path-preserved c =
+    let inv = c.loop-path.invariant in
+    let m = c.deep_on-here in
+    let put = c.put in
+    (put.auto.1.1.0 ∙ inv.0, m.auto.1.1.0 ∙ inv.1, m.auto.1.1.1.0 ∙ inv.2, m.ensures.1, m.ensures.2, writing_more inv.5 m.ensures.0 put.ensures)
+
+pub put-requires-2 : goal.put-requires-2
+put-requires-2 c =
+    let pre = c.requires in
+    let inv = c.loop-path.invariant in
+    (omega (arith, pre.0.words, pre.0.few, inv.4), omega (arith, inv.0, writing-room inv.5))
+
+pub shape_of-stack : goal.shape_of-stack
+shape_of-stack c = c.loop-path.invariant.1
+
+pub shape_of-pend : goal.shape_of-pend
+shape_of-pend c = c.loop-path.invariant.2
+
+pub shape_of-path : goal.shape_of-path
+shape_of-path c = c.put-2.auto.1.1.0 ∙ c.loop-path.invariant.0
+
+pub returns : goal.returns
+returns c =
+    let over = c.more.ensures.over c.loop-path-test.false in
+    writing_end c.loop-path.invariant.5 (none_open _ over.1) over.0 c.put-2.ensures

@@ -1,0 +1,23 @@
+-- `row_ports::writes::write_row` meets its contract.
+use Rattle.laws.proofs.Among.{first}
+use Rattle.row_ports.specs.Groups.{writing}
+use Rattle.row_ports.proofs.Writing.{clp, clpl, sep, sepl, out, outa}
+use Rattle.row_ports.proofs.writes.write_row.Goals as goal
+
+pub returns-in-57 : goal.returns-in-57
+returns-in-57 c = rw (c.in-57.is, c.bit_cleared.ensures, c.weight.ensures.value) (clp _ _ _ _)
+
+pub returns-in-58 : goal.returns-in-58
+returns-in-58 c = rw (c.in-58.is, c.bit_cleared-in-58.ensures, c.weight-in-58.ensures.value) (clpl _ _ _ _)
+
+pub returns-in-61 : goal.returns-in-61
+returns-in-61 c = rw (c.in-61.is, c.bit_set.ensures, c.weight-in-61.ensures.value) (sep _ _ _ _)
+
+pub returns-in-62 : goal.returns-in-62
+returns-in-62 c = rw (c.in-62.is, c.bit_set-in-62.ensures, c.weight-in-62.ensures.value) (sepl _ _ _ _)
+
+pub returns-in-76 : goal.returns-in-76
+returns-in-76 c = rw (c.in-76.is, c.written.ensures) (out _ _ _ _)
+
+pub returns-in_default : goal.returns-in_default
+returns-in_default c = rw (first writing _ c.requires.listed c.in-57.rest, c.written-in_default.ensures) (outa _ _ _ _)

@@ -1,0 +1,29 @@
+-- `sheet::flow::goes_to` meets its contract.
+use mathlib.Core.Path.{sym, ◌∙◌}
+use Rattle.sheet.specs.Table.{line_at}
+use Rattle.sheet.proofs.flow.Rows.{goes_by_lem, goes_nowhere}
+use borrow.Author.Rules.{rules}
+use Rattle.sheet.proofs.flow.goes_to.Goals as goal
+
+pub returns-in-47 : goal.returns-in-47
+unfolding line_at
+returns-in-47 c = sym (goes_by_lem _ _ c.in-47.is)
+
+pub returns-in-48 : goal.returns-in-48
+unfolding line_at
+returns-in-48 c = sym (goes_by_lem _ _ c.in-48.is)
+
+pub returns-in-49 : goal.returns-in-49
+unfolding line_at
+returns-in-49 c = sym (goes_by_lem _ _ c.in-49.is)
+
+pub returns-in-71 : goal.returns-in-71
+unfolding line_at
+returns-in-71 c = sym (goes_by_lem _ _ c.in-71.is)
+
+pub returns-in-72 : goal.returns-in-72
+unfolding line_at
+returns-in-72 c = c.short_entry.ensures ∙ sym (goes_by_lem _ _ c.in-72.is)
+
+pub returns-in_default : goal.returns-in_default
+returns-in_default c = sym (goes_nowhere _ _ (search rules) c.in-47.rest)

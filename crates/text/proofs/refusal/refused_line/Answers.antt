@@ -1,0 +1,9 @@
+-- `text::refusal::refused_line` meets its contract.
+use native.Mathlib.Omega.{arith}
+use Rattle.laws.proofs.Writing.{wrote_then}
+use Rattle.text.proofs.refusal.refused_line.Goals as goal
+
+pub returns : goal.returns
+returns c =
+    let refused = c.refused-end in
+    (wrote_then refused.ensures.0 c.put.ensures, omega arith)

@@ -1,0 +1,7 @@
+-- `text_lister::line::bytes_column` meets its contract.
+use native.Mathlib.Omega.{arith}
+use Rattle.text.proofs.digits.Numbers.{wrote_padded}
+use Rattle.text_lister.proofs.line.bytes_column.Goals as goal
+
+pub returns : goal.returns
+returns c = (wrote_padded 8 c.bytes-end.ensures.0 c.blanks.ensures.0, omega arith)

@@ -1,0 +1,11 @@
+-- `writer::first_byte` meets its contract.
+use Prim.Native.Nat.{ℕ}
+use Rattle.laws.proofs.Computed.{listed_at}
+use Rattle.sheet.specs.Table.{line_at}
+use Rattle.writer.specs.Spelling.{first_byte}
+use borrow.Author.Rules.{rules}
+use Rattle.writer.proofs.first_byte.Goals as goal
+
+pub returns : goal.returns
+unfolding line_at
+returns c = listed_at (λ (n : ℕ). first_byte (line_at n)) 108 c.args.row (search rules)
