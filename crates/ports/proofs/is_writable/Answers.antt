@@ -37,4 +37,4 @@ pub returns-in-30 : goal.returns-in-30
 returns-in-30 c = rw c.in-30.is
 
 pub returns-in_default : goal.returns-in_default
-returns-in_default c = c.also_writable.ensures ∙ also c.args.d c.args.n c.in-4.rest
+returns-in_default c = c.also_writable.ensures ∙ also c.args.d c.args.n c.in_default.in_default-own.rest

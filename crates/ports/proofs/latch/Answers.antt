@@ -64,4 +64,4 @@ unfolding latch_of
 returns-in-30 c = rw c.in-30.is
 
 pub returns-in_default : goal.returns-in_default
-returns-in_default c = no-latch _ c.in-3.rest _
+returns-in_default c = no-latch _ c.in_default.in_default-own.rest _

@@ -21,4 +21,4 @@ returns-in-9 c = rw c.in-9.is c.read_as-in-9.ensures
 
 pub returns-in_default : goal.returns-in_default
 unfolding read_port
-returns-in_default c = rw (ne_eqb _ 0 c.in-0.rest.0.0.0.1, ne_eqb _ 4 c.in-0.rest.0.0.1, ne_eqb _ 8 c.in-0.rest.0.1, ne_eqb _ 9 c.in-0.rest.1)
+returns-in_default c = rw (ne_eqb _ 0 c.in_default.in_default-own.rest.0.0.0.1, ne_eqb _ 4 c.in_default.in_default-own.rest.0.0.1, ne_eqb _ 8 c.in_default.in_default-own.rest.0.1, ne_eqb _ 9 c.in_default.in_default-own.rest.1)

@@ -64,4 +64,4 @@ unfolding with_latch
 returns-in-30 c = rw c.in-30.is
 
 pub returns-in_default : goal.returns-in_default
-returns-in_default c = same-latches _ c.in-3.rest _ _
+returns-in_default c = same-latches _ c.in_default.in_default-own.rest _ _
