@@ -1,0 +1,17 @@
+-- `program::streams::got_of` meets its contract.
+use mathlib.Core.Path.{◌≡◌, refl}
+use lib.IntN.{ℤ, pos, negsuc}
+use lib.Dec.{leb-suc-zero}
+use lib.Signed.{lt_z}
+use mir.Facts.{to_z-of_z}
+use Rattle.program.specs.Answers.{is_negative}
+use Rattle.program.proofs.streams.got_of.Goals as goal
+
+negative : (z : ℤ) → lt_z z (pos 0) ≡ is_negative z
+negative (pos k) = leb-suc-zero k
+negative (negsuc k) = refl
+
+pub returns : goal.returns
+returns c =
+    let start = c.before.before in
+    (rw (c.count.ensures.1, to_z-of_z start.ranges.answer, negative), c.count.ensures.0)
