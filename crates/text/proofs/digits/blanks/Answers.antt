@@ -13,4 +13,4 @@ pub put_text-requires : goal.put_text-requires
 put_text-requires c = omega (arith, length-take-le c.args.n (blanks 16) c.requires.0)
 
 pub returns : goal.returns
-returns c = (rw (take_replicate c.args.n 16 32 c.requires.0) at c.put_text.ensures, omega (arith, length-take-le c.args.n (blanks 16) c.requires.0))
+returns c = record { wrote = rw (take_replicate c.args.n 16 32 c.requires.0) at c.put_text.ensures; value = omega (arith, length-take-le c.args.n (blanks 16) c.requires.0) }

@@ -1,5 +1,4 @@
 -- `text::digits::put_text` meets its contract: from i on the text is left to be written.
-use Prim.Native.Nat.{◌-◌}
 use native.Mathlib.Omega.{arith}
 use lib.ListN.{length-drop}
 use Rattle.laws.proofs.Writing.{writing_all, writing_next, writing_end}

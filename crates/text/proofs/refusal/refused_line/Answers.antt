@@ -6,4 +6,4 @@ use Rattle.text.proofs.refusal.refused_line.Goals as goal
 pub returns : goal.returns
 returns c =
     let refused = c.refused-end in
-    (wrote_then refused.ensures.0 c.put.ensures, omega arith)
+    record { wrote = wrote_then refused.ensures.wrote c.put.ensures; value = omega arith }
