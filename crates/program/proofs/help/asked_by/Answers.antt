@@ -11,23 +11,18 @@ returns-then-same c = rw (sym (same_is c.same.ensures) ∙ c.if-same.true) refl
 pub returns-then-same-2 : goal.returns-then-same-2
 unfolding asked_by
 returns-then-same-2 c =
-    let one = c.before.before.before in
-    rw (sym (same_is one.before.same.ensures) ∙ one.if1.false, sym (same_is c.same-2.ensures) ∙ c.if-same-2.true) refl
+    rw (sym (same_is c.same.ensures) ∙ c.if-same.false, sym (same_is c.same-2.ensures) ∙ c.if-same-2.true) refl
 
 pub returns-then-same-3 : goal.returns-then-same-3
 unfolding asked_by
 returns-then-same-3 c =
-    let two = c.before.before.before in
-    let one = two.before.before.before in
-    let no-help = sym (same_is one.before.same.ensures) ∙ one.if1.false in
-    let no-h = sym (same_is two.before.same2.ensures) ∙ two.if2.false in
+    let no-help = sym (same_is c.same.ensures) ∙ c.if-same.false in
+    let no-h = sym (same_is c.same-2.ensures) ∙ c.if-same-2.false in
     rw (no-help, no-h, sym (same_is c.same-3.ensures) ∙ c.if-same-3.true) refl
 
 pub returns : goal.returns
 unfolding asked_by
 returns c =
-    let two = c.before.before.before in
-    let one = two.before.before.before in
-    let no-help = sym (same_is one.before.same.ensures) ∙ one.if1.false in
-    let no-h = sym (same_is two.before.same2.ensures) ∙ two.if2.false in
+    let no-help = sym (same_is c.same.ensures) ∙ c.if-same.false in
+    let no-h = sym (same_is c.same-2.ensures) ∙ c.if-same-2.false in
     rw (no-help, no-h, sym (same_is c.same-3.ensures) ∙ c.if-same-3.false) refl

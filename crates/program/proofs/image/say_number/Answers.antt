@@ -9,4 +9,4 @@ pub decimal-end-requires : goal.decimal-end-requires
 decimal-end-requires c = (c.requires, omega (arith, places_up_to 4 c.args.n c.requires))
 
 pub slice_bounds-write_all-end : goal.slice_bounds-write_all-end
-slice_bounds-write_all-end c = sym (length-take-le c.decimal-end.result c.decimal-end.new.0 (omega (arith, c.decimal-end.ensures.0.within, c.decimal-end.ensures.0.size)))
+slice_bounds-write_all-end c = sym (length-take-le c.decimal-end.result c.decimal-end.new.out (omega (arith, c.decimal-end.ensures.wrote.within, c.decimal-end.ensures.wrote.size)))

@@ -6,10 +6,10 @@ use Rattle.io.proofs.Counting.{prefix_len_of_le}
 use Rattle.program.proofs.part.fill.Goals as goal
 
 pub loop-done-init : goal.loop-done-init
-loop-done-init c = (omega arith, refl)
+loop-done-init g c = (omega arith, refl)
 
 pub returns-then-count-eq0 : goal.returns-then-count-eq0
-returns-then-count-eq0 c = prefix_len_of_le _ _ (omega arith)
+returns-then-count-eq0 g c = prefix_len_of_le _ _ (omega arith)
 
 pub returns : goal.returns
-returns c = prefix_len_of_le _ _ (omega arith)
+returns g c = prefix_len_of_le _ _ (omega arith)

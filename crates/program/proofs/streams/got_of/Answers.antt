@@ -12,6 +12,4 @@ negative (pos k) = leb-suc-zero k
 negative (negsuc k) = refl
 
 pub returns : goal.returns
-returns c =
-    let start = c.before.before in
-    (rw (c.count.ensures.1, to_z-of_z start.ranges.answer, negative), c.count.ensures.0)
+returns c = record { value = rw (c.count.ensures.value, to_z-of_z c.ranges.answer, negative); prefix_len = c.count.ensures.in_bounds }

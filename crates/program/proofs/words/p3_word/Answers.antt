@@ -6,12 +6,12 @@ use Rattle.program.proofs.words.p3_word.Goals as goal
 
 pub returns-then-not-also_writable : goal.returns-then-not-also_writable
 unfolding p3_word
-returns-then-not-also_writable c = rw (sym c.also_writable.ensures ∙ not-true _ c.if-not-also_writable.true)
+returns-then-not-also_writable c = rw (sym c.also_writable.ensures ∙ c.if-not-also_writable.true)
 
 pub returns-in_default : goal.returns-in_default
 unfolding p3_word
-returns-in_default c = rw (sym c.also_writable.ensures ∙ not-false _ c.if-not-also_writable.false, sym c.read_number.ensures ∙ c.in_default.is)
+returns-in_default c = rw (sym c.also_writable.ensures ∙ c.if-not-also_writable.false, sym c.read_number.ensures ∙ c.in_default.is)
 
 pub returns : goal.returns
 unfolding p3_word
-returns c = rw (sym c.also_writable.ensures ∙ not-false _ c.if-not-also_writable.false, sym c.read_number.ensures ∙ c.in-Value.is) c.made.ensures
+returns c = rw (sym c.also_writable.ensures ∙ c.if-not-also_writable.false, sym c.read_number.ensures ∙ c.in-Value.is) c.made.ensures
