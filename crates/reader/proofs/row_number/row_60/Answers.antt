@@ -26,4 +26,4 @@ pub returns-in-6 : goal.returns-in-6
 returns-in-6 c ds = rw c.in-6.is (unfold row_number row_with in refl)
 
 pub returns-in_default : goal.returns-in_default
-returns-in_default c ds = let e : c.args.l ≡ 7 = eqb→eq c.args.l 7 (rest_at (λ k. eqb k 7) (3 ∷ 6 ∷ 5 ∷ 4 ∷ 2 ∷ 1 ∷ 0 ∷ []) 8 tt c.args.l (omega arith) (c.in-0.rest, c.requires.1)) in rw e (unfold row_number row_with in refl)
+returns-in_default c ds = let e : c.args.l ≡ 7 = eqb→eq c.args.l 7 (rest_at (λ k. eqb k 7) (3 ∷ 6 ∷ 5 ∷ 4 ∷ 2 ∷ 1 ∷ 0 ∷ []) 8 tt c.args.l (omega arith) (c.in_default.in_default-own.rest, c.requires.1)) in rw e (unfold row_number row_with in refl)

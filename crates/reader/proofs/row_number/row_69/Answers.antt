@@ -37,4 +37,4 @@ pub returns-in-255 : goal.returns-in-255
 returns-in-255 c ds = rw c.in-255.is (unfold row_number row_with in refl)
 
 pub returns-in_default : goal.returns-in_default
-returns-in_default c ds = ⊎_elim (λ e. rw e (unfold row_number row_with in refl)) (λ e. rw e (unfold row_number row_with in refl)) (unnamed c.args.b1 (omega arith) (omega arith) c.in-244.rest)
+returns-in_default c ds = ⊎_elim (λ e. rw e (unfold row_number row_with in refl)) (λ e. rw e (unfold row_number row_with in refl)) (unnamed c.args.b1 (omega arith) (omega arith) c.in_default.in_default-own.rest)
