@@ -1,6 +1,6 @@
 -- Every run that spares the stack ends within N.
 use mathlib.Core.Path.{◌≡◌, refl, sym, ◌∙◌}
-use mathlib.Core.Logic.{◌⊎◌, inl, inr, ⊎_elim}
+use mathlib.Core.Logic.{◌⊎◌}
 use mathlib.Core.Bool.{Bool, true, false}
 use mathlib.Core.List.{List, [], ◌∷◌}
 use Prim.Native.Nat.{ℕ, suc, ◌+◌, ◌-◌, ◌≤◌, ◌<◌}
@@ -16,7 +16,7 @@ use Rattle.routines.specs.Answer.{bounds, Judged, HasBound, PathAnswer, FlowAnsw
 use Rattle.routines.proofs.Within.{Kind, kind_of, edge_on, edge-call, out-excluded}
 use Rattle.routines.proofs.Done.{Nested, none, inner, in-lt}
 use Rattle.routines.proofs.Exists.{path-head, has-path}
-use Rattle.routines.specs.Runs.{Machine, GoesPast, EndsAt, now, later, Spares, SparesStack, Standard, Follows, OneStep, EndsWithin}
+use Rattle.routines.specs.Runs.{Machine, GoesPast, now, later, Spares, SparesStack, Standard, Follows, OneStep, EndsWithin}
 
 -- the levels from i up to the top hold the addresses of these places
 Holds : (ℕ → ℕ) → (ℕ → ℕ) → ℕ → ℕ → List ℕ → Type 0

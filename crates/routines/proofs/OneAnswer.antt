@@ -1,17 +1,16 @@
 -- Any two answers to one question are equal: what comes back, and both buffers.
-use mathlib.Core.Path.{◌≡◌, refl, sym, ap, ap₂, ◌∙◌}
+use mathlib.Core.Path.{◌≡◌, refl, sym, ap, ◌∙◌}
 use mathlib.Core.Bool.{Bool}
 use mathlib.Core.List.{List}
-use Prim.Native.Nat.{ℕ, ◌*◌}
+use Prim.Native.Nat.{ℕ}
 use native.Mathlib.Omega.{arith}
-use lib.ListN.{length}
-use Rattle.graph.specs.Graph.{Least, sum}
+use Rattle.graph.specs.Graph.{sum}
 use Rattle.graph.proofs.Unique.{least_unique}
-use Rattle.routines.specs.Calling.{Flow, Recurs, IsBad, IsLoop, HandlerPath, depth, FirstOf}
+use Rattle.routines.specs.Calling.{Flow, depth}
 use Rattle.routines.specs.Shape.{Small, Widens}
-use Rattle.routines.specs.Answer.{Found, recursion, excluded, repetition, short, too_large, bounds, LowestAddress, Judged, HasBound, Kept, PathAnswer, FlowAnswer, Answer}
+use Rattle.routines.specs.Answer.{Found, recursion, excluded, repetition, LowestAddress, Judged, HasBound, Kept, PathAnswer, FlowAnswer, Answer}
 use Rattle.routines.proofs.First.{first_unique}
-use Rattle.routines.proofs.Same.{bad-to, loop-to, lowest-bad-to, lowest-loop-to, first_to}
+use Rattle.routines.proofs.Same.{lowest-bad-to, lowest-loop-to, first_to}
 
 -- what came back, and what the buffers became
 abbrev pub Same : Found → Found → List ℕ → List ℕ → List ℕ → List ℕ → Type 0

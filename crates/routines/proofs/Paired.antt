@@ -3,11 +3,11 @@ use mathlib.Core.Path.{◌≡◌, refl, sym, ap₂, subst, ◌∙◌}
 use mathlib.Core.Logic.{◌⊎◌, inl, inr, ⊎_elim}
 use mathlib.Core.Bool.{Bool, true, false}
 use mathlib.Core.List.{List, [], ◌∷◌}
-use Prim.Native.Nat.{ℕ, suc, ◌+◌, ◌*◌, ◌/◌, ◌%◌, max}
+use Prim.Native.Nat.{ℕ, ◌+◌}
 use lib.ListN.{length}
 use Rattle.laws.specs.Choice.{pick}
-use Rattle.graph.specs.Graph.{Edge, Reach, here, step, sum, Least}
-use Rattle.routines.specs.Calling.{Flow, Routine, outer, called, start_in, end_of, after, within, In, Live, handler, call, unknown, ReturnsKnown, Knows, Plus, once, more, Calls, Recurs, IsBad, IsLoop, Path, rti, goes, calls, ret, HandlerPath, opened, deepest, depth, Before, turns, later, FirstOf}
+use Rattle.graph.specs.Graph.{Edge, Reach, here, step, sum}
+use Rattle.routines.specs.Calling.{Flow, Routine, called, start_in, after, within, In, Live, handler, call, unknown, Knows, Plus, once, more, Calls, Recurs, IsBad, IsLoop, Path, rti, goes, calls, ret, HandlerPath, opened, deepest, Before, turns, later, FirstOf}
 use Rattle.routines.specs.Answer.{LowestAddress, bytes_of, Found, Judged, HasBound, PathAnswer, gives_25, gives_23, gives_23_depth, gives_n, FlowAnswer, gives_21, gives_22, bounded, Answer, gives_24, judged}
 use Rattle.routines.proofs.Within.{edge_on, edge-call, edge-cases}
 
@@ -161,6 +161,8 @@ module _ {f g : Flow} {S : ℕ → ℕ → Type 0} (a : Paired f g S) where
   before-to : {l m h k : List ℕ} → Both S l h → Both S m k → Before f l m → Before g h k
   before-to (pair s (pair t b)) (pair s' (pair t' b')) (turns k n o ne) =
       rw (a.one s' s) (turns (sym (a.kind s) ∙ k) (a.one t (rw n (a.next s k))) (a.one t' (rw o (a.other s k))) (λ e. ne (a.one_back t (rw e t'))))
+  before-to none _ x = elim x [ ]
+  before-to (pair s b) none x = elim x [ ]
   before-to (pair s b) (pair s' b') (later x) = rw (a.one s' s) (later (before-to b b' x))
 
   depth-to : (n : ℕ) {l m : List ℕ} → Both S l m → deepest f.kind n l ≡ deepest g.kind n m

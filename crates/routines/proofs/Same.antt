@@ -1,13 +1,13 @@
 -- Where nothing recurs, what is known after calls is determined wherever it is asked for; and what is asked of the flow is the same by any K that says it.
 use mathlib.Core.Path.{◌≡◌, refl, sym, ap, ◌∙◌}
-use mathlib.Core.Logic.{◌⊎◌, inl, inr, ⊎_elim}
+use mathlib.Core.Logic.{◌⊎◌, inl, inr}
 use mathlib.Core.Bool.{Bool, true, false}
-use mathlib.Core.List.{List, [], ◌∷◌}
-use Prim.Native.Nat.{ℕ, ◌≤◌}
+use mathlib.Core.List.{List}
+use Prim.Native.Nat.{ℕ}
 use Rattle.laws.specs.Choice.{pick}
-use Rattle.graph.specs.Graph.{Edge, Reach, here, step, Excluded, Least}
+use Rattle.graph.specs.Graph.{Edge, Reach, here, step}
 use Rattle.graph.proofs.Reach.{reach_snoc}
-use Rattle.routines.specs.Calling.{Flow, Routine, outer, called, start_in, after, within, In, Live, handler, call, Knows, Calls, Recurs, IsBad, IsLoop, Path, rti, goes, calls, ret, HandlerPath, Before, FirstOf}
+use Rattle.routines.specs.Calling.{Flow, Routine, called, start_in, after, within, In, Live, handler, call, Knows, Calls, IsBad, IsLoop, Path, rti, goes, calls, ret, HandlerPath, FirstOf}
 use Rattle.routines.specs.Shape.{Small, Widens}
 use Rattle.routines.specs.Answer.{LowestAddress, Judged}
 use Rattle.routines.proofs.Within.{edge-cases, edge_on, edge-call}
@@ -80,8 +80,8 @@ module _ {f : Flow} {n E : ℕ} (small : Small f n E) (widens : Widens f) {K K' 
   path-in n live i (rti k) = rti k
   path-in {r} n live i (goes k e p) = goes k e (path-in n live (reach_snoc i (edge_on f K r k e)) p)
   path-in {r} n live i (calls {v} k p) =
-      calls k (rw (after_same f K K' v (known-to (f.entry v) (call live i k))) at (path-in (inner n live i k) (call live i k) here p))
-  path-in (inner {r = r} n live' j c) live i (ret k p) = ret k (path-in n live' (reach_snoc j (edge-call f K r c)) p)
+      calls k (rw (after_same f K K' v (known-to (f.entry v) (call live i k))) at (path-in {r = called (f.entry v)} (inner n live i k) (call live i k) here p))
+  path-in (inner {r = r} n live' j c) live i (ret k p) = ret k (path-in {r = r} n live' (reach_snoc j (edge-call f K r c)) p)
 
   pub path-to : {l : List ℕ} → HandlerPath f K l → HandlerPath f K' l
   path-to p = path-in none handler here p
