@@ -15,4 +15,4 @@ pub returns-in-84 : goal.returns-in-84
 returns-in-84 c = rw (c.in-84.is, c.latched-in-84.ensures) (eicil _ _)
 
 pub returns-in_default : goal.returns-in_default
-returns-in_default c = rw (first (85 ∷ 84 ∷ 83 ∷ 82 ∷ []) _ c.requires.1 (search rules), c.exchanged.ensures) (exae _ _)
+returns-in_default c = rw (first (85 ∷ 84 ∷ 83 ∷ 82 ∷ []) c.args.row c.requires.1 (search rules), c.exchanged.ensures) (exae _ _)

@@ -29,4 +29,4 @@ returns-in_default c =
     let if1 = c.if-not-can_pop in
     let held2 = c.held-in_default in
     let return-flags = c.return_flags in
-    rw (first (86 ∷ 73 ∷ []) _ pre.1 (search rules)) (rti _ _ _ _ (rw (← can-pop.ensures) (not-false _ if1.false)) (rw (← held2.ensures, ← return-flags.ensures) c.moved_on-in_default.ensures))
+    rw (first (86 ∷ 73 ∷ []) c.args.row pre.1 (search rules)) (rti _ _ _ _ (rw (← can-pop.ensures) if1.false) (rw (← held2.ensures, ← return-flags.ensures) c.moved_on-in_default.ensures))

@@ -22,4 +22,4 @@ pub returns-in-97 : goal.returns-in-97
 returns-in-97 c = rw (c.in-97.is, c.acc_loaded-in-97.ensures, c.nibble_at-in-97.ensures) (ldatbh _ (eq-eqb _ 0 c.requires.1))
 
 pub returns-in_default : goal.returns-in_default
-returns-in_default c = rw (first load_timer _ c.requires.0.listed (search rules), c.acc_loaded-in_default.ensures) (ldatal _ (eq-eqb _ 0 c.requires.1))
+returns-in_default c = rw (first load_timer c.args.row c.requires.0.listed (search rules), c.acc_loaded-in_default.ensures) (ldatal _ (eq-eqb _ 0 c.requires.1))

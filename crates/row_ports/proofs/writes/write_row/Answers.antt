@@ -21,4 +21,4 @@ pub returns-in-76 : goal.returns-in-76
 returns-in-76 c = rw (c.in-76.is, c.written.ensures) (out _ _ _ _)
 
 pub returns-in_default : goal.returns-in_default
-returns-in_default c = rw (first writing _ c.requires.listed (search rules), c.written-in_default.ensures) (outa _ _ _ _)
+returns-in_default c = rw (first writing c.args.row c.requires.listed (search rules), c.written-in_default.ensures) (outa _ _ _ _)
