@@ -5,7 +5,6 @@ use Rattle.laws.proofs.Among.{first}
 use Rattle.record.proofs.Range.{can-push}
 use borrow.Author.Rules.{rules}
 use Rattle.row_control.proofs.Calling.{lcall, scall, stop}
-use borrow.Author.Tests.{not-true, not-false}
 use Rattle.row_control.proofs.calls.call.Goals as goal
 
 pub returns-then-not-can_push : goal.returns-then-not-can_push

@@ -7,7 +7,6 @@ use Rattle.record.proofs.Range.{can-pop}
 use Rattle.row.proofs.Turns.{same_given}
 use borrow.Author.Rules.{rules}
 use Rattle.row_control.proofs.Returning.{ret, rti, stop}
-use borrow.Author.Tests.{not-true, not-false}
 use Rattle.row_control.proofs.returns.come_back.Goals as goal
 
 pub returns-then-not-can_pop : goal.returns-then-not-can_pop
