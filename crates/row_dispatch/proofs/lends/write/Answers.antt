@@ -15,4 +15,4 @@ pub write_by_y-requires : goal.write_by_y-requires
 write_by_y-requires c = fits c.requires.0.core c.requires.2 12 c.in-12.is c.requires.1
 
 pub exchange_pair-requires : goal.exchange_pair-requires
-exchange_pair-requires c = fits c.requires.0.core c.requires.2 13 (last (12 ∷ 11 ∷ 10 ∷ []) 10 14 13 tt _ c.requires.3 c.requires.4 (search rules)) c.requires.1
+exchange_pair-requires c = fits c.requires.0.core c.requires.2 13 (last (12 ∷ 11 ∷ 10 ∷ []) 10 14 13 tt c.args.group c.requires.3 c.requires.4 (search rules)) c.requires.1
