@@ -1,5 +1,5 @@
 -- Document 02, Q-3: "The reader goes through the lent text record by record". What is found at a place of the text: a line, judged, and the place after it; or that the text is over.
-use Rattle.std.specs.Prelude.{ℕ, ◌+◌, ◌-◌, ◌<◌, ◌≤◌, ◌≡◌, List, ◌∷◌, length, drop}
+use Rattle.std.specs.Prelude.{ℕ, ◌-◌, ◌<◌, ◌≤◌, ◌≡◌, List, ◌∷◌, length, drop}
 use Rattle.hex_reader.specs.Record.{line_of}
 use Rattle.hex_reader.specs.Reads.{meaning_of, Placed, Long}
 use Rattle.hex_reader.specs.declared.line.Line.{Line}

@@ -1,5 +1,5 @@
 -- Keys, and the search for the lowest.
-use Rattle.std.proofs.Common.{◌≡◌, ℕ, ◌+◌, ◌-◌, ◌*◌, ◌/◌, ◌%◌, ◌<◌, ◌≤◌, Bool, true, false, not, ◌⊎◌, List, length, get_or, sym, refl, ap, ◌∙◌, inl, inr, ⊎_elim, arith, le-ltb, lt-ltb}
+use Rattle.std.proofs.Common.{◌≡◌, ℕ, ◌+◌, ◌-◌, ◌*◌, ◌/◌, ◌%◌, ◌<◌, ◌≤◌, Bool, true, false, not, ◌⊎◌, List, get_or, sym, refl, ◌∙◌, inl, inr, arith, le-ltb, lt-ltb}
 use native.Mathlib.Decide.{ℕ_discrete, dec_lt}
 use Rattle.graph_search.specs.Marks.{OnQ, Queue}
 use Rattle.routines_numbered.specs.Packed.{name_in}

@@ -13,4 +13,4 @@ pub returns-in-2 : goal.returns-in-2
 returns-in-2 c = (rw c.in-2.is, omega arith)
 
 pub returns-in_default : goal.returns-in_default
-returns-in_default c = (rw (ne_eqb _ 4 c.in-4.rest.0.0.1, ne_eqb _ 3 c.in-4.rest.0.1, ne_eqb _ 2 c.in-4.rest.1), omega arith)
+returns-in_default c = (rw (ne_eqb _ 4 c.in_default.in_default-own.rest.0.0.1, ne_eqb _ 3 c.in_default.in_default-own.rest.0.1, ne_eqb _ 2 c.in_default.in_default-own.rest.1), omega arith)

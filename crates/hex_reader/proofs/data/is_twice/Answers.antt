@@ -1,7 +1,6 @@
 -- `hex_reader::data::is_twice` meets its contract: up to i no address was given.
 use mathlib.Core.Path.{sym, ◌∙◌}
-use mathlib.Core.Bool.{false}
-use Prim.Native.Nat.{◌+◌, ◌-◌}
+use Prim.Native.Nat.{◌+◌}
 use Rattle.hex_reader.specs.Work.{bit_of}
 use Rattle.hex_reader.proofs.data.Some.{some_true, some_false, clear_more}
 use native.Mathlib.Omega.{arith}

@@ -29,7 +29,7 @@ store-requires c =
     let p = c.requires in
     let within = none-past _ a.address a.count (sym c.is_past.ensures ∙ c.if-is_past.false) in
     let clear = sym c.is_twice.ensures ∙ c.if-is_twice.false in
-    (p.0, (p.1, within, none_true (λ k. bit_of a.size a.work.now (a.address + k)) a.count clear))
+    record { stands = p.0; work_len = (p.1, within, none_true (λ k. bit_of a.size a.work.now (a.address + k)) a.count clear) }
 
 pub returns : goal.returns
 returns c =
@@ -37,4 +37,4 @@ returns c =
     let n = bytes-at-length a.text.now a.first a.count c.requires.0.within in
     let within = sym c.is_past.ensures ∙ c.if-is_past.false in
     let once = sym c.is_twice.ensures ∙ c.if-is_twice.false in
-    let held = c.store.ensures in takes-it _ _ _ a.count n _ within once held.0 held.1
+    let held = c.store.ensures in takes-it _ _ _ a.count n _ within once held.work_len_unchanged held.holds

@@ -1,6 +1,5 @@
 -- `hex_reader::line::are_digits` meets its contract: from i on the digits are still to be seen.
 use mathlib.Core.Path.{refl, ◌∙◌}
-use Prim.Native.Nat.{◌-◌}
 use Rattle.hex_reader.proofs.line.Characters.{digits-no, digits-on, digits-past}
 use native.Mathlib.Omega.{arith}
 use Rattle.hex_reader.proofs.line.are_digits.Goals as goal

@@ -1,5 +1,5 @@
 -- `hex_reader::line::sum_from` meets its contract: from i on the pairs are still to be added.
-use Prim.Native.Nat.{◌+◌, ◌-◌}
+use Prim.Native.Nat.{◌+◌}
 use lib.ListN.{get_or}
 use Rattle.hex_reader.proofs.line.Pairs.{byte_up_to_272}
 use Rattle.hex_reader.proofs.line.Characters.{sum-on, sum_past}

@@ -1,6 +1,5 @@
 -- `hex_reader::work::copy_image` meets its contract: up to i the image is copied.
 use mathlib.Core.Path.{refl, ◌∙◌}
-use Prim.Native.Nat.{◌-◌}
 use lib.ListN.{length, get_or, length-set}
 use Rattle.hex_reader.proofs.work.Fills.{copied_more, copied_all}
 use native.Mathlib.Omega.{arith}

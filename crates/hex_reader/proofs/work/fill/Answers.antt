@@ -1,6 +1,5 @@
 -- `hex_reader::work::fill` meets its contract: up to i the part is filled.
 use mathlib.Core.Path.{◌≡◌}
-use Prim.Native.Nat.{◌-◌}
 use Rattle.hex_reader.proofs.work.Fills.{filled_none, filled_more}
 use native.Mathlib.Omega.{arith}
 use Rattle.hex_reader.proofs.work.fill.Goals as goal

@@ -1,6 +1,7 @@
 -- `hex_reader::work::put` meets its contract.
 use lib.ListN.{get_or, length-set}
-use Prim.Native.Nat.{◌+◌, ◌/◌, ◌%◌}
+use Prim.Native.Nat.{◌+◌, ◌/◌, ◌%◌, ◌<◌}
+use borrow.Author.Rules.{rules}
 use Rattle.hex_reader.proofs.work.Puts.{sum_fits, stored, puts}
 use native.Mathlib.Omega.{arith}
 use Rattle.hex_reader.proofs.work.put.Goals as goal
@@ -9,7 +10,8 @@ pub overflow_add-bits : goal.overflow_add-bits
 overflow_add-bits c =
     let a = c.args in
     let at = a.size + a.address / 8 in
-    let fits = sum_fits (get_or a.work.now at 0) (a.address % 8) 0 (c.type_inv.work at).fits (omega arith) (omega arith) c.requires.2 in
+    let small : get_or a.work.now at 0 < 256 = omega arith in
+    let fits = sum_fits (get_or a.work.now at 0) (a.address % 8) 0 small (omega arith) (omega arith) c.requires.2 in
     record { fits = rw c.weight.ensures fits }
 
 pub bounds-work-at-2 : goal.bounds-work-at-2
@@ -20,5 +22,5 @@ unfolding stored
 returns c =
     let a = c.args in
     let p = c.requires in
-    let small = (c.type_inv.work (a.size + a.address / 8)).fits in
+    let small : get_or a.work.now (a.size + a.address / 8) 0 < 256 = search rules in
     rw c.weight.ensures (puts a.size a.work.now a.address a.byte p.0 p.1 p.2 small)
