@@ -1,11 +1,11 @@
 -- A text's lines, by its first line.
-use mathlib.Core.Path.{◌≡◌, refl, sym, ◌∙◌}
+use mathlib.Core.Path.{◌≡◌, refl}
 use mathlib.Core.Bool.{Bool, true, false}
 use mathlib.Core.List.{List, [], ◌∷◌, ◌++◌, append-nil}
 use Prim.Native.Nat.{ℕ}
 use Rattle.laws.proofs.Computed.{true→T}
 use Rattle.text.specs.Script.{is_lf}
-use Rattle.compare_lines.specs.Lines.{Line, whole, on_line, cut}
+use Rattle.compare_lines.specs.Lines.{Line, whole, cut}
 use Rattle.compare_lines.specs.Left.{plain}
 
 pub plain_first : (c : ℕ) (w : List ℕ) (t : Bool) → is_lf c ≡ t → plain (c ∷ w) ≡ true → (is_lf c ≡ false) × (plain w ≡ true)

@@ -9,14 +9,12 @@ use borrow.Author.Tests.{eq-eqb, eqb-true, ltb-true, ltb-false}
 use lib.Dec.{eqb, ltb}
 use lib.ListN.{length, take, drop, length-append, length-drop, drop_of_length-le, take-append-drop}
 use lib.Seq.{take-append-le, take_all}
-use Rattle.laws.specs.Choice.{pick}
 use Rattle.laws.proofs.Computed.{true→T}
 use Rattle.text.specs.Script.{is_lf}
 use Rattle.text.specs.Same.{same_text}
-use Rattle.compare_lines.specs.Lines.{Line, whole, cut, differ_from}
+use Rattle.compare_lines.specs.Lines.{whole, cut, differ_from}
 use Rattle.compare_lines.specs.Left.{plain, OneLine, left_of, settled, Hears, Heeds, CutShort, Onward}
-use Rattle.compare_lines.specs.declared.Compared.{Compared}
-use Rattle.compare_lines.specs.declared.Compared.TheVariants.{Same, Differs}
+use Rattle.compare_lines.specs.declared.Compared.TheVariants.{Differs}
 use Rattle.compare_lines.specs.declared.Heard.{Heard}
 use Rattle.compare_lines.specs.declared.Phase.{Phase}
 use Rattle.compare_lines.specs.declared.Phase.TheVariants.{Matching, Judging, Found}

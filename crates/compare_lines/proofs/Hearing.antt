@@ -2,7 +2,7 @@
 use mathlib.Core.Path.{◌≡◌, refl, sym, ap, ◌∙◌}
 use mathlib.Core.Bool.{Bool, true, false}
 use mathlib.Core.List.{List, [], ◌∷◌, ◌++◌, append_assoc, append-nil}
-use Prim.Native.Nat.{ℕ, zero, suc, ◌+◌, ◌-◌, ◌<◌, ◌≤◌}
+use Prim.Native.Nat.{ℕ, suc, ◌+◌, ◌-◌, ◌<◌, ◌≤◌}
 use native.Mathlib.Decide.{ℕ_discrete}
 use native.Mathlib.Numerals.{add-one}
 use native.Mathlib.Omega.{arith}
@@ -14,11 +14,9 @@ use Rattle.laws.specs.Choice.{pick}
 use Rattle.text.specs.Script.{is_lf}
 use Rattle.compare_lines.specs.Lines.{cut, is_blank, differ_from}
 use Rattle.compare_lines.specs.Left.{plain, OneLine, clash, spaced_from, spaced_of, blanks_in, left_of, Placed, Runs, Hears}
-use Rattle.compare_lines.specs.declared.Compared.{Compared}
-use Rattle.compare_lines.specs.declared.Compared.TheVariants.{Same, Differs}
+use Rattle.compare_lines.specs.declared.Compared.TheVariants.{Differs}
 use Rattle.compare_lines.specs.declared.Phase.{Phase}
-use Rattle.compare_lines.specs.declared.Phase.TheVariants.{Matching, Judging, Found}
-use Rattle.compare_lines.specs.declared.Heard.{Heard}
+use Rattle.compare_lines.specs.declared.Phase.TheVariants.{Matching}
 use Rattle.compare_lines.specs.declared.Form.{Form}
 use Rattle.compare_lines.proofs.Cutting.{plain_first, plain_parts}
 use Rattle.compare_lines.proofs.Parting.{Apart, apart_ended, apart_theirs, apart_other, named, differs_apart}

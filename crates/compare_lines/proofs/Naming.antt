@@ -1,19 +1,18 @@
 -- Two listings are the same exactly where `Same` is answered, and what is named differs.
 use mathlib.Core.Path.{◌≡◌, refl, sym, ap, ◌∙◌}
-use mathlib.Core.Bool.{Bool, true, false, not}
+use mathlib.Core.Bool.{Bool, true, false}
 use mathlib.Core.List.{List, [], ◌∷◌, ◌++◌}
-use Prim.Native.Nat.{ℕ, zero, suc, ◌+◌, ◌<◌, ◌≤◌}
+use Prim.Native.Nat.{ℕ, zero, suc, ◌+◌, ◌<◌}
 use native.Mathlib.Omega.{arith}
 use borrow.Author.Tests.{eqb-true, eq-eqb, ne_eqb}
 use lib.Dec.{eqb}
-use lib.ListN.{length, get_or, take, drop}
+use lib.ListN.{length, get_or, take}
 use Rattle.laws.specs.Choice.{pick, both}
 use Rattle.laws.proofs.Computed.{true→T}
 use Rattle.text.specs.Script.{is_lf, on_first}
 use Rattle.text.specs.Same.{same_text}
-use Rattle.compare_lines.specs.Lines.{Line, whole, on_line, cut, is_blank, parts_of, full, full_parts, spaced, same_end, same_line, field_from, field_of, differ_from, difference_of}
-use Rattle.compare_lines.specs.Named.{FieldNamed, FirstDiffers, LineNamed, Named, DifferenceTells}
-use Rattle.compare_lines.specs.declared.Compared.{Compared}
+use Rattle.compare_lines.specs.Lines.{Line, on_line, cut, is_blank, parts_of, full, full_parts, spaced, same_end, same_line, field_from, field_of, differ_from, difference_of}
+use Rattle.compare_lines.specs.Named.{FieldNamed, LineNamed, Named, DifferenceTells}
 use Rattle.compare_lines.specs.declared.Compared.TheVariants.{Same, Differs}
 use Rattle.compare_lines.proofs.Ending.{same_text_lem}
 

@@ -1,22 +1,19 @@
 -- Where two lines part, the first field that differs is the one that they have come to.
 use mathlib.Core.Path.{◌≡◌, refl, sym, ap, ◌∙◌}
-use mathlib.Core.Bool.{Bool, true, false, not}
-use mathlib.Core.List.{List, [], ◌∷◌, ◌++◌, append_assoc}
-use Prim.Native.Nat.{ℕ, zero, suc, ◌+◌, ◌<◌, ◌≤◌}
+use mathlib.Core.Bool.{Bool, true, false}
+use mathlib.Core.List.{List, [], ◌∷◌, ◌++◌}
+use Prim.Native.Nat.{ℕ, ◌+◌}
 use native.Mathlib.Omega.{arith}
 use borrow.Author.Tests.{eq-eqb, ne_eqb, eqb-true}
 use lib.Dec.{eqb}
-use lib.ListN.{length, get_or, take, drop}
-use Rattle.laws.specs.Choice.{pick, both, either}
+use Rattle.laws.specs.Choice.{pick}
 use Rattle.laws.proofs.Choices.{both_false}
-use Rattle.laws.proofs.Computed.{true→T}
 use Rattle.text.specs.Script.{is_lf, on_first}
 use Rattle.text.specs.Same.{same_text}
-use Rattle.compare_lines.specs.Lines.{Line, whole, cut, is_blank, parts_of, spaced, same_end, same_line, field_from, field_of, differ_from}
+use Rattle.compare_lines.specs.Lines.{Line, cut, is_blank, parts_of, same_end, field_from, differ_from}
 use Rattle.compare_lines.specs.Left.{spaced_from, plain, blanks_in, clash}
-use Rattle.compare_lines.specs.declared.Compared.{Compared}
-use Rattle.compare_lines.specs.declared.Compared.TheVariants.{Same, Differs}
-use Rattle.compare_lines.proofs.Cutting.{plain_parts, cut_joined, cut_whole, Opens, opens}
+use Rattle.compare_lines.specs.declared.Compared.TheVariants.{Differs}
+use Rattle.compare_lines.proofs.Cutting.{plain_parts, cut_joined, cut_whole, opens}
 use Rattle.compare_lines.proofs.Spacing.{Headed, headed, spaced_first}
 
 same_front : (w v s : List ℕ) → same_text (w ++ v) (w ++ s) ≡ same_text v s

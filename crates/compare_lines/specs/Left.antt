@@ -4,7 +4,7 @@ use Rattle.laws.specs.Choice.{pick, both, either}
 use Rattle.text.specs.Script.{is_lf}
 use Rattle.compare_lines.specs.Lines.{is_blank, cut, differ_from}
 use Rattle.compare_lines.specs.declared.Compared.{Compared}
-use Rattle.compare_lines.specs.declared.Compared.TheVariants.{Same, Differs}
+use Rattle.compare_lines.specs.declared.Compared.TheVariants.{Differs}
 use Rattle.compare_lines.specs.declared.Form.{Form}
 use Rattle.compare_lines.specs.declared.Form.TheVariants.{Open, Spaced, Broken}
 use Rattle.compare_lines.specs.declared.Phase.{Phase}

@@ -1,5 +1,5 @@
 -- What it means that a line and a field are named: they differ, and all before them is the same.
-use Rattle.std.specs.Prelude.{ℕ, ◌+◌, ◌<◌, ◌≡◌, true, false, List, [], ◌∷◌, length, get_or, take, drop}
+use Rattle.std.specs.Prelude.{ℕ, ◌+◌, ◌<◌, ◌≡◌, true, List, [], ◌∷◌, get_or, take, drop}
 use Rattle.compare_lines.specs.Lines.{Line, cut, parts_of, spaced, difference_of}
 use Rattle.compare_lines.specs.declared.Compared.TheVariants.{Same, Differs}
 

@@ -176,8 +176,8 @@ fn clashes(a: u8, c: u8) -> bool
 }
 
 fn phase_of(field: u8, form: Form) -> Phase
-    ensures left { (n : ℕ) (line ours rest : List ℕ) → left_of result n line ours rest ≡ Compared.Differs n (pick (spaced_of form rest) field 0) }
-    ensures placed { (size : ℕ) → Placed result size }
+    ensures by_index { (n : ℕ) (line ours rest : List ℕ) → left_of result n line ours rest ≡ Compared.Differs n (pick (spaced_of form rest) field 0) }
+    ensures by_index_2 { (size : ℕ) → Placed result size }
 {
     match form {
         Form::Open { left, empty } => Phase::Judging {
@@ -193,8 +193,8 @@ fn phase_of(field: u8, form: Form) -> Phase
 // What is known of a line whose rest begins with another character than ours.
 fn part_ways(n: u64, line: &[u8], at: usize, rest: &[u8]) -> Phase
     requires { (OneLine line.now) × (at < length line.now) × (0 < length rest.now) × (get_or line.now at 0 ≡ get_or rest.now 0 0 → ⊥) }
-    ensures left { (ours more : List ℕ) → left_of (Phase.Matching at) n line.now ours (rest.now ++ more) ≡ left_of result n line.now ours more }
-    ensures placed { (size : ℕ) → Placed result size }
+    ensures by_index { (ours more : List ℕ) → left_of (Phase.Matching at) n line.now ours (rest.now ++ more) ≡ left_of result n line.now ours more }
+    ensures by_index_2 { (size : ℕ) → Placed result size }
 {
     if n == 1 {
         return Phase::Found { field: 0 };

@@ -1,10 +1,9 @@
 -- What the calls on a state in bytes answer, by the way that led there.
-use mathlib.Core.Bool.{Bool, true, false, not}
-use mathlib.Core.Path.{◌≡◌, refl, sym}
+use mathlib.Core.Bool.{Bool, true, false}
+use mathlib.Core.Path.{◌≡◌, refl}
 use mathlib.Core.List.{List, []}
 use Prim.Native.Nat.{ℕ}
 use native.Mathlib.Decide.{ℕ_discrete}
-use native.Mathlib.Omega.{arith}
 use lib.ListN.{length}
 use Rattle.hex_reader.specs.Work.{work_size}
 use Rattle.hex_chunks.specs.Cut.{fed}
@@ -25,13 +24,11 @@ start_new image_size before after s e p c =
     record { no_state = λ n. absurd (n e); new = λ _. (refl, is_state_lem after s p.2 p.0 p.1 ranges, λ work. rw p.1 (c work)) }
 
 -- of a test that the code asks the other way round
-pub is_not : (a : Bool) {b : Bool} → a ≡ b → not a ≡ true → b ≡ true → ⊥
-is_not true e n t = let z : ◌≡◌ {A = ℕ} 0 1 = cc in omega arith
-is_not false e n t = let z : ◌≡◌ {A = ℕ} 0 1 = cc in omega arith
+pub is_not : (a : Bool) {b : Bool} → a ≡ b → a ≡ false → b ≡ true → ⊥
+is_not a e n t = cc
 
-pub is_so : (a : Bool) {b : Bool} → a ≡ b → not a ≡ false → b ≡ true
-is_so true e n = sym e
-is_so false e n = absurd (let z : ◌≡◌ {A = ℕ} 0 1 = cc in omega arith)
+pub is_so : (a : Bool) {b : Bool} → a ≡ b → a ≡ true → b ≡ true
+is_so a e n = cc
 
 unchanged : (refusal : ℕ) (state work image : List ℕ) → Unchanged refusal refusal 0 state state work work image image
 unchanged refusal state work image = record { answer = refl; no_line = refl; state_kept = refl; work_kept = refl; image_kept = refl }

@@ -15,7 +15,7 @@ use Rattle.hex_chunks.specs.declared.Told.{Told}
 use Rattle.hex_chunks.proofs.OneAnswer.{one-feed, one_end}
 use Rattle.hex_calls.specs.Layout.{state_of, is_state}
 use Rattle.hex_calls.specs.Calls.{ReadCall, WriteCall}
-use Rattle.hex_calls.specs.Chunks.{number_of, line_of, StartCall, Unchanged, Given, FeedBytes, EndBytes}
+use Rattle.hex_calls.specs.Chunks.{number_of, line_of, StartCall, Unchanged, FeedBytes, EndBytes}
 
 pub one_read : (image_size : ℕ) (text before after other : List ℕ) (r q line place : ℕ) → ReadCall image_size text before r line after → ReadCall image_size text before q place other → (r ≡ q) × (line ≡ place) × (after ≡ other)
 one_read image_size text before after other r q line place f g =

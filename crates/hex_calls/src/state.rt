@@ -136,7 +136,7 @@ fn held_of(b: &[u8]) -> [u8; 522]
     ensures { result ≡ b.now }
 {
     let mut held = [0u8; HELD_SIZE];
-    bytes::copy(b, &mut held);
+    held.copy_from_slice(b);
     held
 }
 

@@ -1,7 +1,7 @@
 -- Whatever the chunks, empty ones among them: at the end the session tells what Q-3's reader says of the whole text.
 use mathlib.Core.Path.{◌≡◌, refl, ◌∙◌}
 use mathlib.Core.List.{List, [], ◌∷◌, ◌++◌, append_assoc, append-nil}
-use Prim.Native.Nat.{ℕ, ◌+◌}
+use Prim.Native.Nat.{ℕ}
 use Rattle.hex_reader.specs.Progress.{Progress, going, ended, stopped, Reading, refused, after_lines, read_of}
 use Rattle.hex_reader.proofs.progress.Stops.{lines_then, stays}
 use Rattle.hex_reader.specs.Lines.{hex_lines}

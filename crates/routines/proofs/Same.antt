@@ -28,7 +28,7 @@ abbrev pub SameAtCalls : Flow → (ℕ → Bool) → (ℕ → Bool) → Routine 
 SameAtCalls f K K' r = (u : ℕ) → In f K r u → In f K' r u → f.kind u ≡ 3 → K (f.entry u) ≡ K' (f.entry u)
 
 module _ (f : Flow) (K K' : ℕ → Bool) (r : Routine) (same : SameAtCalls f K K' r) where
-  edge_to : {u w : ℕ} → In f K r u → In f K' r u → Edge (within f K r) u w → Edge (within f K' r) u w
+  pub edge_to : {u w : ℕ} → In f K r u → In f K' r u → Edge (within f K r) u w → Edge (within f K' r) u w
   edge_to {u} {w} i j e = go (edge-cases f K r e)
     where
       go : ((f.kind u ≡ 1) × ((w ≡ f.next u) ⊎ (w ≡ f.other u))) ⊎ ((f.kind u ≡ 3) × (w ≡ after f K u)) → Edge (within f K' r) u w
@@ -50,7 +50,7 @@ module _ {f : Flow} {K K' : ℕ → Bool} (knows : Knows f K) (knows' : Knows f 
           (λ t. knows.yes_if e l (λ v i k. knows'.only_if e l' t v (reach-to f K K' (called e) same here here i) k))
 
 module _ {f : Flow} {n E : ℕ} (small : Small f n E) (widens : Widens f) {K K' : ℕ → Bool} (judged : Judged f K) (judged' : Judged f K') where
-  both-same : {r : Routine} → Live f K r → Live f K' r → SameAtCalls f K K' r
+  pub both-same : {r : Routine} → Live f K r → Live f K' r → SameAtCalls f K K' r
   both-same l l' u i j k =
       known_same judged.knows judged'.knows (calls-end f K small widens judged.no_recursion (f.entry u) (call l i k)) (call l i k) (call l' j k)
 

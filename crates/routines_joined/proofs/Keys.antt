@@ -103,14 +103,6 @@ module _ {x : List ℕ} {P : ℕ → Type 0} {q : List ℕ} where
 pub true_false : ◌≡◌ {A = Bool} true false → ⊥
 true_false e = let z : ◌≡◌ {A = ℕ} 0 1 = cc in omega arith
 
-pub was_false : (r : Bool) → not r ≡ true → r ≡ false
-was_false true e = sym e
-was_false false e = refl
-
-pub was_true : (r : Bool) → not r ≡ false → r ≡ true
-was_true true e = refl
-was_true false e = sym e
-
 pub on_lt : {q : List ℕ} {count n y : ℕ} → Queue q count n → OnQ q count y → y < n
 on_lt a (i, h, e) = rw (← e) (a.below i h)
 

@@ -1,5 +1,5 @@
 -- The bytes of a padded message one by one, and how many there are.
-use Rattle.std.proofs.Common.{◌≡◌, ℕ, zero, suc, ◌+◌, ◌-◌, ◌*◌, ◌/◌, ◌%◌, ◌^◌, ◌<◌, ◌≤◌, List, [], ◌∷◌, ◌++◌, length, get_or, replicate, refl, ◌∙◌, arith, length-append, get_or-append-add}
+use Rattle.std.proofs.Common.{◌≡◌, ℕ, zero, suc, ◌+◌, ◌-◌, ◌*◌, ◌/◌, ◌%◌, ◌^◌, ◌<◌, ◌≤◌, List, ◌∷◌, ◌++◌, length, get_or, replicate, refl, ◌∙◌, arith, length-append, get_or-append-add}
 use lib.ListN.{length-replicate, get_or-replicate, get_or-append}
 use Rattle.sha256.specs.Sha256.{big_endian, padded, zero_bytes}
 

@@ -1,5 +1,5 @@
 -- One word more of a schedule, one round more, one block more.
-use Rattle.std.proofs.Common.{◌≡◌, ℕ, suc, ◌+◌, ◌*◌, ◌<◌, List, [], ◌∷◌, ◌++◌, length, get_or, take, set, refl, add-one, take-suc, take-suc-set}
+use Rattle.std.proofs.Common.{◌≡◌, ℕ, ◌+◌, ◌*◌, ◌<◌, List, [], ◌∷◌, ◌++◌, length, get_or, take, set, refl, add-one, take-suc, take-suc-set}
 use Rattle.sha256.specs.Sha256.{next_word, schedule, round, rounds, constants, after_block, after_blocks, initial}
 use Rattle.sha256.specs.declared.State.{State}
 

@@ -9,7 +9,6 @@ ghost use Rattle.sound_calls.specs.Layout.{bytes_of, holds_state, state_at};
 ghost use Rattle.sound_calls.specs.Calls.{changed_by, started, Leaves, level_at, Shows};
 
 use bits::bit_of;
-use bytes::copy;
 use laws::both;
 use numbers::RECORD_OUTSIDE_THE_RANGES;
 use sound_generator::advance::advance;
@@ -61,7 +60,7 @@ fn pack(s: Sound, bytes: &mut [u8])
         (s.bits / 256) as u8,
         s.p24,
     ];
-    copy(&packed, bytes);
+    bytes.copy_from_slice(&packed);
 }
 
 #[unsafe(no_mangle)]

@@ -48,7 +48,7 @@ pub shape_of-out-then-not-line : goal.shape_of-out-then-not-line
 shape_of-out-then-not-line c =
     let add-line = c.add_line-line in
     let the-loop = c.loop-i in
-    add-line.auto.0 ∙ the-loop.invariant.2
+    add-line.auto.out ∙ the-loop.invariant.2
 
 pub returns-then-not-line : goal.returns-then-not-line
 returns-then-not-line c = tt
@@ -56,13 +56,13 @@ returns-then-not-line c = tt
 pub show_part-requires : goal.show_part-requires
 show_part-requires c =
     let add-line = c.add_line-line in
-    omega (arith, add-line.auto.0, add-line.ensures)
+    omega (arith, add-line.auto.out, add-line.ensures)
 
 pub shape_of-out-then-kind-eq2 : goal.shape_of-out-then-kind-eq2
 shape_of-out-then-kind-eq2 c =
     let add-line = c.add_line-line in
     let the-loop = c.loop-i in
-    add-line.auto.0 ∙ the-loop.invariant.2
+    add-line.auto.out ∙ the-loop.invariant.2
 
 pub returns-then-kind-eq2 : goal.returns-then-kind-eq2
 returns-then-kind-eq2 c = tt
@@ -83,7 +83,7 @@ loop-i-preserved c =
     let the-loop = c.loop-i in
     let loop-test = c.loop-i-test in
     let add-line = c.add_line-line in
-    (omega (arith, opened.ensures.1, the-loop.invariant.0), omega (arith, loop-test.true), add-line.auto.0 ∙ the-loop.invariant.2, omega (arith, add-line.auto.0, add-line.ensures))
+    (omega (arith, opened.ensures.1, the-loop.invariant.0), omega (arith, loop-test.true), add-line.auto.out ∙ the-loop.invariant.2, omega (arith, add-line.auto.out, add-line.ensures))
 
 pub show_part-requires-2 : goal.show_part-requires-2
 show_part-requires-2 c =

@@ -50,7 +50,7 @@ pub shape_of-out-then-not-line : goal.shape_of-out-then-not-line
 shape_of-out-then-not-line c =
     let add-line = c.add_line-line in
     let the-loop = c.loop-i in
-    add-line.auto.0 ∙ the-loop.invariant.2
+    add-line.auto.out ∙ the-loop.invariant.2
 
 pub returns-then-not-line : goal.returns-then-not-line
 returns-then-not-line c = tt
@@ -73,7 +73,7 @@ loop-i-preserved c =
     let loop-test = c.loop-i-test in
     let add-line = c.add_line-line in
     let the-loop = c.loop-i in
-    (omega (arith, cycles-at.ensures.1, if1.false, pre.2), omega (arith, loop-test.true), add-line.auto.0 ∙ the-loop.invariant.2, omega (arith, add-line.auto.0, add-line.ensures))
+    (omega (arith, cycles-at.ensures.1, if1.false, pre.2), omega (arith, loop-test.true), add-line.auto.out ∙ the-loop.invariant.2, omega (arith, add-line.auto.out, add-line.ensures))
 
 pub show_part-requires-2 : goal.show_part-requires-2
 show_part-requires-2 c =

@@ -44,7 +44,7 @@ pub loop-i-smaller : goal.loop-i-smaller
 loop-i-smaller c = omega (arith, c.loop-i-test.true)
 
 pub loop-i-preserved : goal.loop-i-preserved
-loop-i-preserved c = (omega (arith, c.cycles_at-total.ensures.1, c.if-most-total.false, c.requires.2), omega (arith, c.loop-i-test.true), c.mark.auto.0 ∙ c.loop-i.invariant.2)
+loop-i-preserved c = (omega (arith, c.cycles_at-total.ensures.1, c.if-most-total.false, c.requires.2), omega (arith, c.loop-i-test.true), c.mark.auto.used ∙ c.loop-i.invariant.2)
 
 pub shape_of-used : goal.shape_of-used
 shape_of-used c = c.loop-i.invariant.2

@@ -7,4 +7,4 @@ pub decimal-end-requires : goal.decimal-end-requires
 decimal-end-requires c = (omega arith, omega (arith, places_up_to 4 c.args.p3 (omega arith), c.put_text-from.ensures.end, c.put_text-from.ensures.size, c.buffer-out.ensures))
 
 pub put-n-requires : goal.put-n-requires
-put-n-requires c = omega (arith, places_up_to 4 c.args.p3 (omega arith), c.decimal-end.ensures.1, c.decimal-end.ensures.0.size, c.put_text-from.ensures.end, c.put_text-from.ensures.size, c.buffer-out.ensures)
+put-n-requires c = omega (arith, places_up_to 4 c.args.p3 (omega arith), c.decimal-end.ensures.value, c.decimal-end.ensures.wrote.size, c.put_text-from.ensures.end, c.put_text-from.ensures.size, c.buffer-out.ensures)

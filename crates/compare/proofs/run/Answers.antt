@@ -11,4 +11,4 @@ session-requires c =
     let the-fresh = c.fresh-m in
     let the-header = c.header-size in
     let the-large-buffer = c.large_buffer-script in
-    (pre, rw (the-begin.ensures, the-fresh.ensures) (start-sound _ the-header.ensures.0 refl), omega (arith, the-large-buffer.ensures))
+    (pre, rw (the-begin.ensures, the-fresh.ensures) (start-sound _ the-header.ensures.wrote refl), omega (arith, the-large-buffer.ensures))

@@ -1,6 +1,5 @@
 -- `compare_lines::equal_run` meets its contract.
 use mathlib.Core.Path.{refl, sym}
-use Prim.Native.Nat.{◌-◌}
 use native.Mathlib.Omega.{arith}
 use Rattle.compare_lines.proofs.Hearing.{run_next}
 use Rattle.compare_lines.proofs.equal_run.Goals as goal

@@ -1,6 +1,5 @@
 -- `compare_lines::field_after` meets its contract.
 use mathlib.Core.Path.{refl, ap}
-use Prim.Native.Nat.{◌-◌}
 use native.Mathlib.Omega.{arith}
 use lib.ListN.{get_or, drop_of_length-le}
 use Rattle.compare_lines.specs.Left.{blanks_in}

@@ -2,7 +2,6 @@
 use lib.ListN.{drop_of_length-le}
 use Rattle.compare_lines.proofs.Spacing.{judged_next}
 use mathlib.Core.Path.{refl}
-use Prim.Native.Nat.{◌-◌}
 use native.Mathlib.Omega.{arith}
 use Rattle.compare_lines.proofs.judge_open.Goals as goal
 

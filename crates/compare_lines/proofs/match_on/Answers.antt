@@ -14,4 +14,4 @@ pub part_ways-requires : goal.part_ways-requires
 part_ways-requires c = (c.requires.0, omega arith, left-some c.equal_run-k.ensures (omega arith), left-parted c.equal_run-k.ensures (omega arith) (omega arith))
 
 pub returns : goal.returns
-returns c = hears-apart c.equal_run-k.ensures c.part_ways.ensures.left (c.part_ways.ensures.placed (length c.args.line.now))
+returns c = hears-apart c.equal_run-k.ensures c.part_ways.ensures.by_index (c.part_ways.ensures.by_index_2 (length c.args.line.now))

@@ -2,10 +2,10 @@
 use Rattle.compare_lines.proofs.phase_of.Goals as goal
 
 pub returns-in-Open : goal.returns-in-Open
-returns-in-Open c = record { left = λ n line ours rest. rw c.in-Open.is; placed = λ size. tt }
+returns-in-Open c = record { by_index = λ n line ours rest. rw c.in-Open.is; by_index_2 = λ size. tt }
 
 pub returns-in-Spaced : goal.returns-in-Spaced
-returns-in-Spaced c = record { left = λ n line ours rest. rw c.in-Spaced.is; placed = λ size. tt }
+returns-in-Spaced c = record { by_index = λ n line ours rest. rw c.in-Spaced.is; by_index_2 = λ size. tt }
 
 pub returns-in-Broken : goal.returns-in-Broken
-returns-in-Broken c = record { left = λ n line ours rest. rw c.in-Broken.is; placed = λ size. tt }
+returns-in-Broken c = record { by_index = λ n line ours rest. rw c.in-Broken.is; by_index_2 = λ size. tt }

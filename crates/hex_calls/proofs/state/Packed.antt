@@ -1,12 +1,12 @@
 -- The bytes of a state are that state.
 use mathlib.Core.Path.{◌≡◌, refl, ◌∙◌}
 use mathlib.Core.Bool.{Bool, true, false, not}
-use mathlib.Core.List.{List, ◌∷◌, ◌++◌, append-nil}
+use mathlib.Core.List.{List, ◌++◌, append-nil}
 use Prim.Native.Nat.{ℕ, ◌+◌, ◌-◌, ◌^◌, ◌<◌}
 use native.Mathlib.Omega.{arith}
 use lib.Dec.{eqb}
 use lib.ListN.{length, take, drop, length-append, length-drop, drop_of_length-le}
-use lib.Seq.{take_all, take-length, take_at, drop_at, sets-eq}
+use lib.Seq.{take_all, take_at, drop_at, sets-eq}
 use Rattle.laws.specs.Writing.{Wrote}
 use Rattle.laws.proofs.Writing.{wrote_then}
 use Rattle.bits.specs.Bits.{bit_of}
@@ -42,11 +42,6 @@ size_by c l (Stopped number line) b o = refl
 pub packed_size : (s : HexChunks) → length s.held ≡ 522 → length (packed s) ≡ 550
 unfolding packed
 packed_size s e = omega (arith, length-append s.held (numbers_of s), size_by s.count s.line s.stage s.begun s.over)
-
--- a line's characters copied
-pub copied_whole : (b d : List ℕ) → length b ≡ 522 → length d ≡ 522 → take (length b) b ++ drop (length b) d ≡ b
-copied_whole b d e f =
-    rw (take-length b, drop_of_length-le d {i = length b} (omega arith)) (append-nil b)
 
 -- the whole is written
 pub packed_written : {b₀ b₁ b₂ : List ℕ} {r₁ r₂ : ℕ} (s : HexChunks) → length b₀ ≡ 550 → r₂ ≡ 550 → Wrote b₀ b₁ 0 r₁ s.held → Wrote b₁ b₂ r₁ r₂ (numbers_of s) → b₂ ≡ packed s

@@ -13,4 +13,4 @@ pub make_ready-requires : goal.make_ready-requires
 make_ready-requires c = (c.refusal_of-refusal.ensures.right c.if-refusal-ne0.false).0
 
 pub returns : goal.returns
-returns c = let z = c.refusal_of-refusal.ensures.right c.if-refusal-ne0.false in rw (c.answer-2.ensures, c.told_of-2.ensures) (feed-on _ c.args.s c.args.work.now _ _ (sym c.is_final.ensures ∙ c.if-is_final.false) _ _ c.take_Chunk.result c.make_ready.ensures.1 c.take_Chunk.ensures.1 c.take_Chunk.ensures.0 z.0 z.1)
+returns c = let z = c.refusal_of-refusal.ensures.right c.if-refusal-ne0.false in rw (c.answer-2.ensures, c.told_of-2.ensures) (feed-on _ c.args.s c.args.work.now _ _ (sym c.is_final.ensures ∙ c.if-is_final.false) _ _ c.take_chunk-after.result c.make_ready.ensures.readied c.take_chunk-after.ensures.by_index c.take_chunk-after.ensures.work_len z.0 z.1)

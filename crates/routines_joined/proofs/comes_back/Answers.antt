@@ -19,7 +19,7 @@ pub reach-requires : goal.reach-requires
 reach-requires c =
     let pre = c.requires in
     let step_of_lem = c.step_of-step in
-    (pre.0, pre.1, (step_lt pre.0 pre.2 step_of_lem.ensures).0)
+    (pre.0, pre.1, omega (arith, pre.2, (step_lt pre.0 pre.2 step_of_lem.ensures).0))
 
 pub returns-then-m-x-ne0 : goal.returns-then-m-x-ne0
 returns-then-m-x-ne0 c =

@@ -1,5 +1,5 @@
 -- `sha256::all_rounds` meets its contract.
-use Rattle.std.proofs.Common.{◌≡◌, ◌-◌, sym, arith}
+use Rattle.std.proofs.Common.{◌≡◌, sym, arith}
 use Rattle.sha256.specs.Sha256.{constants}
 use Rattle.sha256.proofs.Steps.{one_more_round, no_round}
 use Rattle.sha256.proofs.all_rounds.Goals as goal

@@ -1,5 +1,5 @@
 -- `sha256::hash` meets its contract.
-use Rattle.std.proofs.Common.{◌≡◌, ◌-◌, ◌/◌, length, sym, ◌∙◌, arith}
+use Rattle.std.proofs.Common.{◌≡◌, ◌/◌, length, sym, ◌∙◌, arith}
 use Rattle.sha256.specs.Sha256.{padded, hash_of}
 use Rattle.sha256.proofs.Padding.{padded_length}
 use Rattle.sha256.proofs.Steps.{one_block, no_block}

@@ -1,5 +1,5 @@
 -- `sha256::scheduled` meets its contract.
-use Rattle.std.proofs.Common.{◌≡◌, ◌-◌, sym, refl, ◌∙◌, arith, length-set, take_all}
+use Rattle.std.proofs.Common.{◌≡◌, sym, refl, ◌∙◌, arith, length-set, take_all}
 use Rattle.sha256.proofs.Steps.{word_written}
 use Rattle.sha256.specs.Sha256.{padded}
 use Rattle.sha256.proofs.Steps.{no_word}

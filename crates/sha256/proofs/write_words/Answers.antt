@@ -1,5 +1,5 @@
 -- `sha256::write_words` meets its contract.
-use Rattle.std.proofs.Common.{◌≡◌, ◌-◌, sym, refl, ◌∙◌, arith, length-set, take_all}
+use Rattle.std.proofs.Common.{◌≡◌, sym, refl, ◌∙◌, arith, length-set, take_all}
 use Rattle.sha256.proofs.Steps.{byte_written}
 use Rattle.sha256.specs.Sha256.{joined, words_of}
 use Rattle.sha256.proofs.Joined.{joined_at_lem, joined_length}

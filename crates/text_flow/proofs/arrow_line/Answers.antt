@@ -12,4 +12,4 @@ returns c =
     let closed = c.put_text-closed.ensures in
     let drawn = c.stroke_text-drawn.ensures in
     let last = c.put_text.ensures in
-    (wrote_then quote (wrote_then name.0 (wrote_then arrow (wrote_then target.0 (wrote_then closed (wrote_then drawn.0 last))))), omega (arith, quote.end, name.1, arrow.end, target.1, closed.end, drawn.1, last.end))
+    record { wrote = wrote_then quote (wrote_then name.wrote (wrote_then arrow (wrote_then target.wrote (wrote_then closed (wrote_then drawn.wrote last))))); upper_bound = omega (arith, quote.end, name.value, arrow.end, target.value, closed.end, drawn.upper_bound, last.end) }

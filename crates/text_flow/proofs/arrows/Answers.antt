@@ -10,17 +10,17 @@ unfolding arrows_of
 returns-then-x-eq3 c =
     let first = c.arrow_line-called.ensures in
     let second = c.arrow_line.ensures in
-    rw (eq-eqb _ _ c.if-x-eq3.true, ← c.dashed.ensures, ← c.solid.ensures) (wrote_then first.0 second.0, omega (arith, first.1, second.1))
+    rw (eq-eqb _ _ c.if-x-eq3.true, ← c.dashed.ensures, ← c.solid.ensures) record { wrote = wrote_then first.wrote second.wrote; upper_bound = omega (arith, first.upper_bound, second.upper_bound) }
 
 pub returns-then-x-eq1 : goal.returns-then-x-eq1
 unfolding arrows_of
 returns-then-x-eq1 c =
     let first = c.arrow_line-gone.ensures in
     let second = c.second_arrow.ensures in
-    rw (ne_eqb _ _ c.if-x-eq3.false, eq-eqb _ _ c.if-x-eq1.true, ← c.solid-then-x-eq1.ensures) (wrote_then first.0 second.0, omega (arith, first.1, second.1))
+    rw (ne_eqb _ _ c.if-x-eq3.false, eq-eqb _ _ c.if-x-eq1.true, ← c.solid-then-x-eq1.ensures) record { wrote = wrote_then first.wrote second.wrote; upper_bound = omega (arith, first.upper_bound, second.upper_bound) }
 
 pub returns : goal.returns
 unfolding arrows_of
 returns c =
     let text = c.put_text.ensures in
-    rw (ne_eqb _ _ c.if-x-eq3.false, ne_eqb _ _ c.if-x-eq1.false) (text, omega (arith, text.end))
+    rw (ne_eqb _ _ c.if-x-eq3.false, ne_eqb _ _ c.if-x-eq1.false) record { wrote = text; upper_bound = omega (arith, text.end) }

@@ -5,14 +5,14 @@ use Rattle.text_flow.proofs.look_text.Goals as goal
 pub returns-in-Plain : goal.returns-in-Plain
 returns-in-Plain c =
     let text = c.put_text.ensures in
-    rw c.in-Plain.is (text, omega (arith, text.end))
+    rw c.in-Plain.is record { wrote = text; upper_bound = omega (arith, text.end) }
 
 pub returns-in-Bold : goal.returns-in-Bold
 returns-in-Bold c =
     let text = c.put_text-in-Bold.ensures in
-    rw c.in-Bold.is (text, omega (arith, text.end))
+    rw c.in-Bold.is record { wrote = text; upper_bound = omega (arith, text.end) }
 
 pub returns-in-Red : goal.returns-in-Red
 returns-in-Red c =
     let text = c.put_text-in-Red.ensures in
-    rw c.in-Red.is (text, omega (arith, text.end))
+    rw c.in-Red.is record { wrote = text; upper_bound = omega (arith, text.end) }

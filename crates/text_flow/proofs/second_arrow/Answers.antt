@@ -8,7 +8,7 @@ pub returns-then-x : goal.returns-then-x
 unfolding second_arrow
 returns-then-x c =
     let text = c.put_text.ensures in
-    rw (eq-eqb _ _ c.if-x.true) (text, omega (arith, text.end))
+    rw (eq-eqb _ _ c.if-x.true) record { wrote = text; upper_bound = omega (arith, text.end) }
 
 pub returns : goal.returns
 unfolding second_arrow

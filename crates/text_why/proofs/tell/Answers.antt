@@ -7,7 +7,7 @@ use Rattle.text_why.proofs.Telling.{bad-line, step-told}
 use Rattle.text_why.proofs.tell.Goals as goal
 
 pub returns-in_default : goal.returns-in_default
-returns-in_default c = bad-line _ _ _ _ _ _ _ (record { core = c.requires.1; ram = c.requires.2 }) (sym c.frame_of.ensures ∙ c.in_default.is) c.refused_line-end.ensures.0
+returns-in_default c = bad-line _ _ _ _ _ _ _ (record { core = c.requires.1; ram = c.requires.2 }) (sym c.frame_of.ensures ∙ c.in_default.is) c.refused_line-end.ensures.wrote
 
 pub wanted_line-end-requires : goal.wanted_line-end-requires
 wanted_line-end-requires c = (c.requires.1, seen_in_range _ _ _ (sym c.frame_of.ensures ∙ c.in-Seen.is), omega arith)

@@ -8,4 +8,4 @@ pub slice_bounds-tell-end : goal.slice_bounds-tell-end
 slice_bounds-tell-end c = sym (length-take-le _ _ (omega arith))
 
 pub overflow_add-result : goal.overflow_add-result
-overflow_add-result c = omega (arith, c.line_end-end.ensures.1, c.if-end-part.false, c.well_formed.1.1.1.1.1.1.0.0)
+overflow_add-result c = omega (arith, c.line_end-end.ensures.upper_bound, c.if-end-part.false, c.well_formed.1.1.1.1.1.1.0.0)

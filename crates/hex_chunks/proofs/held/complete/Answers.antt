@@ -3,4 +3,4 @@ use Rattle.hex_chunks.proofs.held.Completing.{completes}
 use Rattle.hex_chunks.proofs.held.complete.Goals as goal
 
 pub returns : goal.returns
-returns c = completes _ _ c.judge-judged.ensures c.after_Line.ensures
+returns c = completes _ _ c.judge-judged.ensures c.after_line.ensures

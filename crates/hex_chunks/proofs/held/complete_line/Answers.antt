@@ -7,7 +7,7 @@ use native.Mathlib.Omega.{arith}
 use Rattle.hex_chunks.proofs.held.complete_line.Goals as goal
 
 pub returns-then-count-gt-HELD_SIZE : goal.returns-then-count-gt-HELD_SIZE
-returns-then-count-gt-HELD_SIZE c = (c.complete_long.ensures.0, λ line k. c.complete_long.ensures.1 (without_cr line) (let l = k.long c.if-count-gt-HELD_SIZE.true in omega (arith, cr_one line)))
+returns-then-count-gt-HELD_SIZE c = record { work_len = c.complete_long.ensures.work_len; by_index = λ line k. c.complete_long.ensures.by_index (without_cr line) (let l = k.long c.if-count-gt-HELD_SIZE.true in omega (arith, cr_one line)) }
 
 pub slice_bounds-without_cr-end : goal.slice_bounds-without_cr-end
 slice_bounds-without_cr-end c = sym (length-take-le c.args.count c.args.held.now (omega arith))
@@ -19,4 +19,4 @@ pub complete-requires : goal.complete-requires
 complete-requires c = c.requires.1
 
 pub returns : goal.returns
-returns c = (c.complete.ensures.size ∙ c.requires.1, λ line k. rw (held_line c.args.held.now line c.args.count c.without_cr-end.result k c.if-count-gt-HELD_SIZE.false c.without_cr-end.ensures.0 (omega (arith, c.without_cr-end.ensures.1, length-take-le c.args.count c.args.held.now (omega arith)))) at c.complete.ensures)
+returns c = record { work_len = c.complete.ensures.size ∙ c.requires.1; by_index = λ line k. rw (held_line c.args.held.now line c.args.count c.without_cr-end.result k c.if-count-gt-HELD_SIZE.false c.without_cr-end.ensures.0 (omega (arith, c.without_cr-end.ensures.1, length-take-le c.args.count c.args.held.now (omega arith)))) at c.complete.ensures }

@@ -4,4 +4,4 @@ use Rattle.hex_chunks.proofs.held.Completing.{completes-long}
 use Rattle.hex_chunks.proofs.held.complete_long.Goals as goal
 
 pub returns : goal.returns
-returns c = (c.after_Line.ensures.size ∙ c.requires, λ line h. completes-long line h c.after_Line.ensures)
+returns c = record { work_len = c.after_line.ensures.size ∙ c.requires; by_index = λ line h. completes-long line h c.after_line.ensures }

@@ -1,7 +1,6 @@
 -- `hex_chunks::held::hold` meets its contract: up to i the part is held.
 use mathlib.Core.Path.{sym, ◌∙◌}
 use mathlib.Core.List.{◌++◌}
-use Prim.Native.Nat.{◌-◌}
 use lib.ListN.{take}
 use Rattle.hex_chunks.proofs.held.Holding.{part_none, part_more, part_all}
 use native.Mathlib.Omega.{arith}
@@ -23,10 +22,10 @@ pub loop-i-smaller : goal.loop-i-smaller
 loop-i-smaller c = omega arith
 
 pub loop-i-preserved : goal.loop-i-preserved
-loop-i-preserved c = (c.hold_one-n.ensures.0, λ line k. part_more line c.args.part.now c.loop-i.i c.loop-i-test.true (c.hold_one-n.ensures.1 (line ++ take c.loop-i.i c.args.part.now) (c.loop-i.invariant.1 line k)), omega arith)
+loop-i-preserved c = (c.hold_one-n.ensures.held_len, λ line k. part_more line c.args.part.now c.loop-i.i c.loop-i-test.true (c.hold_one-n.ensures.by_index (line ++ take c.loop-i.i c.args.part.now) (c.loop-i.invariant.1 line k)), omega arith)
 
 pub shape_of-held : goal.shape_of-held
 shape_of-held c = c.loop-i.invariant.0 ∙ sym c.requires
 
 pub returns : goal.returns
-returns c = (c.loop-i.invariant.0, λ line k. part_all line c.args.part.now c.loop-i.i c.loop-i-test.false (c.loop-i.invariant.1 line k))
+returns c = record { held_len = c.loop-i.invariant.0; by_index = λ line k. part_all line c.args.part.now c.loop-i.i c.loop-i-test.false (c.loop-i.invariant.1 line k) }

@@ -1,5 +1,4 @@
 -- `program::part::fill` meets its contract. The measure is the room that is left.
-use Prim.Native.Nat.{◌-◌}
 use mathlib.Core.Path.{refl}
 use native.Mathlib.Omega.{arith}
 use Rattle.io.proofs.Counting.{prefix_len_of_le}

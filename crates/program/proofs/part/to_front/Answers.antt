@@ -1,6 +1,5 @@
 -- `program::part::to_front` is safe and ends.
 use mathlib.Core.Path.{refl}
-use Prim.Native.Nat.{◌-◌}
 use native.Mathlib.Omega.{arith}
 use lib.ListN.{length-set}
 use Rattle.program.proofs.part.to_front.Goals as goal

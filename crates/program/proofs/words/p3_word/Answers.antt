@@ -1,6 +1,5 @@
 -- `program::words::proofs::p3_word` meets its contract.
 use mathlib.Core.Path.{sym, ◌∙◌}
-use borrow.Author.Tests.{not-true, not-false}
 use Rattle.program.specs.Words.{p3_word}
 use Rattle.program.proofs.words.p3_word.Goals as goal
 

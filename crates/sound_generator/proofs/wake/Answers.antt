@@ -1,0 +1,12 @@
+-- `sound_generator::wake` meets its contract.
+use mathlib.Core.Path.{sym, ◌∙◌}
+use Rattle.sound_generator.specs.Answers.{made_wake}
+use Rattle.sound_generator.proofs.wake.Goals as goal
+
+pub returns-then-in_ranges : goal.returns-then-in_ranges
+unfolding made_wake
+returns-then-in_ranges c = rw (c.taken.ensures, sym c.in_ranges.ensures ∙ c.if-in_ranges.true)
+
+pub returns : goal.returns
+unfolding made_wake
+returns c = rw (c.refuse.ensures, sym c.in_ranges.ensures ∙ c.if-in_ranges.false)

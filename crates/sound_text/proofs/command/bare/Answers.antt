@@ -1,0 +1,21 @@
+-- `sound_text::command::bare` meets its contract.
+use mathlib.Core.Path.{sym, ◌∙◌}
+use Rattle.sound_text.specs.Commands.{bare}
+use Rattle.text.proofs.words.Same.{same_is}
+use Rattle.sound_text.proofs.command.bare.Goals as goal
+
+pub returns-then-same : goal.returns-then-same
+unfolding bare
+returns-then-same c = rw (sym (same_is c.same.ensures) ∙ c.if-same.true)
+
+pub returns-then-same-2 : goal.returns-then-same-2
+unfolding bare
+returns-then-same-2 c = rw (sym (same_is c.same.ensures) ∙ c.if-same.false, sym (same_is c.same-2.ensures) ∙ c.if-same-2.true)
+
+pub returns-then-same-3 : goal.returns-then-same-3
+unfolding bare
+returns-then-same-3 c = rw (sym (same_is c.same.ensures) ∙ c.if-same.false, sym (same_is c.same-2.ensures) ∙ c.if-same-2.false, sym (same_is c.same-3.ensures) ∙ c.if-same-3.true)
+
+pub returns : goal.returns
+unfolding bare
+returns c = rw (sym (same_is c.same.ensures) ∙ c.if-same.false, sym (same_is c.same-2.ensures) ∙ c.if-same-2.false, sym (same_is c.same-3.ensures) ∙ c.if-same-3.false)

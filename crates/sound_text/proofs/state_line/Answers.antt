@@ -1,0 +1,9 @@
+-- `sound_text::state_line` meets its contract.
+use native.Mathlib.Omega.{arith}
+use Rattle.laws.proofs.Writing.{wrote_then}
+use Rattle.sound_text.specs.Telling.{state_line}
+use Rattle.sound_text.proofs.state_line.Goals as goal
+
+pub returns : goal.returns
+unfolding state_line
+returns c = (wrote_then c.tone_fields-end.ensures.0 c.output_fields.ensures.0, omega arith)

@@ -1,0 +1,11 @@
+-- `sound_text::tone_fields` meets its contract.
+use native.Mathlib.Omega.{arith}
+use Rattle.laws.proofs.Writing.{wrote_then, wrote_last}
+use Rattle.bits.proofs.Laws.{bit_of_lt}
+use Rattle.sound_text.proofs.tone_fields.Goals as goal
+
+pub field-end-requires-2 : goal.field-end-requires-2
+field-end-requires-2 c = omega (arith, c.bit_of.ensures, bit_of_lt c.args.s.asleep)
+
+pub returns : goal.returns
+returns c = (wrote_then c.field-end.ensures.0 (wrote_then (rw c.bit_of.ensures at c.field-end-2.ensures.0) (wrote_then c.field-end-3.ensures.0 (wrote_last c.field.ensures.0))), omega arith)
