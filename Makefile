@@ -2,11 +2,13 @@
 PREFIX ?= /usr/local
 DESTDIR ?=
 PROGRAM_PREFIX ?=
+PROGRAMS = $(patsubst crates/%/src/main.rt,%,$(wildcard crates/*/src/main.rt))
 
 .PHONY: all install uninstall test edits bench help
 
 all: ## prove everything, and build all programs (target/bin) and both archives for C (target/lib)
-	@rt check
+	@rt all check
+	@tools/build $(PROGRAMS)
 	@tools/archive em73862 em73p982
 
 install: all ## put programs, headers, archives, pkg-config files and man pages under PREFIX (/usr/local), each program's name behind PROGRAM_PREFIX (none)
@@ -19,7 +21,6 @@ test: ## the gate: every proof from nothing, every edit that must be refused, ev
 	@tools/test
 
 edits: ## the edits that the prover must refuse and that the gate does not try
-	@rt check
 	@tools/test-edits
 
 bench: ## the proved calls beside plain Rust in one process, on x86-64

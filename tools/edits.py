@@ -1,27 +1,24 @@
-"""What a must-fail edit's refusal is worth, as the prover's log tells it."""
+"""What a must-fail edit's refusal is worth, as rt tells it."""
 import os, re
 
-# First errors that say nothing of a fact: the proof names something that is not there, or does not fit the code's new shape.
-UNFIT = ['has no `Need-', 'is not in scope', 'no such name', 'unknown name', 'is not defined', 'is not declared', 'takes no argument', 'too many arguments', 'too few arguments', 'parse error', 'syntax error']
+# Refusals that say nothing of a fact: the proof names something that is not there any more, or the prover gave up.
+UNFIT = ['only because a proof file names', 'only by a limit of the prover']
 
 def edits_of(crate, folders=('must-fail', 'edits')):
     """The edits of a crate, as paths: those of the gate in must-fail/, the others in edits/."""
     places = ['crates/%s/%s' % (crate, folder) for folder in folders]
     return [os.path.join(place, name) for place in places if os.path.isdir(place) for name in sorted(os.listdir(place)) if name.endswith('.edit')]
 
-def verdict(said, folder):
-    """Whether a log says that the edited crate in the folder is refused for a fact, and in words."""
-    if re.search('^logic=proved', said, re.M):
-        return False, 'NOT REFUSED: the crate is still proved with this edit'
-    if not re.search('^logic=not-proved', said, re.M):
-        return False, 'BAD EDIT: it did not reach the prover: ' + said[:500]
-    first = re.search(r'^(\S+): error: (.*)$', said, re.M)
-    unproved = re.search(r'^note: (\S+:\d+:\d+): it is not proved that (.*)$', said, re.M)
-    if first and first[1].startswith(folder + '/specs/'):
-        return False, 'BAD EDIT: what it makes is no definition: ' + first[0][:500]
-    if first and any(words in first[2] for words in UNFIT):
-        return False, 'BAD EDIT: it only makes a proof unfit for the code: ' + first[0][:500]
-    place = unproved[1] if unproved and (not first or 'was not admitted' in first[2]) else first and first[1]
-    if not place:
-        return False, 'BAD EDIT: the prover names no fact that does not hold: ' + said[:500]
-    return True, 'refused, first at ' + place.replace(folder + '/', '')
+def told_in(said):
+    """What rt said of each edit, by NAME/LABEL."""
+    return {'%s/%s' % (crate, label): words for crate, label, words in re.findall(r'^rt: must-fail (\w+)/([\w.-]+)\.edit: (.*)$', said, re.M)}
+
+def verdict(words):
+    """Whether the crate is refused for a fact with an edit of which rt said these words, and in words."""
+    if words is None:
+        return False, 'rt said nothing of it'
+    if not words.startswith('refused, as it must be'):
+        return False, words
+    if any(unfit in words for unfit in UNFIT):
+        return False, 'it is refused for no fact: ' + words
+    return True, words[:200]

@@ -12,7 +12,7 @@ use Rattle.sheet.specs.Timing.{TimedFrom}
 use Rattle.sheet.specs.declared.Insn.{Insn}
 use Rattle.sheet.specs.declared.Read.{Read}
 use Rattle.reader.proofs.Rows.{columns}
-use Rattle.reader.proofs.NoRow.{NoRow, no_row}
+use Rattle.reader.proofs.NoRow.{NoRow, no_row_lem}
 use Rattle.bound_flow.specs.Flow.{address_of, is_known}
 use Rattle.bound_calls.specs.CallFlow.{no_node, call_node_by, call_node_read, call_node_of}
 use Rattle.bound_calls.specs.Ways.{numbered, IsWay}
@@ -26,7 +26,7 @@ operand_lt i h = omega (arith, h.a, leb→le (field_a (line_at i.row).codes) 819
 module _ (d : Device) (rom : ℕ → ℕ) (v : ℕ) where
   pub none-node : (r : Read) → r ≡ read_at rom (address_of v) → NoRow r → (x : CallNode) → x ≡ no_node → x ≡ call_node_of d rom v
   unfolding call_node_of
-  none-node r e t x q = q ∙ (no_row r (λ (s : Read). no_node ≡ call_node_read d (address_of v) (is_known v) s) t refl refl ∙ ap (call_node_read d (address_of v) (is_known v)) e)
+  none-node r e t x q = q ∙ (no_row_lem r (λ (s : Read). no_node ≡ call_node_read d (address_of v) (is_known v) s) t refl refl ∙ ap (call_node_read d (address_of v) (is_known v)) e)
 
   pub row-node : (i : Insn) → read_at rom (address_of v) ≡ Read.Row i → (bytes cycles way : ℕ) → TimedFrom (rom (address_of v)) bytes cycles → IsWay d i way
       → (x : CallNode) → x ≡ call_node_by (address_of v) (is_known v) i bytes cycles (numbered way) → x ≡ call_node_of d rom v

@@ -17,7 +17,7 @@ use Rattle.routines_numbered.specs.Packed.{place_in, node_in, packed, Fits, name
 use Rattle.routines_numbered.specs.Numbering.{Numbers, LinksLt}
 use Rattle.routines_numbered.specs.declared.Links.{Links}
 use Rattle.routines_numbered.proofs.Packed.{place_of, next_of, other-of, into-of, kind_of, cost-of, address_of_lem, known_of, lays_in}
-use Rattle.routines_numbered.proofs.Numbering.{name_lt, count_le, numbers_then, numbers_none, numbers_of}
+use Rattle.routines_numbered.proofs.Numbering.{name_lt, count_le, numbers_then, numbers_none, numbers_of_lem}
 use Rattle.bound_flow.specs.Flow.{address_of, is_known, start_of}
 use Rattle.bound_calls.specs.CallFlow.{call_node_of, call_flow, call_cycles}
 use Rattle.bound_calls.specs.declared.CallNode.{CallNode}
@@ -31,7 +31,7 @@ node_good d rom bytes v l =
 
 module _ (x : CallNode) {a b : List ℕ} {n : ℕ} where
   pub after_none : (x.kind ≡ 3 → ⊥) → (x.kind ≡ 1 → ⊥) → Told (name_in a) (map_in b) n → Numbers (After x) a b n a b n
-  after_none i j t = numbers_of no (numbers_none t)
+  after_none i j t = numbers_of_lem no (numbers_none t)
     where
       no : (w : ℕ) → After x w → ⊥
       no w (goes_next k e) = j k
@@ -41,7 +41,7 @@ module _ (x : CallNode) {a b : List ℕ} {n : ℕ} where
       no w (call_into k e) = i k
 
   pub after_both : x.kind ≡ 1 → {a' b' a'' b'' : List ℕ} {n' n'' : ℕ} → Numbers (λ u. u ≡ x.next) a b n a' b' n' → Numbers (λ u. u ≡ x.other) a' b' n' a'' b'' n'' → Numbers (After x) a b n a'' b'' n''
-  after_both i y z = numbers_of one (numbers_then y z)
+  after_both i y z = numbers_of_lem one (numbers_then y z)
     where
       one : (w : ℕ) → After x w → (w ≡ x.next) ⊎ (w ≡ x.other)
       one w (goes_next k e) = inl e
@@ -52,7 +52,7 @@ module _ (x : CallNode) {a b : List ℕ} {n : ℕ} where
 
   pub after_call : x.kind ≡ 3 → {a' b' a'' b'' a''' b''' : List ℕ} {n' n'' n''' : ℕ} → Numbers (λ u. u ≡ x.next) a b n a' b' n' → Numbers (λ u. u ≡ x.other) a' b' n' a'' b'' n''
       → Numbers (λ u. u ≡ 2 * x.entry) a'' b'' n'' a''' b''' n''' → Numbers (After x) a b n a''' b''' n'''
-  after_call i y z u = numbers_of one (numbers_then (numbers_then y z) u)
+  after_call i y z u = numbers_of_lem one (numbers_then (numbers_then y z) u)
     where
       one : (w : ℕ) → After x w → ((w ≡ x.next) ⊎ (w ≡ x.other)) ⊎ (w ≡ 2 * x.entry)
       one w (goes_next k e) = absurd (omega (arith, i, k))

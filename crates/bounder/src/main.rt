@@ -14,9 +14,9 @@ use crate::help::is_asked;
 use bound::{Bounded, bound};
 use bound_calls::node_at;
 use device::{Device, image_size, is_banked};
-use libc::STDERR_FILENO;
+use program::arguments::{arg, is_given};
 use program::image::{chosen_window, open_image, refuse_window};
-use program::streams::{ending_of, say, show, show_part};
+use program::streams::{STDERR_FILENO, ending_of, say, show, show_part};
 use program::words::{Choice, Chosen, address_word};
 use routines_bound::Greatest;
 use text::digits::put;
@@ -236,29 +236,29 @@ fn entries(d: Device, image: &[u8], p3: u8) -> bool {
     entry(d, image, p3, 0x00C, 0)
 }
 
-fn bound_image(d: Device, image: &[u8], p3: u8, before: u8) -> bool
+fn bound_image(rt: &HostRuntime, d: Device, image: &[u8], p3: u8, before: u8) -> bool
     requires { window_end p3 ≤ length image.now }
 {
     let word_at = before as usize + 2;
-    if os::arg_count() <= word_at {
+    if !is_given(rt, word_at) {
         return entries(d, image, p3);
     }
     let mut word = io::buffer();
-    let n = os::arg(word_at, &mut word);
+    let n = arg(rt, word_at, &mut word);
     let Address::At(at) = address_word(&word[..n]) else {
         return refuse_address();
     };
-    if word_at + 1 < os::arg_count() {
+    if is_given(rt, word_at + 1) {
         usage();
         return true;
     }
     bound_at(d, image, p3, at)
 }
 
-fn bound_chosen(c: Chosen) -> bool {
+fn bound_chosen(rt: &HostRuntime, c: Chosen) -> bool {
     let d = c.device;
     let mut image = [0u8; 16385];
-    let file = open_image(d, c.before as usize + 1, &mut image, &USAGE);
+    let file = open_image(rt, d, c.before as usize + 1, &mut image, &USAGE);
     let size = file.size;
     if size != image_size(d) {
         return file.written;
@@ -266,16 +266,16 @@ fn bound_chosen(c: Chosen) -> bool {
     if !is_banked(d, c.p3) {
         return refuse_window();
     }
-    bound_image(d, &image[..size], c.p3 as u8, c.before)
+    bound_image(rt, d, &image[..size], c.p3 as u8, c.before)
 }
 
-fn main() {
-    if is_asked() {
+fn main(rt: HostRuntime) {
+    if is_asked(&rt) {
         return;
     }
-    let Choice::Made(c) = chosen_window() else {
+    let Choice::Made(c) = chosen_window(&rt) else {
         usage();
         return;
     };
-    say(ending_of(false, bound_chosen(c)));
+    say(ending_of(false, bound_chosen(&rt, c)));
 }

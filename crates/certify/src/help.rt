@@ -2,8 +2,9 @@
 use program::help::is_told;
 
 // Whether the first word asked for the help or for the version, which are then written.
-pub fn is_asked() -> bool {
+pub fn is_asked(rt: &HostRuntime) -> bool {
     is_told(
+        rt,
         b"certify: a page about the interrupt handlers of an image, to be signed.
 
 usage: certify [--device NAME [--p3 N]] IMAGE

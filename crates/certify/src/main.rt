@@ -11,10 +11,10 @@ ghost use Rattle.device.specs.Device.{window_end};
 use crate::help::is_asked;
 use bound::{Bounded, bound};
 use device::{Device, image_size, is_banked};
-use libc::STDERR_FILENO;
+use program::arguments::is_given;
 use program::help::show_version;
 use program::image::{chosen_window, open_image, refuse_window};
-use program::streams::{ending_of, say, show, show_part};
+use program::streams::{STDERR_FILENO, ending_of, say, show, show_part};
 use program::words::{Choice, Chosen};
 use sha256::digest_of;
 use sheet_text::{section_of, sheet_text};
@@ -280,21 +280,21 @@ fn certify_image(d: Device, image: &[u8], p3: u8) -> bool
 }
 
 // The page, where no word follows the image.
-fn certify_word(d: Device, image: &[u8], p3: u8, word: usize) -> bool
+fn certify_word(rt: &HostRuntime, d: Device, image: &[u8], p3: u8, word: usize) -> bool
     requires { (window_end p3 ≤ length image.now) × (length image.now < 65536) }
 {
-    if word < os::arg_count() {
+    if is_given(rt, word) {
         usage();
         return true;
     }
     certify_image(d, image, p3)
 }
 
-fn certify_chosen(c: Chosen) -> bool {
+fn certify_chosen(rt: &HostRuntime, c: Chosen) -> bool {
     let d = c.device;
     let word = c.before as usize + 1;
     let mut image = [0u8; 16385];
-    let file = open_image(d, word, &mut image, &USAGE);
+    let file = open_image(rt, d, word, &mut image, &USAGE);
     let size = file.size;
     if size != image_size(d) {
         return file.written;
@@ -302,16 +302,16 @@ fn certify_chosen(c: Chosen) -> bool {
     if !is_banked(d, c.p3) {
         return refuse_window();
     }
-    certify_word(d, &image[..size], c.p3 as u8, word + 1)
+    certify_word(rt, d, &image[..size], c.p3 as u8, word + 1)
 }
 
-fn main() {
-    if is_asked() {
+fn main(rt: HostRuntime) {
+    if is_asked(&rt) {
         return;
     }
-    let Choice::Made(c) = chosen_window() else {
+    let Choice::Made(c) = chosen_window(&rt) else {
         usage();
         return;
     };
-    say(ending_of(false, certify_chosen(c)));
+    say(ending_of(false, certify_chosen(&rt, c)));
 }

@@ -14,14 +14,15 @@ use crate::help::is_asked;
 use compare_lines::{Compared, hear, is_settled, verdict};
 use compare_listing::{Progress, begin, go, last_line};
 use device::{Device, frame_size, image_size};
-use libc::{STDERR_FILENO, STDOUT_FILENO};
 use listing::line::header;
+use program::arguments::{arg, open_read};
 use program::image::{chosen_device, open_image};
 use program::part::{read_behind, to_front};
-use program::streams::{Ending, Got, ending_of, say, show};
+use program::streams::{Ending, Got, STDERR_FILENO, STDOUT_FILENO, ending_of, say, show};
 use program::words::{Choice, Chosen};
 use record::Ram;
 use record::start::fresh;
+use std::fs::File;
 
 // No run counts so many lines.
 const MOST_LINES: u64 = 18446744073709000000;
@@ -49,13 +50,6 @@ struct After {
 enum Found {
     Told(Compared),
     NoListing,
-}
-
-// The files that the words name; one that cannot be opened is negative.
-#[derive(Clone, Copy)]
-struct Files {
-    script: i32,
-    listing: i32,
 }
 
 const USAGE: [u8; 52] = *b"usage: compare [--device NAME] IMAGE SCRIPT LISTING\n";
@@ -96,27 +90,27 @@ fn end_with(found: Found) -> Ending {
     }
 }
 
-fn open_word(word: usize) -> i32 {
+fn open_word(rt: &HostRuntime, word: usize) -> Option<File> {
     let mut path = io::buffer();
-    let n = os::arg(word, &mut path);
-    os::open_read(&path[..n])
+    let n = arg(rt, word, &mut path);
+    open_read(rt, &path[..n])
 }
 
 // The next part of the listing. One that cannot be opened has no lines.
-fn listing_part(file: i32, listing: &mut [u8]) -> Got
+fn listing_part(file: &mut Option<File>, listing: &mut [u8]) -> Got
     ensures { result.count ≤ length listing.old }
 {
-    if file < 0 {
-        return Got {
+    match file {
+        Some(open) => read_behind(open, listing, 0),
+        None => Got {
             failed: false,
             count: 0,
-        };
+        },
     }
-    read_behind(file, listing, 0)
 }
 
 // More of the listing, where all of it is used.
-fn more_listing(file: i32, listing: &mut [u8], p: Parts) -> Parts
+fn more_listing(file: &mut Option<File>, listing: &mut [u8], p: Parts) -> Parts
     requires { p.from ≤ p.to }
     ensures { (result.from ≡ p.from) × (result.to ≡ p.to) × (result.at ≤ result.end) × (result.end ≤ length listing.old) }
 {
@@ -133,7 +127,7 @@ fn more_listing(file: i32, listing: &mut [u8], p: Parts) -> Parts
 }
 
 // More of the script behind the beginning of a line.
-fn more_script(file: i32, script: &mut [u8], p: Parts) -> Parts
+fn more_script(file: &mut File, script: &mut [u8], p: Parts) -> Parts
     requires { (p.from ≤ p.to) × (p.to ≤ length script.old) }
     ensures { (result.from ≤ result.to) × (result.to ≤ length script.old) × (result.at ≡ p.at) × (result.end ≡ p.end) }
 {
@@ -195,7 +189,13 @@ fn turn(
 }
 
 // The rest of the listing, after our last line.
-fn rest_of_listing(p: Progress, ours: &[u8], file: i32, listing: &mut [u8], parts: Parts) -> Found
+fn rest_of_listing(
+    p: Progress,
+    ours: &[u8],
+    file: &mut Option<File>,
+    listing: &mut [u8],
+    parts: Parts,
+) -> Found
     requires { (p.size ≤ length ours.now) × (OneLine (take p.size ours.now)) × (Placed p.phase p.size) × (p.line < 18446744073709551600) × (parts.at ≤ parts.end) × (parts.end ≤ length listing.old) }
 {
     let size = p.size;
@@ -232,7 +232,7 @@ fn conclude(
     ram: &mut Ram,
     ours: &mut [u8],
     script: &[u8],
-    file: i32,
+    file: &mut Option<File>,
     listing: &mut [u8],
     parts: Parts,
 ) -> Found
@@ -261,14 +261,21 @@ fn is_over(d: Device, ended: bool, parts: Parts) -> bool
 }
 
 // More of the listing where our line waits for it, else more of the script.
-fn refill(ready: bool, files: Files, script: &mut [u8], listing: &mut [u8], parts: Parts) -> Parts
+fn refill(
+    ready: bool,
+    script_file: &mut File,
+    listing_file: &mut Option<File>,
+    script: &mut [u8],
+    listing: &mut [u8],
+    parts: Parts,
+) -> Parts
     requires { Within (length script.old) (length listing.old) parts }
     ensures { Within (length script.old) (length listing.old) result }
 {
     if ready {
-        return more_script(files.script, script, parts);
+        return more_script(script_file, script, parts);
     }
-    more_listing(files.listing, listing, parts)
+    more_listing(listing_file, listing, parts)
 }
 
 // Before anything is read.
@@ -301,7 +308,8 @@ fn session(
     p: Progress,
     ram: &mut Ram,
     ours: &mut [u8],
-    files: Files,
+    script_file: &mut File,
+    listing_file: &mut Option<File>,
     script: &mut [u8],
     listing: &mut [u8],
 ) -> Found
@@ -328,13 +336,13 @@ fn session(
                     ram,
                     ours,
                     script,
-                    files.listing,
+                    listing_file,
                     listing,
                     parts,
                 );
             }
         }
-        parts = refill(ready, files, script, listing, parts);
+        parts = refill(ready, script_file, listing_file, script, listing, parts);
         if parts.failed {
             return unreadable(ready);
         }
@@ -343,12 +351,9 @@ fn session(
     Found::NoListing
 }
 
-fn run(d: Device, image: &[u8], files: Files) -> Found
+fn run(d: Device, image: &[u8], mut script_file: File, listing_file: &mut Option<File>) -> Found
     requires { length image.now ≡ image_size d }
 {
-    if files.script < 0 {
-        return Found::Told(Compared::NotAFrame);
-    }
     let mut script = io::large_buffer();
     let mut listing = io::large_buffer();
     let mut ours = [0u8; 26];
@@ -363,40 +368,45 @@ fn run(d: Device, image: &[u8], files: Files) -> Found
         p,
         &mut ram,
         &mut ours,
-        files,
+        &mut script_file,
+        listing_file,
         &mut script,
         &mut listing,
     )
 }
 
 // The buffer has a byte more than the largest image, so that a file that is too long shows.
-fn run_chosen(c: Chosen) -> Ending {
+fn run_chosen(rt: &HostRuntime, c: Chosen) -> Ending {
     let d = c.device;
     let word = c.before as usize + 1;
-    if os::arg_count() != word + 3 {
+    if !is_given(rt, word + 2) {
+        usage();
+        return Ending::Done;
+    }
+    if is_given(rt, word + 3) {
         usage();
         return Ending::Done;
     }
     let mut image = [0u8; 16385];
-    let file = open_image(d, word, &mut image, &USAGE);
+    let file = open_image(rt, d, word, &mut image, &USAGE);
     let size = file.size;
     if size != image_size(d) {
         return ending_of(false, file.written);
     }
-    let files = Files {
-        script: open_word(word + 1),
-        listing: open_word(word + 2),
+    let mut listing = open_word(rt, word + 2);
+    let Some(script) = open_word(rt, word + 1) else {
+        return end_with(Found::Told(Compared::NotAFrame));
     };
-    end_with(run(d, &image[..size], files))
+    end_with(run(d, &image[..size], script, &mut listing))
 }
 
-fn main() {
-    if is_asked() {
+fn main(rt: HostRuntime) {
+    if is_asked(&rt) {
         return;
     }
-    let Choice::Made(c) = chosen_device() else {
+    let Choice::Made(c) = chosen_device(&rt) else {
         usage();
         return;
     };
-    say(run_chosen(c));
+    say(run_chosen(&rt, c));
 }

@@ -6,8 +6,8 @@ use mathlib.Core.List.{List, [], ◌∷◌}
 use Prim.Native.Nat.{ℕ, suc}
 use lib.Dec.{eqb}
 use Rattle.laws.specs.Choice.{pick}
-use Rattle.graph.specs.Graph.{Edge, Reach, here, step, sum}
-use Rattle.routines.specs.Calling.{Flow, Routine, outer, start_in, after, within, Live, handler, call, IsBad, opened, deepest, depth, Before, FirstOf}
+use Rattle.graph.specs.Graph.{Edge, Reach, here, step}
+use Rattle.routines.specs.Calling.{Flow, Routine, outer, start_in, after, within, Live, handler, call, IsBad, opened, deepest, Before, FirstOf}
 use Rattle.routines.proofs.Within.{edge_on, edge-call, edge-cases}
 use Rattle.routines.proofs.Paired.{Both, none, pair, Same, both_back, both_sum, lowest_to, path_answer_to}
 use Rattle.counts.specs.Counts as counts
@@ -94,6 +94,8 @@ module _ {f : Flow} {K : ℕ → Bool} {g : Flow} {L : ℕ → Bool} {S : ℕ �
   before-to : {l m h k : List ℕ} → Both S l h → Both S m k → Before f l m → Before g h k
   before-to (pair s (pair t b)) (pair s' (pair t' b')) (Before.turns k n o ne) =
       rw (a.one s' s) (Before.turns (there s k) (a.one t (rw n (a.next s k))) (a.one t' (rw o (a.other s k))) (λ e. ne (a.one_back t (rw e t'))))
+  before-to none _ x = elim x [ ]
+  before-to (pair s b) none x = elim x [ ]
   before-to (pair s b) (pair s' b') (Before.later x) = rw (a.one s' s) (Before.later (before-to b b' x))
 
   depth-to : (n : ℕ) {l m : List ℕ} → Both S l m → deepest f.kind n l ≡ deepest g.kind n m
@@ -176,6 +178,7 @@ module _ {f : Flow} {K : ℕ → Bool} {g : Flow} {L : ℕ → Bool} {S : ℕ �
 
 -- pairs of what is listed
 member_to : {S : ℕ → ℕ → Type 0} {l m : List ℕ} {v : ℕ} → Both S l m → Member v l → (w : ℕ) × Member w m × S v w
+member_to none m = elim m [ ]
 member_to (pair {w = w} s b) first = (w, first, s)
 member_to (pair s b) (later i) = let x = member_to b i in (x.0, later x.1, x.2)
 

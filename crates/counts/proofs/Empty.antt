@@ -6,14 +6,13 @@ use Prim.Native.Nat.{ℕ, zero, suc, ◌≤◌, ◌<◌}
 use native.Mathlib.Omega.{arith}
 use native.Mathlib.Decide.{dec_le}
 use lib.ListN.{length, get_or}
-use Rattle.graph.specs.Graph.{Edge, Reach, here, step, sum}
+use Rattle.graph.specs.Graph.{Edge, Reach, here, step}
 use Rattle.graph.proofs.Pigeon.{Twice, pigeon}
-use Rattle.routines.specs.Calling.{Flow, Routine, after, within, Path, HandlerPath, depth, FirstOf, IsLoop}
+use Rattle.routines.specs.Calling.{Flow, Routine, after, within, Path, HandlerPath, FirstOf, IsLoop}
 use Rattle.routines.specs.Shape.{Small, Widens}
 use Rattle.routines.proofs.Done.{in-lt, done}
 use Rattle.routines.proofs.Exists.{first-of-handler}
 use Rattle.routines.specs.Answer.{Found, recursion, excluded, repetition, LowestAddress, Judged, HasBound, FlowAnswer, Answer}
-use Rattle.counts.specs.Counts as counts
 use Rattle.counts.specs.Counts.{Member, first, later, Numbers, Fits, Open, Counted, CountedPath, uncounted, is_counted, IsUncountedLoop}
 use Rattle.counts.specs.Weights.{Weighs, Product, Total, Once, Weight}
 use Rattle.counts.specs.CountedAnswer.{CountedFound, as_today, most_turns, Settled, HasCountedBound, CountedFlowAnswer, CountedAnswer}

@@ -24,7 +24,9 @@ pub record Good (f : Flow) (K : ℕ → Bool) (address : ℕ → ℕ) (C : List 
   pub behind : (a : ℕ) → 0 < u a → Behind f K address a v
 
 pub allowed : {C : List Count} → Ascending C → (c : Count) → Member c C → Allowed c
+allowed Ascending.none c m = elim m [ ]
 allowed (Ascending.one a) c first = a
+allowed (Ascending.one a) c (later m) = elim m [ ]
 allowed (Ascending.more a l rest) c first = a
 allowed (Ascending.more a l rest) c (later m) = allowed rest c m
 

@@ -277,6 +277,7 @@ module _ (M : Machine) (W : Watched M) (f : Flow) (cycles address : ℕ → ℕ)
   returns_within : (frames : List M.Frame) (s : M.State) {r : Routine} {ks : List Open} {v : ℕ} {u : Numbers} {N : ℕ} (before : ℕ) → Stands s r ks v u → Keeps M W C (map numbers_of ks) u s frames
       → SparesStack M top s frames → ((l : List ℕ) → Counted f K address C ks u v l → before + sum cycles l ≤ N) → {k c : ℕ} → ReturnsAt M s frames k c → before + c ≤ N
   unfolding SparesStack sum
+  returns_within [] s before h keeps spares most r = elim r [ ]
   returns_within (x ∷ xs) s {ks = ks} {v = v} {u = u} before h keeps spares most (ReturnsAt.now e ret) =
       let a = allowed h.live h.reached in
       let y = return-at e (one_step s x v h.at a.0 a.1) in

@@ -36,6 +36,7 @@ module _ (address : ℕ → ℕ) where
 
   remaining-lt : (C : List Count) (u : Numbers) (w : ℕ) (c : Count) → Member c C → c.at ≡ address w → u c.at < c.most → remaining C (used address u w) < remaining C u
   unfolding remaining
+  remaining-lt [] u w d m e l = elim m [ ]
   remaining-lt (c ∷ C) u w d first e l = omega (arith, remaining-le C u w, used_one address u w c.at e, l)
   remaining-lt (c ∷ C) u w d (later m) e l = omega (arith, remaining-lt C u w d m e l, used_more address u w c.at)
 

@@ -9,7 +9,7 @@ use Rattle.laws.specs.Choice.{pick}
 use Rattle.laws.proofs.Computed.{true→T}
 use Rattle.graph.specs.Graph.{Edge}
 use Rattle.graph.proofs.Reach.{reach_snoc}
-use Rattle.routines.specs.Calling.{Flow, Routine, after, within, call}
+use Rattle.routines.specs.Calling.{Flow, Routine, after, within}
 use Rattle.routines.specs.Losing.{Loses}
 use Rattle.routines.proofs.Within.{edge_on, edge-call}
 use Rattle.counts.specs.Counts.{Count, Numbers, none, used, Fits}
@@ -79,7 +79,7 @@ module _ (f : Flow) (K : ℕ → Bool) (N : Numbering) (masks : (v : ℕ) → Re
 
   first-is : (w : ℕ) → first_node N w ≡ node w (used N.address none w)
   first-is w =
-      let e = moved_is N.address w {C = C} {mask = 0} {there = N.mask w} {u = none} (record { at = λ c m. omega arith }) (none_wanted (N.address w) C (N.mask w)) in
+      let e = moved_is N.address w {u = none} {C = C} {mask = 0} {there = N.mask w} (record { at = λ c m. omega arith }) (none_wanted (N.address w) C (N.mask w)) in
       ap (λ (x : ℕ). N.base w + x) (ap (λ (z : ℕ). moved C 0 (N.mask w) (N.address w) z) (sym (digits_none C)) ∙ e)
 
   -- what follows is reached too

@@ -83,8 +83,8 @@ module _ {f : Flow} {n E : ℕ} (small : Small f n E) (widens : Widens f) {K K' 
   path-in {r} {ks = ks} {u = u} n live i (Counted.calls {v = v} {l = l} k p) =
       let e : after f K v ≡ after f K' v = after_same f K K' v (known-to small widens judged judged' (f.entry v) (call live i k)) in
       Counted.calls {ks = ks} {l = l} k (subst (λ y. Counted f K' address C (record { place = y; numbers = u } ∷ ks) (used address counts.none (f.from (f.entry v))) (f.from (f.entry v)) l) e
-      (path-in (inner n live i k) (call live i k) here p))
-  path-in (inner {r = r} n live' j c) live i (Counted.ret k fits p) = Counted.ret k fits (path-in n live' (reach_snoc j (edge-call f K r c)) p)
+      (path-in {r = called (f.entry v)} (inner n live i k) (call live i k) here p))
+  path-in (inner {r = r} n live' j c) live i (Counted.ret k fits p) = Counted.ret k fits (path-in {r = r} n live' (reach_snoc j (edge-call f K r c)) p)
 
   path-to : {l : List ℕ} → CountedPath f K address C l → CountedPath f K' address C l
   path-to p = path-in none handler here p

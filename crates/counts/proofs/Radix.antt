@@ -58,6 +58,7 @@ product_size (Masks.clear e w m) = rw e (Product.weighs_not w (product_size m))
 -- equal digits are of equal numbers, as far as they weigh
 pub digits_one : {W : Count → Type 0} {C : List Count} {mask : ℕ} {u t : Numbers} → Masks W C mask → Ranged C u → Ranged C t → digits C mask u ≡ digits C mask t → (c : Count) → Member c C → W c → u c.at ≡ t c.at
 unfolding digits
+digits_one Masks.none hu ht same d i x = elim i [ ]
 digits_one {u = u} {t = t} (Masks.set {c = c} {C = C} {mask = mask} e w m) hu ht same d first x =
     let k = c.most in
     let z : u c.at + suc k * digits C (mask / 2) u ≡ t c.at + suc k * digits C (mask / 2) t = rw e at same in
@@ -114,7 +115,7 @@ module _ (address : ℕ → ℕ) (w : ℕ) (c : Count) (C : List Count) (mask th
       step ∙ combine (weighs_first there) (suc c.most) (stepped c (address w) (first_of c mask d)) (used address u w c.at) (moved C (mask / 2) (there / 2) (address w) (rest_of c mask d)) (digits C (there / 2) (used address u w))
       (λ t. ap (stepped c (address w)) (e t) ∙ sym (used_is address u w c)) (ap (moved C (mask / 2) (there / 2) (address w)) r ∙ ih) ∙ sym goal
 
-pub moved_is : (address : ℕ → ℕ) (w : ℕ) {C : List Count} {mask there : ℕ} {u : Numbers} → Ranged C u → Wanted u (address w) C mask there
+pub moved_is : (address : ℕ → ℕ) (w : ℕ) {u : Numbers} {C : List Count} {mask there : ℕ} → Ranged C u → Wanted u (address w) C mask there
     → moved C mask there (address w) (digits C mask u) ≡ digits C there (used address u w)
 moved_is address w h Wanted.none = unfold moved digits in refl
 moved_is address w {u = u} h (Wanted.weighs {c = c} {C = C} {mask = mask} {there = there} e rest) =
@@ -168,18 +169,22 @@ module _ (address : ℕ → ℕ) (w : ℕ) where
   test : (c : Count) (C : List Count) (mask : ℕ) (u : Numbers) → Bool
   test c C mask u = ltb (stepped c (address w) (first_of c mask (digits (c ∷ C) mask u))) (suc c.most)
 
-  pub fits-so : {C : List Count} {mask there : ℕ} {u : Numbers} → Ranged C u → Wanted u (address w) C mask there → fits_in C mask (address w) (digits C mask u) ≡ true → Fits address C u w
+  fits-at : (d : Count) {u : Numbers} {C : List Count} {mask there : ℕ} → Ranged C u → Wanted u (address w) C mask there → fits_in C mask (address w) (digits C mask u) ≡ true → Member d C → d.at ≡ address w → u d.at < d.most
   unfolding fits_in test
-  fits-so {C = c ∷ C} {mask = mask} {there = there} {u = u} h wanted e d first at =
+  fits-at d {C = []} h wanted e m at = elim m [ ]
+  fits-at d {u = u} {C = c ∷ C} {mask = mask} {there = there} h wanted e first at =
       let x = head_of h wanted in
       let n = first_of c mask (digits (c ∷ C) mask u) in
       let t : test c C mask u ≡ true = both_first (test c C mask u) (fits_in C (mask / 2) (address w) (rest_of c mask (digits (c ∷ C) mask u))) e in
       let l : n < c.most = step_lt c (address w) n (ltb-true (stepped c (address w) n) (suc c.most) t) at in
       omega (arith, l, x.is at)
-  fits-so {C = c ∷ C} {mask = mask} {there = there} {u = u} h wanted e d (later m) at =
+  fits-at d {u = u} {C = c ∷ C} {mask = mask} {there = there} h wanted e (later m) at =
       let x = head_of h wanted in
       let t = both_second (test c C mask u) (fits_in C (mask / 2) (address w) (rest_of c mask (digits (c ∷ C) mask u))) e in
-      fits-so (ranged_rest h) x.others (rw (rest_digits c C mask u (h.at c first)) at t) d m at
+      fits-at d (ranged_rest h) x.others (rw (rest_digits c C mask u (h.at c first)) at t) m at
+
+  pub fits-so : {C : List Count} {mask there : ℕ} {u : Numbers} → Ranged C u → Wanted u (address w) C mask there → fits_in C mask (address w) (digits C mask u) ≡ true → Fits address C u w
+  fits-so h wanted e d m at = fits-at d h wanted e m at
 
   pub fits-back : (C : List Count) {mask there : ℕ} {u : Numbers} → Ranged C u → Wanted u (address w) C mask there → Fits address C u w → fits_in C mask (address w) (digits C mask u) ≡ true
   unfolding fits_in test

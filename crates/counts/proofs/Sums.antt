@@ -53,6 +53,7 @@ not_first first a b = a refl
 not_first (later i) a b = b i
 
 once_without : {v : ℕ} {l m : List ℕ} → Once l → Without v l m → Once m × (Member v m → ⊥)
+once_without Once.none w = elim w [ ]
 once_without (Once.adds new o) Without.now = (o, new)
 once_without (Once.adds new o) (Without.then w) =
     let y = once_without o w in
@@ -68,6 +69,7 @@ outside (later i) j none-there = i
 
 module _ {Has : ℕ → ℕ → Type 0} (one : (v x y : ℕ) → Has v x → Has v y → x ≡ y) where
   total-without : {v n : ℕ} {l m : List ℕ} → Total Has l n → Without v l m → (x : ℕ) × (k : ℕ) × Has v x × Total Has m k × (n ≡ x + k)
+  total-without Total.none w = elim w [ ]
   total-without (Total.adds {x = x} {n = n} h t) Without.now = (x, n, h, t, refl)
   total-without (Total.adds {x = y} h t) (Without.then w) =
       let z = total-without t w in

@@ -18,7 +18,7 @@ use Rattle.routines.proofs.Within.{edge_on, edge-call, edge-cases}
 use Rattle.counts.specs.Counts.{Count, Member, first, later, Numbers, none, is_counted, used, uncounted, IsUncountedLoop}
 use Rattle.counts.specs.Weights.{Weighs}
 use Rattle.counts.specs.Unrolled.{Closed, Unrolls}
-use Rattle.counts.proofs.Unrolled.{at, kind_at, stepped}
+use Rattle.counts.proofs.Unrolled.{kind_at, stepped}
 
 -- a counted address is that of a count
 pub counted_member : (C : List Count) (x : ℕ) → is_counted C x ≡ true → (c : Count) × Member c C × (c.at ≡ x)

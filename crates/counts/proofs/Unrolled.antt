@@ -6,8 +6,7 @@ use mathlib.Core.List.{List, [], ◌∷◌, map}
 use Prim.Native.Nat.{ℕ, suc}
 use native.Mathlib.Omega.{arith}
 use lib.ListN.{length}
-use Rattle.graph.specs.Graph.{sum}
-use Rattle.routines.specs.Calling.{Flow, after, Path, HandlerPath, opened, deepest, depth, Before, FirstOf}
+use Rattle.routines.specs.Calling.{Flow, after, Path, HandlerPath, opened, deepest, Before, FirstOf}
 use Rattle.routines.specs.Answer.{Found, HasBound, PathAnswer}
 use Rattle.routines.proofs.Paired.{Both, none, pair, Same, both_sum, path_answer_to}
 use Rattle.counts.specs.Counts as counts
@@ -207,6 +206,8 @@ module _ {f : Flow} {K : ℕ → Bool} {address : ℕ → ℕ} {C : List Count} 
       let fits = fits-of turns ne' in
       let z = turn-to turns ne' (rw (n ∙ ap g.next s.is) at t) (rw (o ∙ ap g.other s.is) at t') (closed.step s.good k' (inl refl) fits.0) (closed.step s.good k' (inr refl) fits.1) in
       rw (stands_one s' s) (Before.turns k' z.0 z.1 z.2)
+  before-to none _ x = elim x [ ]
+  before-to (pair s b) none x = elim x [ ]
   before-to (pair s b) (pair s' b') (Before.later x) = rw (stands_one s' s) (Before.later (before-to b b' x))
 
   first_to : {μ ν : List ℕ → ℕ} → M g.start → ((l m : List ℕ) → Both Stands l m → μ l ≡ ν m) → {l h : List ℕ} → CountedPath f K address C h → Both Stands l h → FirstOf g (HandlerPath g L) μ l

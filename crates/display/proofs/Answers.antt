@@ -1,12 +1,11 @@
 -- What the call answers in each of its three cases, and that any two answers to the same are equal.
 use Prim.Native.Nat.{ℕ, ◌<◌, ◌≤◌}
-use mathlib.Core.Bool.{Bool, true, false, not}
+use mathlib.Core.Bool.{Bool, true, false}
 use mathlib.Core.List.{List}
 use mathlib.Core.Path.{◌≡◌, refl, sym, ◌∙◌}
 use native.Mathlib.Decide.{dec_lt}
 use native.Mathlib.Omega.{arith}
 use lib.ListN.{length}
-use borrow.Author.Tests.{not-true, not-false}
 use Rattle.laws.specs.Decides.{Decides}
 use Rattle.laws.proofs.Computed.{true→T}
 use Rattle.device.specs.declared.Device.{Device}
@@ -18,11 +17,11 @@ use Rattle.display.specs.Display.{Shows, Refused, DisplayOf}
 use Rattle.display.proofs.Shows.{one-buffer}
 
 -- what is known where the test that decides a statement failed, and where it passed
-pub fails : {t : Bool} {P : Type 0} → Decides t P → not t ≡ true → P → ⊥
-fails {t} d e p = rw (not-true t e) at (d.complete p)
+pub fails : {t : Bool} {P : Type 0} → Decides t P → t ≡ false → P → ⊥
+fails {t} d e p = rw e at (d.complete p)
 
-pub passes : {t : Bool} {P : Type 0} → Decides t P → not t ≡ false → P
-passes {t} d e = d.sound (true→T (not-false t e))
+pub passes : {t : Bool} {P : Type 0} → Decides t P → t ≡ true → P
+passes {t} d e = d.sound (true→T e)
 
 module _ {d : Device} (m : Machine) (b : List ℕ) where
   pub outside-ranges : (Valid d m → ⊥) → DisplayOf d m b b record_outside_the_ranges

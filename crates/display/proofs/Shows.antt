@@ -5,10 +5,10 @@ use mathlib.Core.List.{List, ◌++◌}
 use mathlib.Core.Path.{◌≡◌, refl, sym, ap, ◌∙◌}
 use native.Mathlib.Decide.{dec_lt}
 use native.Mathlib.Omega.{arith}
-use lib.Dec.{T, eqb, eqb→eq}
+use lib.Dec.{eqb, eqb→eq}
 use lib.ListN.{length, get_or, drop, length-append, length-drop, get_or-append}
 use lib.Seq.{ext_get_or, get_or-drop, drop_at}
-use Rattle.laws.proofs.Computed.{below, at}
+use Rattle.laws.proofs.Computed.{at}
 use Rattle.bits.specs.Bits.{has_bit, bit_of}
 use Rattle.record.specs.Valid.{Nibbles}
 use Rattle.record.specs.declared.Machine.{Machine}

@@ -17,10 +17,10 @@ use bound_calls::node_at;
 use bound_numbered::explore;
 use device::Device;
 use graph::PLACES;
-use libc::STDERR_FILENO;
+use program::arguments::{arg, is_given};
 use program::image::{chosen_window, open_window};
 use program::refusals::refuse_address;
-use program::streams::{ending_of, say, show, show_part};
+use program::streams::{STDERR_FILENO, ending_of, say, show, show_part};
 use program::words::{Choice, Chosen, address_word};
 use text::digits::put_text;
 use text::words::Address;
@@ -242,26 +242,26 @@ fn draw_at(d: Device, image: &[u8], p3: u8, at: u16) -> bool
 }
 
 // The address that a word names, the last.
-fn draw_word(d: Device, image: &[u8], p3: u8, word: usize) -> bool
+fn draw_word(rt: &HostRuntime, d: Device, image: &[u8], p3: u8, word: usize) -> bool
     requires { (window_end p3 ≤ length image.now) × (word ≤ 1000) }
 {
-    if os::arg_count() <= word {
+    if !is_given(rt, word) {
         usage();
         return true;
     }
     let mut name = io::buffer();
-    let n = os::arg(word, &mut name);
+    let n = arg(rt, word, &mut name);
     let Address::At(at) = address_word(&name[..n]) else {
         return refuse_address();
     };
-    if word + 1 < os::arg_count() {
+    if is_given(rt, word + 1) {
         usage();
         return true;
     }
     draw_at(d, image, p3, at)
 }
 
-fn draw_chosen(c: Chosen) -> bool {
+fn draw_chosen(rt: &HostRuntime, c: Chosen) -> bool {
     let d = c.device;
     let mut image = [0u8; 16385];
     let file = open_window(c, &mut image, &USAGE);
@@ -269,16 +269,16 @@ fn draw_chosen(c: Chosen) -> bool {
     if size == 0 {
         return file.written;
     }
-    draw_word(d, &image[..size], file.p3, c.before as usize + 2)
+    draw_word(rt, d, &image[..size], file.p3, c.before as usize + 2)
 }
 
-fn main() {
-    if is_asked() {
+fn main(rt: HostRuntime) {
+    if is_asked(&rt) {
         return;
     }
-    let Choice::Made(c) = chosen_window() else {
+    let Choice::Made(c) = chosen_window(&rt) else {
         usage();
         return;
     };
-    say(ending_of(false, draw_chosen(c)));
+    say(ending_of(false, draw_chosen(&rt, c)));
 }

@@ -2,8 +2,9 @@
 use program::help::is_told;
 
 // Whether the first word asked for the help or for the version, which are then written.
-pub fn is_asked() -> bool {
+pub fn is_asked(rt: &HostRuntime) -> bool {
     is_told(
+        rt,
         b"fromhex: the image that a text of Intel HEX gives.
 
 usage: fromhex [--device NAME] < TEXT

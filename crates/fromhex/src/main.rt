@@ -9,10 +9,10 @@ use crate::help::is_asked;
 use device::Device;
 use hex_chunks::{HexChunks, Told, feed, finish, start};
 use hex_reader::work::{IMAGE_SIZE, P982_IMAGE_SIZE, P982_WORK_SIZE, WORK_SIZE};
-use libc::{STDERR_FILENO, STDIN_FILENO};
+use program::arguments::is_given;
 use program::image::chosen_device;
 use program::part::read_behind;
-use program::streams::{Ending, ending_of, say, show};
+use program::streams::{Ending, STDERR_FILENO, ending_of, say, show};
 use program::words::Choice;
 
 fn usage() {
@@ -43,13 +43,19 @@ fn end(state: HexChunks, size: usize, work: &mut [u8], image: &mut [u8]) -> Endi
 }
 
 // The size is that of the device's image. A proved loop has to end, and nothing says that a text does: no run uses up the turns.
-fn session(size: usize, part: &mut [u8], work: &mut [u8], image: &mut [u8]) -> Ending
+fn session(
+    rt: &HostRuntime,
+    size: usize,
+    part: &mut [u8],
+    work: &mut [u8],
+    image: &mut [u8],
+) -> Ending
     requires { (0 < length part.old) × (size ≤ 65536) }
 {
     let mut state = start();
     let mut turns = u64::MAX;
     while turns > 0 {
-        let got = read_behind(STDIN_FILENO, part, 0);
+        let got = read_behind(&mut rt.stdin(), part, 0);
         if got.failed {
             return Ending::CannotRead;
         }
@@ -69,39 +75,39 @@ fn session(size: usize, part: &mut [u8], work: &mut [u8], image: &mut [u8]) -> E
     Ending::Done
 }
 
-fn read_em73862() -> Ending {
+fn read_em73862(rt: &HostRuntime) -> Ending {
     let mut part = io::large_buffer();
     let mut work = [0u8; WORK_SIZE];
     let mut image = [0u8; IMAGE_SIZE];
-    session(IMAGE_SIZE, &mut part, &mut work, &mut image)
+    session(rt, IMAGE_SIZE, &mut part, &mut work, &mut image)
 }
 
-fn read_em73p982() -> Ending {
+fn read_em73p982(rt: &HostRuntime) -> Ending {
     let mut part = io::large_buffer();
     let mut work = [0u8; P982_WORK_SIZE];
     let mut image = [0u8; P982_IMAGE_SIZE];
-    session(P982_IMAGE_SIZE, &mut part, &mut work, &mut image)
+    session(rt, P982_IMAGE_SIZE, &mut part, &mut work, &mut image)
 }
 
-fn read(d: Device) -> Ending {
+fn read(rt: &HostRuntime, d: Device) -> Ending {
     match d {
-        Device::Em73862 => read_em73862(),
-        Device::Em73P982 => read_em73p982(),
+        Device::Em73862 => read_em73862(rt),
+        Device::Em73P982 => read_em73p982(rt),
     }
 }
 
-fn main() {
-    if is_asked() {
+fn main(rt: HostRuntime) {
+    if is_asked(&rt) {
         return;
     }
-    let Choice::Made(c) = chosen_device() else {
+    let Choice::Made(c) = chosen_device(&rt) else {
         usage();
         return;
     };
-    if c.before as usize + 1 < os::arg_count() {
+    if is_given(&rt, c.before as usize + 1) {
         usage();
         return;
     }
     let d = c.device;
-    say(read(d));
+    say(read(&rt, d));
 }

@@ -4,7 +4,6 @@ use mathlib.Core.Bool.{true, false}
 use mathlib.Core.List.{List, [], ◌∷◌}
 use Prim.Native.Nat.{ℕ}
 use native.Mathlib.Decide.{ℕ_discrete}
-use lib.Dec.{T}
 use borrow.Author.Tests.{ne_eqb}
 use Rattle.laws.proofs.Computed.{NoKey, true→T}
 use Rattle.laws.specs.Among.{among}

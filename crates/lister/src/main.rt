@@ -10,9 +10,9 @@ ghost use Rattle.device.specs.Device.{window_end};
 
 use crate::help::is_asked;
 use device::{image_size, is_banked};
-use libc::STDERR_FILENO;
+use program::arguments::{arg, is_given};
 use program::image::{chosen_window, open_image, refuse_window};
-use program::streams::{ending_of, say, show, show_part};
+use program::streams::{STDERR_FILENO, ending_of, say, show, show_part};
 use program::words::{Choice, Chosen, address_word};
 use text::words::{Address, Number};
 
@@ -48,45 +48,45 @@ fn list(image: &[u8], p3: u8, at: u16, count: u32) -> bool
     show_part(&out, n)
 }
 
-fn list_from(image: &[u8], p3: u8, before: u8, at: u16) -> bool
+fn list_from(rt: &HostRuntime, image: &[u8], p3: u8, before: u8, at: u16) -> bool
     requires { window_end p3 ≤ length image.now }
 {
     let word_at = before as usize + 3;
-    if os::arg_count() <= word_at {
+    if !is_given(rt, word_at) {
         return list(image, p3, at, 8192);
     }
     let mut word = io::buffer();
-    let n = os::arg(word_at, &mut word);
+    let n = arg(rt, word_at, &mut word);
     let Number::Value(count) = text::words::read_number(&word[..n], 10) else {
         usage();
         return true;
     };
-    if word_at + 1 < os::arg_count() {
+    if is_given(rt, word_at + 1) {
         usage();
         return true;
     }
     list(image, p3, at, count)
 }
 
-fn list_image(image: &[u8], p3: u8, before: u8) -> bool
+fn list_image(rt: &HostRuntime, image: &[u8], p3: u8, before: u8) -> bool
     requires { window_end p3 ≤ length image.now }
 {
     let word_at = before as usize + 2;
-    if os::arg_count() <= word_at {
+    if !is_given(rt, word_at) {
         return list(image, p3, 0, 8192);
     }
     let mut word = io::buffer();
-    let n = os::arg(word_at, &mut word);
+    let n = arg(rt, word_at, &mut word);
     let Address::At(at) = address_word(&word[..n]) else {
         return refuse_address();
     };
-    list_from(image, p3, before, at)
+    list_from(rt, image, p3, before, at)
 }
 
-fn list_chosen(c: Chosen) -> bool {
+fn list_chosen(rt: &HostRuntime, c: Chosen) -> bool {
     let d = c.device;
     let mut image = [0u8; 16385];
-    let file = open_image(d, c.before as usize + 1, &mut image, &USAGE);
+    let file = open_image(rt, d, c.before as usize + 1, &mut image, &USAGE);
     let size = file.size;
     if size != image_size(d) {
         return file.written;
@@ -94,16 +94,16 @@ fn list_chosen(c: Chosen) -> bool {
     if !is_banked(d, c.p3) {
         return refuse_window();
     }
-    list_image(&image[..size], c.p3 as u8, c.before)
+    list_image(rt, &image[..size], c.p3 as u8, c.before)
 }
 
-fn main() {
-    if is_asked() {
+fn main(rt: HostRuntime) {
+    if is_asked(&rt) {
         return;
     }
-    let Choice::Made(c) = chosen_window() else {
+    let Choice::Made(c) = chosen_window(&rt) else {
         usage();
         return;
     };
-    say(ending_of(false, list_chosen(c)));
+    say(ending_of(false, list_chosen(&rt, c)));
 }

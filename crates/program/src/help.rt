@@ -2,6 +2,7 @@
 ghost use Rattle.std.specs.Prelude.{◌≡◌};
 ghost use Rattle.program.specs.Help.{asked_by};
 
+use crate::arguments::arg;
 use crate::streams::{ending_of, say, show};
 use check::same;
 
@@ -29,13 +30,13 @@ fn asked_by(word: &[u8]) -> Asked
 
 // Ours, and the kit that proved and compiled it, as `rt version` prints it.
 pub fn show_version() -> bool {
-    show(b"Bakethrush 1.0\nrattle-kit-5b-plain logic 097e4c862dff5811\n")
+    show(b"Bakethrush 1.0\nrattle-kit-13f logic dac8208d650f15bf\n")
 }
 
 // Whether the first word asked for one of the two, which is then written: the program has nothing more to do.
-pub fn is_told(help: &[u8]) -> bool {
+pub fn is_told(rt: &HostRuntime, help: &[u8]) -> bool {
     let mut word = io::buffer();
-    let n = os::arg(1, &mut word);
+    let n = arg(rt, 1, &mut word);
     let asked = asked_by(&word[..n]);
     match asked {
         Asked::Help => {

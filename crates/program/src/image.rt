@@ -3,11 +3,11 @@
 ghost use Rattle.std.specs.Prelude.{◌≡◌, ◌<◌, ◌≤◌, length};
 ghost use Rattle.io.specs.Counts.{IsPrefixLen};
 
+use crate::arguments::{arg, is_given, open_read};
 use crate::part::fill;
-use crate::streams::show;
+use crate::streams::{STDERR_FILENO, show};
 use crate::words::{Choice, device_words, window_words};
 use device::{Device, image_size};
-use libc::STDERR_FILENO;
 use text::digits::decimal;
 
 // What came of reading a file: whether it was opened, whether a read failed, and how many of its bytes are in the buffer.
@@ -26,19 +26,17 @@ pub struct ImageFile {
 }
 
 // Reads the file. A buffer longer than an image shows that a file is too long.
-fn read_file(path: &[u8], buffer: &mut [u8]) -> FileRead
+fn read_file(rt: &HostRuntime, path: &[u8], buffer: &mut [u8]) -> FileRead
     ensures { IsPrefixLen result.size buffer.new }
 {
-    let file = os::open_read(path);
-    if file < 0 {
+    let Some(mut file) = open_read(rt, path) else {
         return FileRead {
             opened: false,
             failed: false,
             size: 0,
         };
-    }
-    let got = fill(file, buffer);
-    libc::close(file);
+    };
+    let got = fill(&mut file, buffer);
     FileRead {
         opened: true,
         failed: got.failed,
@@ -114,16 +112,22 @@ fn judge_size(d: Device, path: &[u8], size: usize) -> ImageFile
 }
 
 // Opens the image that a word names, in a buffer that is longer than it. Without the word the usage line is all that is said.
-pub fn open_image(d: Device, word: usize, image: &mut [u8], usage: &[u8]) -> ImageFile
+pub fn open_image(
+    rt: &HostRuntime,
+    d: Device,
+    word: usize,
+    image: &mut [u8],
+    usage: &[u8],
+) -> ImageFile
     ensures { IsPrefixLen result.size image.new }
 {
-    if os::arg_count() <= word {
+    if !is_given(rt, word) {
         io::write_all(STDERR_FILENO, usage);
         return refused(show(b"refused 01\n"));
     }
     let mut path = io::buffer();
-    let n = os::arg(word, &mut path);
-    let file = read_file(&path[..n], image);
+    let n = arg(rt, word, &mut path);
+    let file = read_file(rt, &path[..n], image);
     if !file.opened {
         return refused(refuse(&path[..n], b": cannot be opened\n"));
     }
@@ -141,23 +145,23 @@ pub fn refuse_window() -> bool {
 }
 
 // What the words before the image choose, for a program that takes no P3.
-pub fn chosen_device() -> Choice {
+pub fn chosen_device(rt: &HostRuntime) -> Choice {
     let mut one = io::buffer();
     let mut two = io::buffer();
-    let a = os::arg(1, &mut one);
-    let b = os::arg(2, &mut two);
+    let a = arg(rt, 1, &mut one);
+    let b = arg(rt, 2, &mut two);
     device_words(&one[..a], &two[..b])
 }
 
 // What the words before the image choose, for a program that takes P3.
-pub fn chosen_window() -> Choice {
+pub fn chosen_window(rt: &HostRuntime) -> Choice {
     let mut one = io::buffer();
     let mut two = io::buffer();
     let mut three = io::buffer();
     let mut four = io::buffer();
-    let a = os::arg(1, &mut one);
-    let b = os::arg(2, &mut two);
-    let c = os::arg(3, &mut three);
-    let d = os::arg(4, &mut four);
+    let a = arg(rt, 1, &mut one);
+    let b = arg(rt, 2, &mut two);
+    let c = arg(rt, 3, &mut three);
+    let d = arg(rt, 4, &mut four);
     window_words(&one[..a], &two[..b], &three[..c], &four[..d])
 }

@@ -1,5 +1,6 @@
 #![tactic(auto)]
 
+pub mod arguments;
 pub mod help;
 pub mod image;
 pub mod part;

@@ -3,6 +3,7 @@ ghost use Rattle.std.specs.Prelude.{◌+◌, ◌≤◌, length};
 ghost use Rattle.io.specs.Counts.{IsPrefixLen};
 
 use crate::streams::{Got, got_of};
+use std::io::Read;
 
 // The characters from a place on, moved to the front.
 pub fn to_front(part: &mut [u8], from: usize, count: usize)
@@ -16,7 +17,7 @@ pub fn to_front(part: &mut [u8], from: usize, count: usize)
 }
 
 // What a read behind the characters that are kept gave. Where there is no room for one more it counts as a read that failed, since it says nothing of the end.
-pub fn read_behind(file: i32, part: &mut [u8], kept: usize) -> Got
+pub fn read_behind<R: Read>(file: &mut R, part: &mut [u8], kept: usize) -> Got
     requires { kept ≤ length part.old }
     ensures { kept + result.count ≤ length part.old }
 {
@@ -27,12 +28,14 @@ pub fn read_behind(file: i32, part: &mut [u8], kept: usize) -> Got
         };
     }
     let behind = &mut part[kept..];
-    let answer = libc::read(file, behind);
-    got_of(answer, behind)
+    match file.read(behind) {
+        Ok(count) => got_of(count as isize, behind),
+        Err(_) => got_of(-1, behind),
+    }
 }
 
 // Reads until the buffer is full, the file ends or a read fails, and how many bytes then stand in the buffer.
-pub fn fill(file: i32, buffer: &mut [u8]) -> Got
+pub fn fill<R: Read>(file: &mut R, buffer: &mut [u8]) -> Got
     ensures { IsPrefixLen result.count buffer.new }
 {
     let mut done = 0;

@@ -4,7 +4,6 @@ ghost use Rattle.program.specs.Spans.{is_last, span_of};
 
 use crate::part::{read_behind, to_front};
 use crate::streams::Got;
-use libc::STDIN_FILENO;
 
 // Whether the script cannot be read, whether what no LF ends is the last line, and which part of the buffer is still to be told.
 #[derive(Clone, Copy)]
@@ -38,7 +37,7 @@ fn is_last(failed: bool, count: usize) -> bool
 }
 
 // No whole line is left: the rest of the part goes to its front, and more is read behind it. A line that is longer than a frame is bad however it goes on.
-fn refill(longest: usize, part: &mut [u8], from: usize, to: usize) -> Span
+fn refill(rt: &HostRuntime, longest: usize, part: &mut [u8], from: usize, to: usize) -> Span
     requires { (from ≤ to) × (to ≤ length part.old) × (longest < length part.old) }
     ensures { (result.from ≤ result.to) × (result.to ≤ length part.old) }
 {
@@ -52,16 +51,23 @@ fn refill(longest: usize, part: &mut [u8], from: usize, to: usize) -> Span
             to: kept,
         };
     }
-    judged(kept, read_behind(STDIN_FILENO, part, kept))
+    judged(kept, read_behind(&mut rt.stdin(), part, kept))
 }
 
 // After so many characters of the part were told: the rest of it, or more of the script where none were.
-pub fn go_on(longest: usize, part: &mut [u8], from: usize, to: usize, used: usize) -> Span
+pub fn go_on(
+    rt: &HostRuntime,
+    longest: usize,
+    part: &mut [u8],
+    from: usize,
+    to: usize,
+    used: usize,
+) -> Span
     requires { (from + used ≤ to) × (to ≤ length part.old) × (longest < length part.old) }
     ensures { (result.from ≤ result.to) × (result.to ≤ length part.old) }
 {
     if used == 0 {
-        return refill(longest, part, from, to);
+        return refill(rt, longest, part, from, to);
     }
     Span {
         failed: false,

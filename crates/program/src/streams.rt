@@ -3,7 +3,10 @@ ghost use Rattle.std.specs.Prelude.{◌≡◌, true, ◌≤◌, length};
 ghost use Rattle.io.specs.Counts.{IsPrefixLen};
 ghost use Rattle.program.specs.Answers.{got_of, ending_of};
 
-use libc::{STDERR_FILENO, STDOUT_FILENO};
+// The descriptors of what a program writes.
+pub const STDOUT_FILENO: i32 = 1;
+
+pub const STDERR_FILENO: i32 = 2;
 
 // What a read gave: it failed, or so many bytes, none where the input has ended.
 #[derive(Clone, Copy)]

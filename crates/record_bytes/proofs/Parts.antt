@@ -2,11 +2,11 @@
 use Prim.Native.Nat.{ℕ, zero, suc, ◌+◌, ◌-◌, ◌≤◌, ◌<◌}
 use mathlib.Core.Path.{◌≡◌, refl, sym, ap, ◌∙◌}
 use mathlib.Core.Bool.{Bool}
-use mathlib.Core.List.{List, [], ◌∷◌, ◌++◌, append-nil, append_assoc}
+use mathlib.Core.List.{List, [], ◌∷◌, ◌++◌, append_assoc}
 use native.Mathlib.Omega.{arith}
-use lib.ListN.{length, get_or, take, drop, length-drop, take-append-drop, drop_of_length-le}
-use lib.Seq.{take_all, take-length, drop-length, drop-cons, drop-drop, sets, sets-eq, length-sets}
-use borrow.Rule.Slice.PartMut.{post_of, put_mid}
+use lib.ListN.{length, get_or, take, drop, length-drop, take-append-drop}
+use lib.Seq.{take_all, drop-cons, drop-drop, sets, sets-eq, length-sets}
+use borrow.Rule.Slice.PartMut.{put_mid}
 use Rattle.laws.specs.Writing.{Wrote}
 use Rattle.laws.proofs.Computed.{listed}
 use Rattle.laws.proofs.Writing.{wrote_then, wrote_front}
@@ -27,10 +27,6 @@ listed_part h i (suc n) f =
     let l : i < length h = omega arith in
     rw (drop-cons h i 0 l, listed_part h (suc i) n (omega arith))
 
--- a list copied over one of the same length
-pub copied : (s d : List ℕ) → length s ≡ length d → take (length s) s ++ drop (length s) d ≡ s
-copied s d e = rw (take-length s, e, drop-length d) (append-nil s)
-
 -- 44 bytes: five, the eleven latches, and 28
 pub head_parts : (h : List ℕ) → length h ≡ 44 → h ≡ listed (λ k. get_or h k 0) 0 5 ++ (take 11 (drop 5 h) ++ listed (λ k. get_or h k 0) 16 28)
 head_parts h l =
@@ -47,12 +43,9 @@ head_laid h r i t p pc dp mode mark l er ei et ep epc edp em ek =
     rw (er.acc, er.hr, er.lr, er.cf, er.zf, er.sf, ei.ei, ei.il, ei.mask, ei.due, et.ta, et.tb, et.base, ep.latches, ep.p3, ep.p5, ep.p6, ep.p17, epc, edp, em, ek) (head_parts h l)
 
 -- a part copied into a buffer from a place on
-pub put_wrote : (out part y : List ℕ) (from : ℕ) → from + length part ≤ length out → y ≡ take (length part) part ++ drop (length part) (take (length out - from) (drop from out)) → Wrote out (put_mid from (length out - from) out y) from (from + length part) part
-put_wrote out part y from h e =
-    let whole : take (length out - from) (drop from out) ≡ drop from out = take_all (length out - from) (drop from out) (omega (arith, length-drop from out)) in
-    let none : post_of from (length out - from) out ≡ [] = drop_of_length-le (drop from out) {i = length out - from} (omega (arith, length-drop from out)) in
-    let text : y ≡ part ++ drop (from + length part) out = e ∙ rw (take-length part, whole, drop-drop (length part) from out) in
-    let buffer : put_mid from (length out - from) out y ≡ sets out from part = ap (λ (r : List ℕ). take from out ++ r) (ap (λ (r : List ℕ). y ++ r) none ∙ (append-nil y ∙ text)) ∙ (sym (append_assoc (take from out) part (drop (from + length part) out)) ∙ sym (sets-eq part out from h)) in
+pub put_wrote : (out part y : List ℕ) (from k : ℕ) → from + length part ≤ length out → k ≡ length part → y ≡ part → Wrote out (put_mid from k out y) from (from + length part) part
+put_wrote out part y from k h ek ey =
+    let buffer : put_mid from k out y ≡ sets out from part = rw (ek, ey) (ap (λ (r : List ℕ). take from out ++ (part ++ r)) (drop-drop (length part) from out) ∙ (sym (append_assoc (take from out) part (drop (from + length part) out)) ∙ sym (sets-eq part out from h))) in
     record { buffer = buffer; end = refl; within = h; size = ap length buffer ∙ length-sets out from part }
 
 nibbles_length : (m : Machine) → length (nibbles_of m.core) ≡ 16
@@ -69,9 +62,6 @@ room_for_ram s e f g = omega arith
 
 pub ram_rest : (b : List ℕ) → length b ≡ 416 → take (length b - 44) (drop 44 b) ≡ drop 44 b
 ram_rest b s = take_all (length b - 44) (drop 44 b) (omega (arith, length-drop 44 b))
-
-pub ram_length : (b : List ℕ) → length b ≡ 416 → length (take (length b - 44) (drop 44 b)) ≡ 372
-ram_length b s = rw (ram_rest b s) (omega (arith, length-drop 44 b))
 
 -- the three parts of a record, one after the other, in a buffer of 416
 pub packed : (m : Machine) (b x y z n o : List ℕ) → length b ≡ 416 → length m.ram ≡ 372 → n ≡ nibbles_of m.core → o ≡ others_of m.core → Wrote b x 0 (0 + length n) n → Wrote x y 16 (16 + length o) o → Wrote y z 44 (44 + length m.ram) m.ram → Holds z m

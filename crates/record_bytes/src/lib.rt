@@ -9,7 +9,6 @@ ghost use Rattle.record_bytes.specs.Layout.{head_size, record_size, two, four, m
 ghost use Rattle.record_bytes.specs.Unpacked.{FlagsFit, RegistersAt, InterruptsAt, TimersAt, PortsAt, Unpacks};
 
 use bits::bit_of;
-use bytes::copy;
 use device::Device;
 use frame::Pins;
 use laws::both;
@@ -120,7 +119,7 @@ fn put(out: &mut [u8], from: usize, part: &[u8])
     requires { from + length part.now ≤ length out.old }
     ensures { Wrote out.old out.new from (from + length part.now) part.now }
 {
-    copy(part, &mut out[from..]);
+    out[from..from + part.len()].copy_from_slice(part);
 }
 
 // The record's bytes in a buffer of its size.
@@ -277,7 +276,7 @@ fn head_at(bytes: &[u8]) -> [u8; HEAD_BYTES]
     ensures { result ≡ take head_size bytes.now }
 {
     let mut head = [0u8; HEAD_BYTES];
-    copy(&bytes[..HEAD_BYTES], &mut head);
+    head.copy_from_slice(&bytes[..HEAD_BYTES]);
     head
 }
 
@@ -286,7 +285,7 @@ fn ram_at(bytes: &[u8]) -> Ram
     ensures { result ≡ drop head_size bytes.now }
 {
     let mut ram = [0u8; RAM_NIBBLES];
-    copy(&bytes[HEAD_BYTES..], &mut ram);
+    ram.copy_from_slice(&bytes[HEAD_BYTES..]);
     ram
 }
 

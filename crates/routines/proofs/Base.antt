@@ -10,11 +10,11 @@ use Rattle.graph.specs.Graph as graph
 use Rattle.graph.specs.Graph.{Graph, GoesOn, Ends, Edge, Reach, here, step, sum, Longest, stop, by_next, by_other, next_only, Bad, Loops, Sound}
 use Rattle.graph.proofs.Reach.{reach_snoc}
 use Rattle.graph.proofs.Unique.{longest_path, longest_most}
-use Rattle.routines.specs.Calling.{Flow, Routine, outer, called, after, within, In, Live, handler, call, unknown, Knows, Recurs, IsBad, IsLoop, Path, rti, goes, calls, ret, HandlerPath, opened, deepest, depth, Before, turns, later, FirstOf}
+use Rattle.routines.specs.Calling.{Flow, outer, called, after, within, In, Live, handler, call, unknown, IsBad, IsLoop, Path, rti, goes, calls, HandlerPath, opened, deepest, depth, Before, turns, later, FirstOf}
 use Rattle.routines.specs.Shape.{Small, Widens}
 use Rattle.routines.specs.Answer.{Judged, HasBound}
 use Rattle.routines.proofs.Within.{on-goes, end-ends, edge_on, edge-cases, ends-kind, next-on, other-on}
-use Rattle.routines.proofs.First.{head_same}
+use Rattle.routines.proofs.First.{heads_same}
 use Rattle.routines.proofs.Done.{done}
 use Rattle.routines.proofs.Exists.{path-head, first-of-handler}
 use Rattle.routines.proofs.Same.{reach-to}
@@ -88,8 +88,14 @@ module _ (f : Flow) (K : ℕ → Bool) (none : NoCalls f K) where
 
     -- a path from where l goes on does not come before it
     no-turn : {v : ℕ} {l m : List ℕ} {w : ℕ} → Path f K [] w l → Path f K [] w m → Before f (v ∷ l) (v ∷ m) → Before f l m
-    no-turn p q (later h) = h
-    no-turn p q (turns k a b ne) = let x = path-head p in let y = path-head q in absurd (ne (cc))
+    no-turn {v} {l} {m} p q b = go b refl refl
+      where
+        go : {s t : List ℕ} → Before f s t → s ≡ v ∷ l → t ≡ v ∷ m → Before f l m
+        go (later {l = s} {m = t} h) e e' =
+            let a : s ≡ l = cc in
+            let b : t ≡ m = cc in
+            rw (← a, ← b) h
+        go (turns k a b ne) e e' = let x = path-head p in let y = path-head q in absurd (ne (cc))
 
     same_head : {v w x : ℕ} {l m : List ℕ} → v ∷ m ≡ v ∷ l → Path f K [] w l → Path f K [] x m → x ≡ w
     same_head {v} {w} {x} {l} {m} h p q = let a = path-head p in let b = path-head q in heads a.0 b.0 a.1 b.1
@@ -98,11 +104,16 @@ module _ (f : Flow) (K : ℕ → Bool) (none : NoCalls f K) where
         heads s t a b = cc
 
     same_turn : {v w x : ℕ} {l m : List ℕ} → Before f (v ∷ l) (v ∷ m) → Path f K [] w l → Path f K [] x m → x ≡ f.next v → x ≡ w
-    same_turn (later h) p q e = let a = path-head p in let b = path-head q in sym (head_same (rw (a.1, b.1) at h))
-    same_turn {v} {w} {x} (turns {w = y} {l = l} k n o ne) p q e = let a = path-head p in heads a.0 a.1
+    same_turn {v} {w} {x} {l} {m} d p q e = go d refl refl
       where
-        heads : (t : List ℕ) → y ∷ l ≡ w ∷ t → x ≡ w
-        heads t h = cc
+        go : {s t : List ℕ} → Before f s t → s ≡ v ∷ l → t ≡ v ∷ m → x ≡ w
+        go (later {l = s} {m = t} h) g g' =
+            let a = path-head p in
+            let b = path-head q in
+            let i : s ≡ w ∷ a.0 = cc in
+            let j : t ≡ x ∷ b.0 = cc in
+            sym (heads_same h i j)
+        go (turns k n o ne) g g' = let a = path-head p in cc
 
     -- what the first of the largest leaves behind its first place is the first of the largest from there
     tail-first : {v w : ℕ} {l : List ℕ} → f.kind v ≡ 1 → (w ≡ f.next v) ⊎ (w ≡ f.other v) → Path f K [] w l → FirstOf f (Path f K [] v) (sum c) (v ∷ l) → FirstOf f (Path f K [] w) (sum c) l

@@ -1,12 +1,12 @@
 -- Capped sums are exact where the handler's is below the cap; and where it is not, a path costs as much as the cap.
 use mathlib.Core.Path.{◌≡◌, refl, sym, ◌∙◌}
-use mathlib.Core.Logic.{◌⊎◌, inl, inr, ⊎_elim}
+use mathlib.Core.Logic.{◌⊎◌, inl, inr}
 use mathlib.Core.Bool.{Bool}
 use mathlib.Core.List.{List, [], ◌∷◌}
-use Prim.Native.Nat.{ℕ, ◌+◌, ◌≤◌, ◌<◌, max, min}
+use Prim.Native.Nat.{ℕ, ◌+◌, ◌≤◌, ◌<◌, max}
 use native.Mathlib.Omega.{arith}
 use native.Mathlib.Decide.{dec_le}
-use Rattle.graph.specs.Graph.{Edge, Reach, here, step, sum}
+use Rattle.graph.specs.Graph.{Reach, here, step, sum}
 use Rattle.graph.proofs.Reach.{reach_snoc}
 use Rattle.routines.specs.Calling as calling
 use Rattle.routines.specs.Calling.{Flow, Routine, outer, called, end_of, start_in, after, within, In, Live, handler, call, Path, HandlerPath}

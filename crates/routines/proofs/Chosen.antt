@@ -1,12 +1,12 @@
 -- A flow in which the place after each call is chosen: judged by what it says, it has the answers of the flow that it was chosen from.
-use mathlib.Core.Path.{◌≡◌, refl, sym, ap, subst, ◌∙◌}
+use mathlib.Core.Path.{◌≡◌, refl, sym, subst, ◌∙◌}
 use mathlib.Core.Logic.{◌⊎◌, inl, inr, ⊎_elim}
 use mathlib.Core.Bool.{Bool, true, false}
 use mathlib.Core.List.{List, [], ◌∷◌}
 use Prim.Native.Nat.{ℕ}
 use Rattle.laws.specs.Choice.{pick}
-use Rattle.graph.specs.Graph.{Edge, Reach, here, step, sum, Least}
-use Rattle.routines.specs.Calling.{Flow, Routine, outer, called, start_in, after, within, In, Live, handler, call, unknown, Plus, once, more, Calls, Recurs, IsBad, IsLoop, Path, rti, goes, calls, ret, HandlerPath, opened, deepest, depth, Before, turns, later, FirstOf}
+use Rattle.graph.specs.Graph.{Edge, Reach, here, step}
+use Rattle.routines.specs.Calling.{Flow, Routine, outer, called, start_in, after, within, In, Live, handler, call, unknown, Plus, once, more, Calls, Recurs, IsBad, IsLoop, Path, rti, goes, calls, ret, HandlerPath, opened, deepest, Before, turns, later, FirstOf}
 use Rattle.routines.specs.Answer.{LowestAddress, Found, HasBound, FlowAnswer, gives_21, gives_22, bounded}
 use Rattle.routines.specs.Shape.{Narrower, Widens}
 use Rattle.routines.proofs.Within.{edge_on, edge-call, edge-cases}

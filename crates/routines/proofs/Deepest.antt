@@ -14,7 +14,7 @@ use Rattle.routines.specs.Calling.{Flow, Routine, outer, called, end_of, start_i
 use Rattle.routines.proofs.Within.{edge_on, edge-call}
 use Rattle.routines.proofs.Done.{Nested, none, inner}
 use Rattle.routines.proofs.Exists.{path-head, path-rti, path-ret, path-call, path-on}
-use Rattle.routines.specs.Depths.{depth_in, depth_at, Value, Depths, pending, total, Turn, Route}
+use Rattle.routines.specs.Depths.{depth_at, Value, Depths, pending, total, Turn, Route}
 
 -- how many calls are open along a path, by the kind of its first place
 pub deep_on : (f : Flow) (n v : ℕ) (l : List ℕ) → f.kind v ≡ 1 → deepest f.kind n (v ∷ l) ≡ max n (deepest f.kind n l)
@@ -110,10 +110,10 @@ module _ (f : Flow) (K : ℕ → Bool) (inn out : ℕ → ℕ) (depths : Depths 
       omega (arith, at_fork v n (depths.value r v live i) k, deep_on f (length ks) v l k)
   no_deeper {r} n live i (calling.Path.calls {v} {ks} {l} k p) =
       let h : deepest f.kind (suc (length ks)) l ≤ max (suc (length ks) + inn (f.from (f.entry v))) (max (length ks + depth_at inn out ks (after f K v)) (pending inn out ks))
-      = no_deeper (inner n live i k) (call live i k) here p in
+      = no_deeper {r = called (f.entry v)} (inner n live i k) (call live i k) here p in
       omega (arith, at_call v n (depths.value r v live i) k, deep_call f (length ks) v l k)
   no_deeper (inner {r = r} {ks = ks} {u = u} n live' j c) live i (calling.Path.ret {v} {w} {l = l} k p) =
-      let h = no_deeper n live' (reach_snoc j (edge-call f K r c)) p in
+      let h = no_deeper {r = r} n live' (reach_snoc j (edge-call f K r c)) p in
       omega (arith, h, at_end_lem v (inner n live' j c) (depths.value (called (f.entry u)) v live i) k, deep_ret f (length ks) v l k)
 
   way-path : {goal reached : ℕ} {ks : List ℕ} {v : ℕ} {l : List ℕ} → Route f K inn out goal reached ks v l → Path f K ks v l
@@ -149,21 +149,21 @@ module _ (f : Flow) (K : ℕ → Bool) (inn out : ℕ → ℕ) (depths : Depths 
   goal-back goal reached v (inner {ks = ks} {u = u} n live' j c) live i k h g =
       back_goal reached (pending inn out ks) (length ks) (inn v) (length ks + depth_at inn out ks (after f K u)) goal (at_end_lem v (inner n live' j c) (depths.value (called (f.entry u)) v live i) k) h g
 
-  way_deep : {r : Routine} {ks : List ℕ} {goal reached v : ℕ} {l : List ℕ} → Nested f K r ks → Live f K r → Reach (within f K r) (start_in f r) v → length ks ≤ reached
+  way_deep : {goal : ℕ} {r : Routine} {ks : List ℕ} {reached v : ℕ} {l : List ℕ} → Nested f K r ks → Live f K r → Reach (within f K r) (start_in f r) v → length ks ≤ reached
       → goal ≡ total inn out reached ks v → Route f K inn out goal reached ks v l → max reached (deepest f.kind (length ks) l) ≡ goal
   unfolding pending
   way_deep none live i h g (Route.rti {v = v} k) = omega (arith, deep_rti f 0 v k, at_end_lem v none (depths.value outer v live i) k)
-  way_deep {r} {goal = goal} n live i h g (Route.turn {reached} {v} {w} {ks} {l} k (Turn.to_next e t) p) =
+  way_deep {goal} {r} n live i h g (Route.turn {reached} {v} {w} {ks} {l} k (Turn.to_next e t) p) =
       let q = way_deep n live (reach_snoc i (edge_on f K r k (inl e))) h (rw e (goal-next goal reached v n live i k g t)) p in
       on_past reached (length ks) (deepest f.kind (length ks) l) (deepest f.kind (length ks) (v ∷ l)) goal h (deep_on f (length ks) v l k) q
-  way_deep {r} {goal = goal} n live i h g (Route.turn {reached} {v} {w} {ks} {l} k (Turn.to_other e t) p) =
+  way_deep {goal} {r} n live i h g (Route.turn {reached} {v} {w} {ks} {l} k (Turn.to_other e t) p) =
       let q = way_deep n live (reach_snoc i (edge_on f K r k (inr e))) h (rw e (goal-other goal reached v n live i k g t)) p in
       on_past reached (length ks) (deepest f.kind (length ks) l) (deepest f.kind (length ks) (v ∷ l)) goal h (deep_on f (length ks) v l k) q
-  way_deep {r} {goal = goal} n live i h g (Route.calls {reached} {v} {ks} {l} k p) =
-      let q : max (max reached (suc (length ks))) (deepest f.kind (suc (length ks)) l) ≡ goal = way_deep (inner n live i k) (call live i k) here (omega arith) (goal-in goal reached v n live i k g) p in
+  way_deep {goal} {r} n live i h g (Route.calls {reached} {v} {ks} {l} k p) =
+      let q : max (max reached (suc (length ks))) (deepest f.kind (suc (length ks)) l) ≡ goal = way_deep {r = called (f.entry v)} (inner n live i k) (call live i k) here (omega arith) (goal-in goal reached v n live i k g) p in
       in_past reached (length ks) (deepest f.kind (suc (length ks)) l) (deepest f.kind (length ks) (v ∷ l)) goal h (deep_least f.kind (suc (length ks)) l) (deep_call f (length ks) v l k) q
   way_deep {goal = goal} (inner {r = r} {ks = ks} n live' j c) live i h g (Route.ret {reached} {v} {l = l} k p) =
-      let q = way_deep n live' (reach_snoc j (edge-call f K r c)) (omega arith) (goal-back goal reached v (inner n live' j c) live i k h g) p in
+      let q = way_deep {r = r} n live' (reach_snoc j (edge-call f K r c)) (omega arith) (goal-back goal reached v (inner n live' j c) live i k h g) p in
       on_past reached (suc (length ks)) (deepest f.kind (length ks) l) (deepest f.kind (suc (length ks)) (v ∷ l)) goal h (deep_ret f (length ks) v l k) q
 
   -- behind the same place
@@ -173,20 +173,20 @@ module _ (f : Flow) (K : ℕ → Bool) (inn out : ℕ → ℕ) (depths : Depths 
   measured : (reached n : ℕ) {goal v : ℕ} {t m : List ℕ} → m ≡ v ∷ t → max reached (deepest f.kind n m) ≡ goal → max reached (deepest f.kind n (v ∷ t)) ≡ goal
   measured reached n e h = rw (← e) h
 
-  way-first : {r : Routine} {ks : List ℕ} {goal reached v : ℕ} {l : List ℕ} → Nested f K r ks → Live f K r → Reach (within f K r) (start_in f r) v → length ks ≤ reached
+  way-first : {goal : ℕ} {r : Routine} {ks : List ℕ} {reached v : ℕ} {l : List ℕ} → Nested f K r ks → Live f K r → Reach (within f K r) (start_in f r) v → length ks ≤ reached
       → goal ≡ total inn out reached ks v → Route f K inn out goal reached ks v l → (m : List ℕ) → Path f K ks v m → max reached (deepest f.kind (length ks) m) ≡ goal → (m ≡ l) ⊎ Before f l m
   way-first n live i h g (Route.rti k) m p e = inl (path-rti k p)
-  way-first {r} {goal = goal} n live i h g (Route.calls {reached} {v} {ks} {l} k q) m p e =
+  way-first {goal} {r} n live i h g (Route.calls {reached} {v} {ks} {l} k q) m p e =
       let u = path-call k p in
       let s : max (max reached (suc (length ks))) (deepest f.kind (suc (length ks)) u.0) ≡ goal
       = in_behind reached (length ks) (deepest f.kind (suc (length ks)) u.0) (deepest f.kind (length ks) (v ∷ u.0)) goal h (deep_least f.kind (suc (length ks)) u.0) (deep_call f (length ks) v u.0 k) (measured reached (length ks) u.1 e) in
-      behind u.1 (way-first (inner n live i k) (call live i k) here (omega arith) (goal-in goal reached v n live i k g) q u.0 u.2 s)
+      behind u.1 (way-first {r = called (f.entry v)} (inner n live i k) (call live i k) here (omega arith) (goal-in goal reached v n live i k g) q u.0 u.2 s)
   way-first {goal = goal} (inner {r = r} {ks = ks} n live' j c) live i h g (Route.ret {reached} {v} {l = l} k q) m p e =
       let u = path-ret k p in
       let s : max reached (deepest f.kind (length ks) u.0) ≡ goal
       = on_behind reached (suc (length ks)) (deepest f.kind (length ks) u.0) (deepest f.kind (suc (length ks)) (v ∷ u.0)) goal h (deep_ret f (length ks) v u.0 k) (measured reached (suc (length ks)) u.1 e) in
-      behind u.1 (way-first n live' (reach_snoc j (edge-call f K r c)) (omega arith) (goal-back goal reached v (inner n live' j c) live i k h g) q u.0 u.2 s)
-  way-first {r} {goal = goal} n live i h g (Route.turn {reached} {v} {w} {ks} {l} k (Turn.to_next a t) q) m p e =
+      behind u.1 (way-first {r = r} n live' (reach_snoc j (edge-call f K r c)) (omega arith) (goal-back goal reached v (inner n live' j c) live i k h g) q u.0 u.2 s)
+  way-first {goal} {r} n live i h g (Route.turn {reached} {v} {w} {ks} {l} k (Turn.to_next a t) q) m p e =
       let u = path-on k p in
       let s : max reached (deepest f.kind (length ks) u.0) ≡ goal
       = on_behind reached (length ks) (deepest f.kind (length ks) u.0) (deepest f.kind (length ks) (v ∷ u.0)) goal h (deep_on f (length ks) v u.0 k) (measured reached (length ks) u.1 e) in
@@ -200,7 +200,7 @@ module _ (f : Flow) (K : ℕ → Bool) (inn out : ℕ → ℕ) (depths : Depths 
           let hl = path-head (way-path q) in
           let ht = path-head x in
           inr (rw (z, hl.1, ht.1) (turns k a refl (λ y. o (sym a ∙ y))))
-  way-first {r} {goal = goal} n live i h g (Route.turn {reached} {v} {w} {ks} {l} k (Turn.to_other a t) q) m p e =
+  way-first {goal} {r} n live i h g (Route.turn {reached} {v} {w} {ks} {l} k (Turn.to_other a t) q) m p e =
       let u = path-on k p in
       let s : max reached (deepest f.kind (length ks) u.0) ≡ goal
       = on_behind reached (length ks) (deepest f.kind (length ks) u.0) (deepest f.kind (length ks) (v ∷ u.0)) goal h (deep_on f (length ks) v u.0 k) (measured reached (length ks) u.1 e) in

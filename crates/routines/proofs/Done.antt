@@ -1,6 +1,6 @@
 -- Where nothing is refused on the flow, every way from the start ends: by induction on that, all else follows.
 use mathlib.Core.Path.{◌≡◌, refl}
-use mathlib.Core.Logic.{◌⊎◌, inl, inr, ⊎_elim}
+use mathlib.Core.Logic.{◌⊎◌, inl, inr}
 use mathlib.Core.Bool.{Bool, true, false}
 use mathlib.Core.List.{List, [], ◌∷◌}
 use Prim.Native.Nat.{ℕ, ◌<◌}
@@ -8,7 +8,7 @@ use Rattle.laws.specs.Choice.{pick}
 use Rattle.graph.specs.Graph.{Graph, Edge, Reach, here, step, ReachPlus}
 use Rattle.graph.specs.Laid.{Inside}
 use Rattle.graph.proofs.Reach.{reach_snoc, reach_inside}
-use Rattle.routines.specs.Calling.{Flow, Routine, outer, called, start_in, end_of, unknown, after, within, In, Live, handler, call, Plus, once, more, Calls, Recurs, IsBad, IsLoop}
+use Rattle.routines.specs.Calling.{Flow, Routine, outer, called, start_in, end_of, after, within, In, Live, handler, call, Plus, once, more, Calls, Recurs, IsBad, IsLoop}
 use Rattle.routines.specs.Shape.{Small, Widens}
 use Rattle.routines.proofs.Within.{Kind, kind_of, edge-cases, edge_on, edge-call, out-excluded}
 use Rattle.routines.proofs.Accessible.{Acc, acc, accessible}

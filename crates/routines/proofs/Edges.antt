@@ -1,13 +1,11 @@
 -- The ways of the joined graph, by what a number stands for.
 use mathlib.Core.Path.{◌≡◌, refl, sym, ap, ◌∙◌}
 use mathlib.Core.Logic.{◌⊎◌, inl, inr, ⊎_elim}
-use mathlib.Core.Bool.{Bool, true, false}
-use Prim.Native.Nat.{ℕ, ◌+◌, ◌-◌, ◌*◌, ◌/◌, ◌%◌, ◌≤◌, ◌<◌}
+use mathlib.Core.Bool.{Bool}
+use Prim.Native.Nat.{ℕ, ◌+◌, ◌-◌, ◌*◌, ◌%◌, ◌≤◌, ◌<◌}
 use native.Mathlib.Omega.{arith}
-use lib.Dec.{eqb, ltb}
-use borrow.Author.Tests.{eq-eqb, ne_eqb, lt-ltb, le-ltb}
-use Rattle.laws.specs.Choice.{pick, either}
-use Rattle.graph.specs.Graph.{Graph, GoesOn, Ends, Excluded, Edge}
+use borrow.Author.Tests.{lt-ltb, le-ltb}
+use Rattle.graph.specs.Graph.{GoesOn, Excluded, Edge}
 use Rattle.routines.specs.Calling.{Flow, Routine, outer, called, end_of, after, within}
 use Rattle.routines.proofs.Within.{Kind, kind_of, call-goes, end-ends, edge_on, edge-call, edge-cases, out-excluded}
 use Rattle.routines.specs.Joined.{code, place_of, beside, end_at, joined}

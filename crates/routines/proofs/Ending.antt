@@ -1,6 +1,6 @@
 -- Every run that spares the stack ends within N.
 use mathlib.Core.Path.{◌≡◌, refl, sym, ◌∙◌}
-use mathlib.Core.Logic.{◌⊎◌, inl, inr, ⊎_elim}
+use mathlib.Core.Logic.{◌⊎◌}
 use mathlib.Core.Bool.{Bool, true, false}
 use mathlib.Core.List.{List, [], ◌∷◌}
 use Prim.Native.Nat.{ℕ, suc, ◌+◌, ◌-◌, ◌≤◌, ◌<◌}
@@ -16,19 +16,19 @@ use Rattle.routines.specs.Answer.{bounds, Judged, HasBound, PathAnswer, FlowAnsw
 use Rattle.routines.proofs.Within.{Kind, kind_of, edge_on, edge-call, out-excluded}
 use Rattle.routines.proofs.Done.{Nested, none, inner, in-lt}
 use Rattle.routines.proofs.Exists.{path-head, has-path}
-use Rattle.routines.specs.Runs.{Machine, GoesPast, EndsAt, now, later, Spares, SparesStack, Standard, Follows, OneStep, EndsWithin}
+use Rattle.routines.specs.Runs.{Machine, GoesPast, now, later, Spares, SparesStack, Standard, Follows, OneStep, EndsWithin}
 
 -- the levels from i up to the top hold the addresses of these places
-Holds : (ℕ → ℕ) → (ℕ → ℕ) → ℕ → ℕ → List ℕ → Type 0
+unfoldable pub Holds : (ℕ → ℕ) → (ℕ → ℕ) → ℕ → ℕ → List ℕ → Type 0
 Holds address level i top [] = i ≡ top
 Holds address level i top (w ∷ ks) = (address w ≡ level i) × Holds address level (suc i) top ks
 
-holds_below : (address level : ℕ → ℕ) (i top : ℕ) (ks : List ℕ) → Holds address level i top ks → i ≤ top
+pub holds_below : (address level : ℕ → ℕ) (i top : ℕ) (ks : List ℕ) → Holds address level i top ks → i ≤ top
 unfolding Holds
 holds_below address level i top [] h = omega arith
 holds_below address level i top (w ∷ ks) h = omega (arith, holds_below address level (suc i) top ks h.1)
 
-holds_kept : (address level level' : ℕ → ℕ) (i top : ℕ) (ks : List ℕ) → ((j : ℕ) → i ≤ j → j < top → level' j ≡ level j) → Holds address level i top ks → Holds address level' i top ks
+pub holds_kept : (address level level' : ℕ → ℕ) (i top : ℕ) (ks : List ℕ) → ((j : ℕ) → i ≤ j → j < top → level' j ≡ level j) → Holds address level i top ks → Holds address level' i top ks
 unfolding Holds
 holds_kept address level level' i top [] kept h = h
 holds_kept address level level' i top (w ∷ ks) kept h = (
@@ -37,7 +37,7 @@ holds_kept address level level' i top (w ∷ ks) kept h = (
 )
 
 -- after a call SF is known only where it is known at each RET of the routine
-after_known : {f : Flow} {n : ℕ} {cycles address : ℕ → ℕ} (K : ℕ → Bool) → Standard f n cycles address → (u : ℕ) → f.kind u ≡ 3 → f.known (after f K u) ≡ true → K (f.entry u) ≡ true
+pub after_known : {f : Flow} {n : ℕ} {cycles address : ℕ → ℕ} (K : ℕ → Bool) → Standard f n cycles address → (u : ℕ) → f.kind u ≡ 3 → f.known (after f K u) ≡ true → K (f.entry u) ≡ true
 unfolding after
 after_known {f} K standard u k e = go (K (f.entry u)) e
   where
@@ -45,7 +45,7 @@ after_known {f} K standard u k e = go (K (f.entry u)) e
     go true h = refl
     go false h = cc (standard.unknown_after u k)
 
-after_address : {f : Flow} {n : ℕ} {cycles address : ℕ → ℕ} (K : ℕ → Bool) → Standard f n cycles address → (u : ℕ) → f.kind u ≡ 3 → address (after f K u) ≡ address (f.next u)
+pub after_address : {f : Flow} {n : ℕ} {cycles address : ℕ → ℕ} (K : ℕ → Bool) → Standard f n cycles address → (u : ℕ) → f.kind u ≡ 3 → address (after f K u) ≡ address (f.next u)
 unfolding after
 after_address {f} {address = address} K standard u k = go (K (f.entry u))
   where

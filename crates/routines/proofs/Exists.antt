@@ -8,7 +8,7 @@ use native.Mathlib.Omega.{arith}
 use native.Mathlib.Decide.{ℕ_discrete, dec_le}
 use Rattle.graph.specs.Graph.{Reach, sum}
 use Rattle.graph.proofs.Reach.{reach_snoc}
-use Rattle.routines.specs.Calling.{Flow, Routine, outer, called, end_of, after, Path, rti, goes, calls, ret, Before, turns, later, depth, FirstOf, start_in, within, Live, Recurs, IsBad, IsLoop}
+use Rattle.routines.specs.Calling.{Flow, Routine, outer, called, after, Path, rti, goes, calls, ret, Before, turns, later, depth, FirstOf, start_in, within, Live, Recurs, IsBad, IsLoop}
 use Rattle.routines.specs.Shape.{Small, Widens}
 use Rattle.routines.specs.Answer.{Judged, HasBound}
 use Rattle.routines.proofs.Within.{edge-call}

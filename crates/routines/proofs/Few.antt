@@ -1,11 +1,11 @@
 -- Where nothing recurs, no more calls are open at once than there are entries: so large a stack is enough.
-use mathlib.Core.Path.{◌≡◌, refl, ap, ◌∙◌}
+use mathlib.Core.Path.{◌≡◌, refl, ap}
 use mathlib.Core.Bool.{Bool}
 use mathlib.Core.List.{List, [], ◌∷◌}
-use Prim.Native.Nat.{ℕ, suc, ◌≤◌, ◌<◌}
+use Prim.Native.Nat.{ℕ, suc, ◌≤◌}
 use native.Mathlib.Omega.{arith}
 use lib.ListN.{length}
-use Rattle.routines.specs.Calling.{Flow, Routine, outer, called, Live, handler, call, Calls, Recurs}
+use Rattle.routines.specs.Calling.{Flow, Routine, outer, called, Live, call, Calls, Recurs}
 use Rattle.routines.specs.Shape.{Small, Widens}
 use Rattle.routines.proofs.Accessible.{Trail, alone, by, trail-few}
 use Rattle.routines.proofs.Wide.{wide-recurs}

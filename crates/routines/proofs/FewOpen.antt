@@ -1,8 +1,7 @@
 -- The depth is at most the number of entries.
-use mathlib.Core.Path.{◌≡◌}
 use mathlib.Core.Bool.{Bool}
-use mathlib.Core.List.{List, [], ◌∷◌}
-use Prim.Native.Nat.{ℕ, suc, ◌≤◌, ◌<◌, max}
+use mathlib.Core.List.{List}
+use Prim.Native.Nat.{ℕ, suc, ◌≤◌}
 use native.Mathlib.Omega.{arith}
 use lib.ListN.{length}
 use Rattle.graph.specs.Graph.{Reach, here}
@@ -21,7 +20,7 @@ module _ (f : Flow) (K : ℕ → Bool) {n E : ℕ} (small : Small f n E) (widens
   few-from {r} m live i (calling.Path.goes {v} {w} {ks} {l} k e p) =
       omega (arith, deep_on f (length ks) v l k, few-from m live (reach_snoc i (edge_on f K r k e)) p, open_few small widens no_recursion m live)
   few-from {r} m live i (calling.Path.calls {v} {ks} {l} k p) =
-      let h : deepest f.kind (suc (length ks)) l ≤ E = few-from (inner m live i k) (call live i k) here p in
+      let h : deepest f.kind (suc (length ks)) l ≤ E = few-from {r = called (f.entry v)} (inner m live i k) (call live i k) here p in
       omega (arith, deep_call f (length ks) v l k, h, open_few small widens no_recursion m live)
   few-from (inner {r = r} {ks = ks} m live' j c) live i (calling.Path.ret {v} {l = l} k p) =
       omega (arith, deep_ret f (length ks) v l k, few-from m live' (reach_snoc j (edge-call f K r c)) p, open_few small widens no_recursion (inner m live' j c) live)

@@ -1,6 +1,5 @@
 -- Where nothing recurs there is a K that says what is known after calls.
 use mathlib.Core.Path.{◌≡◌, refl, sym, ◌∙◌}
-use mathlib.Core.Logic.{◌⊎◌, inl, inr, ⊎_elim}
 use mathlib.Core.Bool.{Bool, true, false}
 use mathlib.Core.List.{List, [], ◌∷◌}
 use Prim.Native.Nat.{ℕ, zero, suc, ◌+◌, ◌≤◌, ◌<◌}
@@ -8,7 +7,7 @@ use native.Mathlib.Omega.{arith}
 use native.Mathlib.Decide.{ℕ_discrete, dec_lt}
 use lib.ListN.{length}
 use Rattle.graph.specs.Graph.{Reach}
-use Rattle.routines.specs.Calling.{Flow, Routine, outer, called, unknown, within, Live, handler, call, ReturnsKnown, Knows, Plus, Calls, Recurs}
+use Rattle.routines.specs.Calling.{Flow, called, unknown, within, Live, call, ReturnsKnown, Knows, Calls, Recurs}
 use Rattle.routines.specs.Shape.{Small, Widens}
 use Rattle.routines.specs.Answer.{Judged}
 use Rattle.routines.proofs.Accessible.{Trail, alone, by, too_long}

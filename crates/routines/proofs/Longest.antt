@@ -3,7 +3,7 @@ use mathlib.Core.Path.{◌≡◌, refl, sym, ap, ◌∙◌}
 use mathlib.Core.Logic.{◌⊎◌, inl, inr, ⊎_elim}
 use mathlib.Core.Bool.{Bool}
 use mathlib.Core.List.{List, [], ◌∷◌}
-use Prim.Native.Nat.{ℕ, ◌+◌, ◌≤◌, ◌<◌, max}
+use Prim.Native.Nat.{ℕ, ◌+◌, ◌≤◌, max}
 use native.Mathlib.Omega.{arith}
 use native.Mathlib.Decide.{ℕ_discrete}
 use Rattle.graph.specs.Graph.{Reach, here, sum}
@@ -13,7 +13,7 @@ use Rattle.routines.specs.Calling.{Flow, Routine, outer, called, end_of, start_i
 use Rattle.routines.proofs.Within.{edge_on, edge-call}
 use Rattle.routines.proofs.Done.{Nested, none, inner}
 use Rattle.routines.proofs.Exists.{path-head, path-rti, path-ret, path-call, path-on}
-use Rattle.routines.specs.Sums.{sum_in, sum_at, Value, Sums, rest, Turn, Route}
+use Rattle.routines.specs.Sums.{sum_at, Value, Sums, rest, Turn, Route}
 
 module _ (f : Flow) (K : ℕ → Bool) (cycles inn out : ℕ → ℕ) (sums : Sums f K cycles inn out) where
   -- the value at a place, by the calls that are open
@@ -53,10 +53,10 @@ module _ (f : Flow) (K : ℕ → Bool) (cycles inn out : ℕ → ℕ) (sums : Su
       let h : sum cycles l ≤ sum_at inn out ks (f.other v) + rest inn out ks = rw (← e) (no_more n live (reach_snoc i (edge_on f K r k (inr e))) p) in
       omega (arith, at_fork v n (sums.value r v live i) k)
   no_more {r} n live i (calling.Path.calls {v} {ks} {l} k p) =
-      let h : sum cycles l ≤ inn (f.from (f.entry v)) + (sum_at inn out ks (after f K v) + rest inn out ks) = no_more (inner n live i k) (call live i k) here p in
+      let h : sum cycles l ≤ inn (f.from (f.entry v)) + (sum_at inn out ks (after f K v) + rest inn out ks) = no_more {r = called (f.entry v)} (inner n live i k) (call live i k) here p in
       omega (arith, at_call v n (sums.value r v live i) k)
   no_more (inner {r = r} {ks = ks} {u = u} n live' j c) live i (calling.Path.ret {v} {w} {l = l} k p) =
-      let h = no_more n live' (reach_snoc j (edge-call f K r c)) p in
+      let h = no_more {r = r} n live' (reach_snoc j (edge-call f K r c)) p in
       omega (arith, h, at_end_lem v (inner n live' j c) (sums.value (called (f.entry u)) v live i) k)
 
   -- the way is a path, and has the sum
@@ -77,10 +77,10 @@ module _ (f : Flow) (K : ℕ → Bool) (cycles inn out : ℕ → ℕ) (sums : Su
       let h : sum cycles l ≡ sum_at inn out ks (f.other v) + rest inn out ks = rw (← e) (way-sum n live (reach_snoc i (edge_on f K r k (inr e))) p) in
       omega (arith, at_fork v n (sums.value r v live i) k)
   way-sum {r} n live i (Route.calls {v} {ks} {l} k p) =
-      let h : sum cycles l ≡ inn (f.from (f.entry v)) + (sum_at inn out ks (after f K v) + rest inn out ks) = way-sum (inner n live i k) (call live i k) here p in
+      let h : sum cycles l ≡ inn (f.from (f.entry v)) + (sum_at inn out ks (after f K v) + rest inn out ks) = way-sum {r = called (f.entry v)} (inner n live i k) (call live i k) here p in
       omega (arith, at_call v n (sums.value r v live i) k)
   way-sum (inner {r = r} {u = u} n live' j c) live i (Route.ret {v} {w} {l = l} k p) =
-      let h = way-sum n live' (reach_snoc j (edge-call f K r c)) p in
+      let h = way-sum {r = r} n live' (reach_snoc j (edge-call f K r c)) p in
       omega (arith, h, at_end_lem v (inner n live' j c) (sums.value (called (f.entry u)) v live i) k)
 
   -- behind the same place
@@ -94,12 +94,12 @@ module _ (f : Flow) (K : ℕ → Bool) (cycles inn out : ℕ → ℕ) (sums : Su
   way-first : {r : Routine} {ks : List ℕ} {v : ℕ} {l : List ℕ} → Nested f K r ks → Live f K r → Reach (within f K r) (start_in f r) v → Route f K inn out ks v l
       → (m : List ℕ) → Path f K ks v m → sum cycles m ≡ sum cycles l → (m ≡ l) ⊎ Before f l m
   way-first n live i (Route.rti k) m p e = inl (path-rti k p)
-  way-first n live i (Route.calls {l = l} k q) m p e =
+  way-first n live i (Route.calls {v = v} {l = l} k q) m p e =
       let u = path-call k p in
-      behind u.1 (way-first (inner n live i k) (call live i k) here q u.0 u.2 (sum-behind l u.1 e))
+      behind u.1 (way-first {r = called (f.entry v)} (inner n live i k) (call live i k) here q u.0 u.2 (sum-behind l u.1 e))
   way-first (inner {r = r} n live' j c) live i (Route.ret {l = l} k q) m p e =
       let u = path-ret k p in
-      behind u.1 (way-first n live' (reach_snoc j (edge-call f K r c)) q u.0 u.2 (sum-behind l u.1 e))
+      behind u.1 (way-first {r = r} n live' (reach_snoc j (edge-call f K r c)) q u.0 u.2 (sum-behind l u.1 e))
   way-first {r} n live i (Route.turn {v} {w} {ks} {l} k (Turn.to_next a h) q) m p e =
       let u = path-on k p in
       let s = sum-behind l u.1 e in

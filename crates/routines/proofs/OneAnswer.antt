@@ -1,26 +1,25 @@
 -- Any two answers to one question are equal: what comes back, and both buffers.
-use mathlib.Core.Path.{◌≡◌, refl, sym, ap, ap₂, ◌∙◌}
+use mathlib.Core.Path.{◌≡◌, refl, sym, ap, ◌∙◌}
 use mathlib.Core.Bool.{Bool}
 use mathlib.Core.List.{List}
-use Prim.Native.Nat.{ℕ, ◌*◌}
+use Prim.Native.Nat.{ℕ}
 use native.Mathlib.Omega.{arith}
-use lib.ListN.{length}
-use Rattle.graph.specs.Graph.{Least, sum}
+use Rattle.graph.specs.Graph.{sum}
 use Rattle.graph.proofs.Unique.{least_unique}
-use Rattle.routines.specs.Calling.{Flow, Recurs, IsBad, IsLoop, HandlerPath, depth, FirstOf}
+use Rattle.routines.specs.Calling.{Flow, depth}
 use Rattle.routines.specs.Shape.{Small, Widens}
-use Rattle.routines.specs.Answer.{Found, recursion, excluded, repetition, short, too_large, bounds, LowestAddress, Judged, HasBound, Kept, PathAnswer, FlowAnswer, Answer}
+use Rattle.routines.specs.Answer.{Found, recursion, excluded, repetition, LowestAddress, Judged, HasBound, Kept, PathAnswer, FlowAnswer, Answer}
 use Rattle.routines.proofs.First.{first_unique}
-use Rattle.routines.proofs.Same.{bad-to, loop-to, lowest-bad-to, lowest-loop-to, first_to}
+use Rattle.routines.proofs.Same.{lowest-bad-to, lowest-loop-to, first_to}
 
 -- what came back, and what the buffers became
 abbrev pub Same : Found → Found → List ℕ → List ℕ → List ℕ → List ℕ → Type 0
 Same x y p' p'' q' q'' = (x ≡ y) × (p' ≡ p'') × (q' ≡ q'')
 
-kept_same : {x y : Found} {p p' p'' q q' q'' : List ℕ} → x ≡ y → Kept p p' q q' → Kept p p'' q q'' → Same x y p' p'' q' q''
+pub kept_same : {x y : Found} {p p' p'' q q' q'' : List ℕ} → x ≡ y → Kept p p' q q' → Kept p p'' q q'' → Same x y p' p'' q' q''
 kept_same e a b = (e, a.first ∙ sym b.first, a.second ∙ sym b.second)
 
-paths_same : {address : ℕ → ℕ} {p p' p'' q q' q'' : List ℕ} {N d : ℕ} {path deep : List ℕ} {x y : Found}
+pub paths_same : {address : ℕ → ℕ} {p p' p'' q q' q'' : List ℕ} {N d : ℕ} {path deep : List ℕ} {x y : Found}
     → PathAnswer address p p' q q' N d path deep x → PathAnswer address p p'' q q'' N d path deep y → Same x y p' p'' q' q''
 paths_same (PathAnswer.gives_25 l a) (PathAnswer.gives_25 l' b) = kept_same refl a b
 paths_same (PathAnswer.gives_25 l a) (PathAnswer.gives_23 l' s b) = absurd (omega arith)
@@ -40,7 +39,7 @@ paths_same (PathAnswer.gives_n l r s a c) (PathAnswer.gives_23_depth l' r' s' b)
 paths_same (PathAnswer.gives_n l r s a c) (PathAnswer.gives_n l' r' s' b c') = (refl, a ∙ sym b, c ∙ sym c')
 
 -- a lowest address is one only, and there is none where no place is so
-lowest_none : {address : ℕ → ℕ} {P : ℕ → Type 0} {a : ℕ} → LowestAddress address P a → ((v : ℕ) → P v → ⊥) → ⊥
+pub lowest_none : {address : ℕ → ℕ} {P : ℕ → Type 0} {a : ℕ} → LowestAddress address P a → ((v : ℕ) → P v → ⊥) → ⊥
 lowest_none l no_one = no_one l.holds.0 l.holds.1
 
 module _ {f : Flow} {cycles address : ℕ → ℕ} {p p' p'' q q' q'' : List ℕ} {n E : ℕ} (small : Small f n E) (widens : Widens f) where

@@ -3,11 +3,11 @@ use mathlib.Core.Path.{◌≡◌, refl, sym, ap₂, subst, ◌∙◌}
 use mathlib.Core.Logic.{◌⊎◌, inl, inr, ⊎_elim}
 use mathlib.Core.Bool.{Bool, true, false}
 use mathlib.Core.List.{List, [], ◌∷◌}
-use Prim.Native.Nat.{ℕ, suc, ◌+◌, ◌*◌, ◌/◌, ◌%◌, max}
+use Prim.Native.Nat.{ℕ, ◌+◌}
 use lib.ListN.{length}
 use Rattle.laws.specs.Choice.{pick}
-use Rattle.graph.specs.Graph.{Edge, Reach, here, step, sum, Least}
-use Rattle.routines.specs.Calling.{Flow, Routine, outer, called, start_in, end_of, after, within, In, Live, handler, call, unknown, ReturnsKnown, Knows, Plus, once, more, Calls, Recurs, IsBad, IsLoop, Path, rti, goes, calls, ret, HandlerPath, opened, deepest, depth, Before, turns, later, FirstOf}
+use Rattle.graph.specs.Graph.{Edge, Reach, here, step, sum}
+use Rattle.routines.specs.Calling.{Flow, Routine, called, start_in, after, within, In, Live, handler, call, unknown, Knows, Plus, once, more, Calls, Recurs, IsBad, IsLoop, Path, rti, goes, calls, ret, HandlerPath, opened, deepest, Before, turns, later, FirstOf}
 use Rattle.routines.specs.Answer.{LowestAddress, bytes_of, Found, Judged, HasBound, PathAnswer, gives_25, gives_23, gives_23_depth, gives_n, FlowAnswer, gives_21, gives_22, bounded, Answer, gives_24, judged}
 use Rattle.routines.proofs.Within.{edge_on, edge-call, edge-cases}
 
@@ -34,7 +34,7 @@ pub data Both (S : ℕ → ℕ → Type 0) : List ℕ → List ℕ → Type 0 wh
 abbrev pub Same : (ℕ → ℕ → Type 0) → (ℕ → ℕ) → (ℕ → ℕ) → Type 0
 Same S c d = (v w : ℕ) → S v w → c v ≡ d w
 
-both_back : {S : ℕ → ℕ → Type 0} {l m : List ℕ} → Both S l m → Both (λ w v. S v w) m l
+pub both_back : {S : ℕ → ℕ → Type 0} {l m : List ℕ} → Both S l m → Both (λ w v. S v w) m l
 both_back none = none
 both_back (pair s b) = pair s (both_back b)
 
@@ -42,7 +42,7 @@ both_length : {S : ℕ → ℕ → Type 0} {l m : List ℕ} → Both S l m → l
 both_length none = refl
 both_length (pair s b) = rw (both_length b)
 
-both_sum : {S : ℕ → ℕ → Type 0} {c d : ℕ → ℕ} → Same S c d → {l m : List ℕ} → Both S l m → sum c l ≡ sum d m
+pub both_sum : {S : ℕ → ℕ → Type 0} {c d : ℕ → ℕ} → Same S c d → {l m : List ℕ} → Both S l m → sum c l ≡ sum d m
 unfolding sum
 both_sum e none = refl
 both_sum e (pair {v = v} {w = w} s b) = ap₂ (λ (x y : ℕ). x + y) (e v w s) (both_sum e b)
@@ -74,7 +74,7 @@ module _ {f g : Flow} {S : ℕ → ℕ → Type 0} (a : Paired f g S) where
   both_one (pair s b) (pair t c) = ap₂ (λ (x : ℕ) (y : List ℕ). x ∷ y) (a.one s t) (both_one b c)
 
   module _ (K : ℕ → Bool) where
-    after-to : {v w : ℕ} → S v w → f.kind v ≡ 3 → S (after f K v) (after g K w)
+    pub after-to : {v w : ℕ} → S v w → f.kind v ≡ 3 → S (after f K v) (after g K w)
     unfolding after
     after-to {v} {w} s k = rw (← a.entry s k) (go (K (f.entry v)))
       where
@@ -161,6 +161,8 @@ module _ {f g : Flow} {S : ℕ → ℕ → Type 0} (a : Paired f g S) where
   before-to : {l m h k : List ℕ} → Both S l h → Both S m k → Before f l m → Before g h k
   before-to (pair s (pair t b)) (pair s' (pair t' b')) (turns k n o ne) =
       rw (a.one s' s) (turns (sym (a.kind s) ∙ k) (a.one t (rw n (a.next s k))) (a.one t' (rw o (a.other s k))) (λ e. ne (a.one_back t (rw e t'))))
+  before-to none _ x = elim x [ ]
+  before-to (pair s b) none x = elim x [ ]
   before-to (pair s b) (pair s' b') (later x) = rw (a.one s' s) (later (before-to b b' x))
 
   depth-to : (n : ℕ) {l m : List ℕ} → Both S l m → deepest f.kind n l ≡ deepest g.kind n m
@@ -168,10 +170,10 @@ module _ {f g : Flow} {S : ℕ → ℕ → Type 0} (a : Paired f g S) where
   depth-to n none = refl
   depth-to n (pair {w = w} s b) = rw (a.kind s, depth-to (opened (g.kind w) n) b) refl
 
-recurs_to : {f g : Flow} {S : ℕ → ℕ → Type 0} → Paired f g S → (e : ℕ) → Recurs f e → Recurs g e
+pub recurs_to : {f g : Flow} {S : ℕ → ℕ → Type 0} → Paired f g S → (e : ℕ) → Recurs f e → Recurs g e
 recurs_to a e (l, p) = let x = live_to a unknown l in (x.0, plus-to a unknown x.1 p)
 
-lowest_to : {S : ℕ → ℕ → Type 0} {c d : ℕ → ℕ} {P Q : ℕ → Type 0} → Same S c d → ((v : ℕ) → P v → (w : ℕ) × Q w × S v w) → ((w : ℕ) → Q w → (v : ℕ) × P v × S v w) → {x : ℕ} → LowestAddress c P x → LowestAddress d Q x
+pub lowest_to : {S : ℕ → ℕ → Type 0} {c d : ℕ → ℕ} {P Q : ℕ → Type 0} → Same S c d → ((v : ℕ) → P v → (w : ℕ) × Q w × S v w) → ((w : ℕ) → Q w → (v : ℕ) × P v × S v w) → {x : ℕ} → LowestAddress c P x → LowestAddress d Q x
 lowest_to {S = S} same to back l =
     let x = to l.holds.0 l.holds.1 in
     record {
@@ -179,7 +181,7 @@ lowest_to {S = S} same to back l =
       least = λ b q. let y = back q.0 q.1 in l.least b (y.0, y.1, same y.0 q.0 y.2 ∙ q.2);
     }
 
-path_answer_to : {S : ℕ → ℕ → Type 0} {c d : ℕ → ℕ} → Same S c d → {p p' q q' : List ℕ} {N D : ℕ} {l m h k : List ℕ} {x : Found} → Both S l h → Both S m k → PathAnswer c p p' q q' N D l m x → PathAnswer d p p' q q' N D h k x
+pub path_answer_to : {S : ℕ → ℕ → Type 0} {c d : ℕ → ℕ} → Same S c d → {p p' q q' : List ℕ} {N D : ℕ} {l m h k : List ℕ} {x : Found} → Both S l h → Both S m k → PathAnswer c p p' q q' N D l m x → PathAnswer d p p' q q' N D h k x
 path_answer_to e b b' (gives_25 n i) = gives_25 n i
 path_answer_to e b b' (gives_23 n t i) = rw (both_length b) (gives_23 n (rw (← both_length b) t) i)
 path_answer_to e b b' (gives_23_depth n t u i) = rw (both_length b') (gives_23_depth n (rw (← both_length b) t) (rw (← both_length b') u) i)
@@ -198,7 +200,7 @@ module _ {f g : Flow} {S : ℕ → ℕ → Type 0} (a : Paired f g S) where
           only_if = λ e l h w i c. let x = live_to back K l in let y = in-to back K (called e) x.1 i in sym (a.known y.2) ∙ k.only_if e x.0 h y.0 y.1 (a.kind y.2 ∙ c);
         }
 
-    judged-to : Judged f K → Judged g K
+    pub judged-to : Judged f K → Judged g K
     judged-to j = record { no_recursion = λ e r. j.no_recursion e (recurs_to back e r); knows = knows-to j.knows }
 
     first_to : {μ ν : List ℕ → ℕ} → ((l m : List ℕ) → Both S l m → μ l ≡ ν m) → {l h : List ℕ} → HandlerPath g K h → Both S l h → FirstOf f (HandlerPath f K) μ l → FirstOf g (HandlerPath g K) ν h

@@ -1,16 +1,14 @@
 -- In the joined graph is reached what is reachable in the reachable routines: so 24, 21 and 22 are its lowest repetition and its lowest excluded place.
 use mathlib.Core.Path.{◌≡◌, refl, sym, ap, ◌∙◌}
 use mathlib.Core.Logic.{◌⊎◌, inl, inr, ⊎_elim}
-use mathlib.Core.Bool.{Bool, true, false}
-use Prim.Native.Nat.{ℕ, ◌+◌, ◌-◌, ◌*◌, ◌/◌, ◌%◌, ◌≤◌, ◌<◌}
+use mathlib.Core.Bool.{Bool}
+use Prim.Native.Nat.{ℕ, ◌-◌, ◌/◌, ◌≤◌, ◌<◌}
 use native.Mathlib.Omega.{arith}
-use Rattle.graph.specs.Graph.{Graph, Edge, Reach, here, step, ReachPlus, Excluded, Bad, Loops, Least}
+use Rattle.graph.specs.Graph.{Edge, Reach, here, step, ReachPlus, Bad, Loops, Least}
 use Rattle.graph.proofs.Reach.{reach_snoc, reach_trans, reach_in}
-use Rattle.routines.specs.Calling.{Flow, Routine, outer, called, start_in, unknown, after, within, In, Live, handler, call, Plus, once, more, Calls, Recurs, IsBad, IsLoop}
-use Rattle.routines.specs.Shape.{Small, Widens}
+use Rattle.routines.specs.Calling.{Flow, Routine, outer, called, start_in, unknown, within, In, Live, handler, call, Plus, once, more, Calls, Recurs, IsBad}
+use Rattle.routines.specs.Shape.{Small}
 use Rattle.routines.specs.Answer.{LowestAddress}
-use Rattle.routines.proofs.Within.{edge-call}
-use Rattle.routines.proofs.Wide.{wide-recurs}
 use Rattle.routines.proofs.Done.{in-lt}
 use Rattle.routines.specs.Joined.{code, place_of, joined}
 use Rattle.routines.proofs.Edges.{code_above, place_code, entry-goes, edge-over, edge_in, edge-from, edge-parts, edge-of-entry, excluded-code, excluded-place}

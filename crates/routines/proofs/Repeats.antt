@@ -1,13 +1,12 @@
 -- 22: where nothing recurs, what repeats in the joined graph repeats within one routine.
 use mathlib.Core.Path.{◌≡◌, refl, sym, ap, ◌∙◌}
 use mathlib.Core.Logic.{◌⊎◌, inl, inr, ⊎_elim}
-use mathlib.Core.Bool.{Bool, true, false}
-use Prim.Native.Nat.{ℕ, ◌+◌, ◌-◌, ◌*◌, ◌/◌, ◌%◌, ◌≤◌, ◌<◌}
+use mathlib.Core.Bool.{Bool}
+use Prim.Native.Nat.{ℕ, ◌+◌, ◌*◌, ◌/◌}
 use native.Mathlib.Omega.{arith}
-use native.Mathlib.Decide.{dec_lt}
-use Rattle.graph.specs.Graph.{Graph, Edge, Reach, here, step, ReachPlus, Loops, Least}
+use Rattle.graph.specs.Graph.{Edge, Reach, here, step, ReachPlus, Loops, Least}
 use Rattle.graph.proofs.Reach.{reach_snoc, reach_trans, reach_in}
-use Rattle.routines.specs.Calling.{Flow, Routine, outer, called, start_in, after, within, In, Live, handler, call, Plus, once, more, Calls, Recurs, IsLoop}
+use Rattle.routines.specs.Calling.{Flow, Routine, outer, called, within, In, Live, handler, call, Plus, once, more, Calls, Recurs, IsLoop}
 use Rattle.routines.specs.Shape.{Small, Widens}
 use Rattle.routines.specs.Answer.{LowestAddress}
 use Rattle.routines.proofs.Accessible.{plus_snoc}

@@ -1,13 +1,13 @@
 -- Where nothing recurs, what is known after calls is determined wherever it is asked for; and what is asked of the flow is the same by any K that says it.
 use mathlib.Core.Path.{◌≡◌, refl, sym, ap, ◌∙◌}
-use mathlib.Core.Logic.{◌⊎◌, inl, inr, ⊎_elim}
+use mathlib.Core.Logic.{◌⊎◌, inl, inr}
 use mathlib.Core.Bool.{Bool, true, false}
-use mathlib.Core.List.{List, [], ◌∷◌}
-use Prim.Native.Nat.{ℕ, ◌≤◌}
+use mathlib.Core.List.{List}
+use Prim.Native.Nat.{ℕ}
 use Rattle.laws.specs.Choice.{pick}
-use Rattle.graph.specs.Graph.{Edge, Reach, here, step, Excluded, Least}
+use Rattle.graph.specs.Graph.{Edge, Reach, here, step}
 use Rattle.graph.proofs.Reach.{reach_snoc}
-use Rattle.routines.specs.Calling.{Flow, Routine, outer, called, start_in, after, within, In, Live, handler, call, Knows, Calls, Recurs, IsBad, IsLoop, Path, rti, goes, calls, ret, HandlerPath, Before, FirstOf}
+use Rattle.routines.specs.Calling.{Flow, Routine, called, start_in, after, within, In, Live, handler, call, Knows, Calls, IsBad, IsLoop, Path, rti, goes, calls, ret, HandlerPath, FirstOf}
 use Rattle.routines.specs.Shape.{Small, Widens}
 use Rattle.routines.specs.Answer.{LowestAddress, Judged}
 use Rattle.routines.proofs.Within.{edge-cases, edge_on, edge-call}
@@ -28,7 +28,7 @@ abbrev pub SameAtCalls : Flow → (ℕ → Bool) → (ℕ → Bool) → Routine 
 SameAtCalls f K K' r = (u : ℕ) → In f K r u → In f K' r u → f.kind u ≡ 3 → K (f.entry u) ≡ K' (f.entry u)
 
 module _ (f : Flow) (K K' : ℕ → Bool) (r : Routine) (same : SameAtCalls f K K' r) where
-  edge_to : {u w : ℕ} → In f K r u → In f K' r u → Edge (within f K r) u w → Edge (within f K' r) u w
+  pub edge_to : {u w : ℕ} → In f K r u → In f K' r u → Edge (within f K r) u w → Edge (within f K' r) u w
   edge_to {u} {w} i j e = go (edge-cases f K r e)
     where
       go : ((f.kind u ≡ 1) × ((w ≡ f.next u) ⊎ (w ≡ f.other u))) ⊎ ((f.kind u ≡ 3) × (w ≡ after f K u)) → Edge (within f K' r) u w
@@ -50,7 +50,7 @@ module _ {f : Flow} {K K' : ℕ → Bool} (knows : Knows f K) (knows' : Knows f 
           (λ t. knows.yes_if e l (λ v i k. knows'.only_if e l' t v (reach-to f K K' (called e) same here here i) k))
 
 module _ {f : Flow} {n E : ℕ} (small : Small f n E) (widens : Widens f) {K K' : ℕ → Bool} (judged : Judged f K) (judged' : Judged f K') where
-  both-same : {r : Routine} → Live f K r → Live f K' r → SameAtCalls f K K' r
+  pub both-same : {r : Routine} → Live f K r → Live f K' r → SameAtCalls f K K' r
   both-same l l' u i j k =
       known_same judged.knows judged'.knows (calls-end f K small widens judged.no_recursion (f.entry u) (call l i k)) (call l i k) (call l' j k)
 
@@ -80,8 +80,8 @@ module _ {f : Flow} {n E : ℕ} (small : Small f n E) (widens : Widens f) {K K' 
   path-in n live i (rti k) = rti k
   path-in {r} n live i (goes k e p) = goes k e (path-in n live (reach_snoc i (edge_on f K r k e)) p)
   path-in {r} n live i (calls {v} k p) =
-      calls k (rw (after_same f K K' v (known-to (f.entry v) (call live i k))) at (path-in (inner n live i k) (call live i k) here p))
-  path-in (inner {r = r} n live' j c) live i (ret k p) = ret k (path-in n live' (reach_snoc j (edge-call f K r c)) p)
+      calls k (rw (after_same f K K' v (known-to (f.entry v) (call live i k))) at (path-in {r = called (f.entry v)} (inner n live i k) (call live i k) here p))
+  path-in (inner {r = r} n live' j c) live i (ret k p) = ret k (path-in {r = r} n live' (reach_snoc j (edge-call f K r c)) p)
 
   pub path-to : {l : List ℕ} → HandlerPath f K l → HandlerPath f K' l
   path-to p = path-in none handler here p

@@ -3,10 +3,10 @@ use mathlib.Core.Path.{◌≡◌, refl}
 use mathlib.Core.Logic.{◌⊎◌, inl, inr}
 use mathlib.Core.Bool.{Bool}
 use mathlib.Core.List.{List, [], ◌∷◌}
-use Prim.Native.Nat.{ℕ, suc, ◌≤◌, ◌<◌}
+use Prim.Native.Nat.{ℕ, ◌≤◌, ◌<◌}
 use native.Mathlib.Omega.{arith}
 use lib.ListN.{length}
-use Rattle.graph.specs.Graph.{Edge, Reach, here, step}
+use Rattle.graph.specs.Graph.{Reach, here, step}
 use Rattle.graph.proofs.Reach.{reach_snoc}
 use Rattle.routines.specs.Calling.{Flow, outer, after, within, In, handler, Path, goes, opened, deepest, depth}
 use Rattle.routines.specs.Shape.{Small, Widens}

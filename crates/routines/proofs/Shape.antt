@@ -1,7 +1,6 @@
 -- The flow on numbers has what the theorems ask of a flow if the flow on places has it.
-use mathlib.Core.Path.{◌≡◌, refl, sym, ap, ◌∙◌}
-use mathlib.Core.Logic.{◌⊎◌, inl, inr, ⊎_elim}
-use mathlib.Core.Bool.{Bool, true}
+use mathlib.Core.Path.{◌≡◌, sym, ap, ◌∙◌}
+use mathlib.Core.Logic.{inl, inr, ⊎_elim}
 use Prim.Native.Nat.{ℕ, ◌<◌}
 use Rattle.routines.specs.Calling.{Flow}
 use Rattle.routines.specs.Shape.{Narrower, Widens}

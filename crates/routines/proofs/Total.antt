@@ -1,19 +1,19 @@
 -- Every question has an answer: with one-answer of the crate routines, exactly one.
-use mathlib.Core.Path.{◌≡◌, refl, sym, ap, ◌∙◌}
+use mathlib.Core.Path.{◌≡◌, refl}
 use mathlib.Core.Logic.{◌⊎◌, inl, inr, ⊎_elim}
-use mathlib.Core.Bool.{Bool, true, false}
+use mathlib.Core.Bool.{Bool}
 use mathlib.Core.List.{List, ◌++◌}
 use Prim.Native.Nat.{ℕ, zero, suc, ◌+◌, ◌-◌, ◌*◌, ◌/◌, ◌%◌, ◌≤◌, ◌<◌}
 use native.Mathlib.Nat.{not-suc-le-zero}
 use native.Mathlib.Omega.{arith}
-use native.Mathlib.Decide.{ℕ_discrete, dec_lt, dec_le}
+use native.Mathlib.Decide.{ℕ_discrete, dec_lt}
 use lib.ListN.{length, drop}
-use Rattle.graph.specs.Graph.{Graph, GoesOn, Ends, Excluded, Edge, Reach, here, step, ReachPlus, Bad, Loops, Least}
+use Rattle.graph.specs.Graph.{GoesOn, Ends, Edge, Reach, ReachPlus, Bad, Loops, Least}
 use Rattle.graph.specs.Laid.{Inside}
 use Rattle.graph.proofs.Reach.{reach_inside}
-use Rattle.routines.specs.Calling.{Flow, Routine, outer, called, start_in, unknown, within, IsBad, IsLoop, Recurs}
+use Rattle.routines.specs.Calling.{Flow, Routine, outer, called, unknown, within}
 use Rattle.routines.specs.Shape.{Small, Widens}
-use Rattle.routines.specs.Answer.{Found, short, too_large, bounds, excluded, repetition, recursion, bytes_of, Judged, HasBound, Kept, PathAnswer, FlowAnswer, Answer}
+use Rattle.routines.specs.Answer.{Found, short, too_large, bounds, excluded, repetition, recursion, bytes_of, Judged, Kept, PathAnswer, FlowAnswer, Answer}
 use Rattle.routines.proofs.Done.{inside}
 use Rattle.routines.proofs.Decide.{reached-dec}
 use Rattle.routines.proofs.KExists.{all_judged}

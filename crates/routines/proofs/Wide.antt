@@ -2,10 +2,10 @@
 use mathlib.Core.Path.{◌≡◌, refl, sym, ◌∙◌}
 use mathlib.Core.Logic.{◌⊎◌, inl, inr, ⊎_elim}
 use mathlib.Core.Bool.{Bool, true, false}
-use Prim.Native.Nat.{ℕ, ◌<◌}
+use Prim.Native.Nat.{ℕ}
 use Rattle.laws.specs.Choice.{pick}
 use Rattle.graph.specs.Graph.{Edge, Reach, here, step}
-use Rattle.routines.specs.Calling.{Flow, Routine, outer, called, start_in, unknown, after, within, In, Live, handler, call, Plus, once, more, Calls, Recurs}
+use Rattle.routines.specs.Calling.{Flow, Routine, called, start_in, unknown, after, within, Live, handler, call, Plus, once, more, Calls, Recurs}
 use Rattle.routines.specs.Shape.{Narrower, Widens}
 use Rattle.routines.proofs.Within.{edge-cases, edge_on, edge-call}
 

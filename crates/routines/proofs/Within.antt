@@ -1,14 +1,14 @@
 -- A routine as a graph: what follows a place there, by its kind.
 use mathlib.Core.Path.{◌≡◌, refl, sym, ◌∙◌}
 use mathlib.Core.Logic.{◌⊎◌, inl, inr, ⊎_elim}
-use mathlib.Core.Bool.{Bool, true, false}
+use mathlib.Core.Bool.{Bool}
 use Prim.Native.Nat.{ℕ}
 use native.Mathlib.Omega.{arith}
 use native.Mathlib.Decide.{ℕ_discrete}
 use lib.Dec.{eqb}
-use borrow.Author.Tests.{eq-eqb, ne_eqb}
+use borrow.Author.Tests.{ne_eqb}
 use Rattle.laws.specs.Choice.{pick, either}
-use Rattle.graph.specs.Graph.{Graph, GoesOn, Ends, Excluded, Edge}
+use Rattle.graph.specs.Graph.{GoesOn, Ends, Excluded, Edge}
 use Rattle.routines.specs.Calling.{Flow, Routine, outer, called, end_of, after, within}
 
 -- how a place is left in a routine that ends by kind e

@@ -1,6 +1,6 @@
 -- Request Q-9: "The statement about emulated runs then holds for runs in which no instruction but a call stores into a stack level from SP at that time (included) up to the SP at
 -- the start (not included).", over any machine with a stack. Nothing here knows the chip.
-use Rattle.std.specs.Prelude.{◌≡◌, ◌⊎◌, Bool, true, false, List, [], ◌∷◌, ℕ, suc, ◌+◌, ◌≤◌, ◌<◌, length}
+use Rattle.std.specs.Prelude.{◌≡◌, ◌⊎◌, true, false, List, [], ◌∷◌, ℕ, suc, ◌+◌, ◌≤◌, ◌<◌}
 use Rattle.routines.specs.Calling.{Flow}
 
 -- a machine that steps once a frame: the state after the step and its cycles; whether the step ends the handler ("the return or a named stop"), whether it is the return, RTI, whether it completes, and

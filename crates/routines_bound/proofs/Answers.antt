@@ -1,12 +1,12 @@
 -- A sound handler whose sums and depths are settled: 25, 23, or N and the depth with their paths.
-use mathlib.Core.Path.{◌≡◌, refl, sym}
+use mathlib.Core.Path.{◌≡◌, refl}
 use mathlib.Core.List.{List, []}
-use Prim.Native.Nat.{ℕ, ◌*◌, ◌≤◌, ◌<◌}
+use Prim.Native.Nat.{ℕ, ◌*◌, ◌<◌}
 use native.Mathlib.Omega.{arith}
-use lib.ListN.{length, get_or, drop}
-use Rattle.graph.specs.Graph.{Graph, sum}
+use lib.ListN.{length, get_or}
+use Rattle.graph.specs.Graph.{sum}
 use Rattle.graph_search.proofs.Zeros.{marked_lt}
-use Rattle.routines.specs.Calling.{Flow, Routine, outer, unknown, In, Live, IsBad, IsLoop, HandlerPath, depth, FirstOf}
+use Rattle.routines.specs.Calling.{Flow, outer, unknown, IsBad, IsLoop, HandlerPath, depth, FirstOf}
 use Rattle.routines.specs.Answer as answer
 use Rattle.routines.specs.Answer.{bytes_of, HasBound, gives_21, gives_22, gives_25, gives_23, gives_23_depth, gives_n, FlowAnswer, bounded}
 use Rattle.routines.proofs.Done.{Done, done, in-lt}
@@ -15,7 +15,7 @@ use Rattle.routines_joined.specs.Words.{flow_at}
 use Rattle.routines_joined.specs.Refused.{address_in, Judges}
 use Rattle.routines_joined.specs.declared.Judgement.{Judgement}
 use Rattle.routines_joined.proofs.Nodes.{small}
-use Rattle.routines_sums.specs.Dist.{Dist, Idle}
+use Rattle.routines_sums.specs.Dist.{Dist}
 use Rattle.routines_sums.specs.Ways.{ways_in, costs_in, Priced, IdleTo}
 use Rattle.routines_sums.proofs.Settling.{cost_pos}
 use Rattle.routines_paths.specs.Way as way

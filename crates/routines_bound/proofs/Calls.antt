@@ -1,15 +1,15 @@
 -- Calls are judged before the rest: where there are none, there is nothing to judge; else the words that say where their calls go on have the answers of those that they were chosen from.
-use mathlib.Core.Path.{◌≡◌, refl, sym, ap, fun_ext, ◌∙◌}
+use mathlib.Core.Path.{◌≡◌, sym, ap, fun_ext, ◌∙◌}
 use mathlib.Core.List.{List}
 use Prim.Native.Nat.{ℕ, ◌≤◌, ◌<◌}
 use native.Mathlib.Omega.{arith}
 use lib.ListN.{length}
-use Rattle.routines.specs.Calling.{Flow, Routine, called, unknown, Live, handler, call, Recurs}
+use Rattle.routines.specs.Calling.{called, unknown, Live, call}
 use Rattle.routines.specs.Answer.{Found, Judged, FlowAnswer, Answer, judged}
 use Rattle.routines.proofs.Chosen.{chosen_recurs, chosen-widens, flow-answer-to}
 use Rattle.routines.proofs.Done.{in-lt}
 use Rattle.routines_numbered.specs.Packed.{nodes_in}
-use Rattle.routines_joined.specs.Words.{flow_at, Laid}
+use Rattle.routines_joined.specs.Words.{flow_at}
 use Rattle.routines_joined.specs.Refused.{NothingRecurs, Recursion, address_in}
 use Rattle.routines_joined.proofs.Nodes.{small}
 use Rattle.routines_known.specs.Choosing.{ChosenTo}

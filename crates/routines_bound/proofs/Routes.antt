@@ -3,12 +3,12 @@ use mathlib.Core.Path.{◌≡◌, refl, sym, ap, ap₂, ◌∙◌}
 use mathlib.Core.Logic.{inl, inr}
 use mathlib.Core.Bool.{Bool}
 use mathlib.Core.List.{List, [], ◌∷◌}
-use Prim.Native.Nat.{ℕ, suc, ◌+◌, ◌≤◌, ◌<◌, max}
+use Prim.Native.Nat.{ℕ, suc, max}
 use native.Mathlib.Omega.{arith}
 use lib.ListN.{length, get_or}
 use Rattle.graph.specs.Graph.{Graph, Reach, here, sum}
 use Rattle.graph.proofs.Reach.{reach_snoc}
-use Rattle.routines.specs.Calling.{Flow, Routine, outer, called, end_of, start_in, after, within, In, Live, handler, call, HandlerPath, depth, FirstOf}
+use Rattle.routines.specs.Calling.{Flow, Routine, called, end_of, start_in, after, within, In, Live, handler, call, HandlerPath, depth, FirstOf}
 use Rattle.routines.proofs.Within.{edge_on, edge-call}
 use Rattle.routines.proofs.Done.{Nested, none, inner}
 use Rattle.routines.specs.Sums as sums
@@ -17,11 +17,10 @@ use Rattle.routines.proofs.Longest.{way-is-longest}
 use Rattle.routines.specs.Depths as depths
 use Rattle.routines.specs.Depths.{depth_at, Depths, pending}
 use Rattle.routines.proofs.Deepest.{way-is-deepest}
-use Rattle.routines_joined.specs.Words.{NodeIs}
 use Rattle.routines_paths.specs.Way as way
 use Rattle.routines_paths.specs.Deep as deep
 use Rattle.routines_paths.specs.Deep.{later}
-use Rattle.routines_bound.proofs.Ways.{WayIs, Ways, is-on, is_call, is-end}
+use Rattle.routines_bound.proofs.Ways.{Ways, is-on, is_call, is-end}
 
 heads : (a b : ℕ) (x y : List ℕ) → a ∷ x ≡ b ∷ y → a ≡ b
 heads a b x y q = cc
@@ -69,11 +68,11 @@ module _ (f : Flow) (K : ℕ → Bool) (g : Graph) (d : List ℕ) (ways : Ways f
       let c = is_call (ways r v live i) (rw e at k) in
       let at : w ≡ f.from (f.entry v) = q ∙ ap (λ (y : ℕ). g.next y) e ∙ sym c.1.next in
       let on : y ≡ after f K v = h ∙ ap (λ (y : ℕ). g.other y) e ∙ sym c.1.other in
-      let ih = way_of (inner n live i c.0) (f.from (f.entry v)) (call live i c.0) here w (y ∷ xs) t at (ap₂ (λ (a : ℕ) (b : List ℕ). a ∷ b) on z) p in
+      let ih = way_of {r = called (f.entry v)} (inner n live i c.0) (f.from (f.entry v)) (call live i c.0) here w (y ∷ xs) t at (ap₂ (λ (a : ℕ) (b : List ℕ). a ∷ b) on z) p in
       rw e (sums.Route.calls c.0 ih)
   way_of {r} n v live i x xs l e z (way.Route.move {l = t} (way.Move.back {ks = ys} {w = w} k) p) =
       rw e
-      (returns-with f K Way (λ v w ks t k p. sums.Route.ret k p) n v w ys t z (is-end (ways r v live i) (rw e at k)) (λ r' ks' n' v' l' i' a b. way_of n' v' l' i' w ys t a b p))
+      (returns-with f K Way (λ v w ks t k p. sums.Route.ret k p) n v w ys t z (is-end (ways r v live i) (rw e at k)) (λ r' ks' n' v' l' i' a b. way_of {r = r'} n' v' l' i' w ys t a b p))
 
   pub longest-is : {c : ℕ → ℕ} → Sums f K c (λ v. get_or d v 0) (λ v. get_or d v 0) → {l : List ℕ} → way.Route g d [] f.start l → FirstOf f (HandlerPath f K) (sum c) l × (sum c l ≡ get_or d f.start 0)
   longest-is {c} s {l} p = way-is-longest f K c (λ v. get_or d v 0) (λ v. get_or d v 0) s (way_of none f.start handler here f.start [] l refl refl p)
@@ -113,12 +112,12 @@ module _ (f : Flow) (K : ℕ → Bool) (g : Graph) (dep : List ℕ) (goal : ℕ)
       let c = is_call (ways r v live i) (rw e at k) in
       let at : w ≡ f.from (f.entry v) = q ∙ ap (λ (y : ℕ). g.next y) e ∙ sym c.1.next in
       let on : y ≡ after f K v = h ∙ ap (λ (y : ℕ). g.other y) e ∙ sym c.1.other in
-      let ih = deep_of (inner n live i c.0) m (f.from (f.entry v)) (call live i c.0) here w (y ∷ xs) t at (ap₂ (λ (a : ℕ) (b : List ℕ). a ∷ b) on z) p in
+      let ih = deep_of {r = called (f.entry v)} (inner n live i c.0) m (f.from (f.entry v)) (call live i c.0) here w (y ∷ xs) t at (ap₂ (λ (a : ℕ) (b : List ℕ). a ∷ b) on z) p in
       let u : m ≡ max reached (suc (length ks)) = b ∙ ap (λ (a : List ℕ). max reached (suc (length a))) z in
       rw e (depths.Route.calls c.0 (rw u at ih))
   deep_of {r} n reached v live i x xs l e z (deep.Route.move {l = t} (deep.Move.back {w = w} {ks = ys} k) p) =
       rw e
-      (returns-with f K (DeepWay reached) (λ v w ks t k p. depths.Route.ret k p) n v w ys t z (is-end (ways r v live i) (rw e at k)) (λ r' ks' n' v' l' i' a b. deep_of n' reached v' l' i' w ys t a b p))
+      (returns-with f K (DeepWay reached) (λ v w ks t k p. depths.Route.ret k p) n v w ys t z (is-end (ways r v live i) (rw e at k)) (λ r' ks' n' v' l' i' a b. deep_of {r = r'} n' reached v' l' i' w ys t a b p))
 
 pub deepest_is : (f : Flow) (K : ℕ → Bool) (g : Graph) (dep : List ℕ) → Ways f K g → Depths f K (λ v. get_or dep v 0) (λ v. get_or dep v 0) → {l : List ℕ} → deep.Route g dep (get_or dep f.start 0) 0 [] f.start l
     → FirstOf f (HandlerPath f K) (depth f) l × (depth f l ≡ get_or dep f.start 0)

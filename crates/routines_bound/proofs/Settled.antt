@@ -1,5 +1,5 @@
 -- What the settled sums and depths are: those of the routines, where the start has a sum; and where it has none, a path spends more than 65,535.
-use mathlib.Core.Path.{◌≡◌, refl, sym, ap, ◌∙◌}
+use mathlib.Core.Path.{◌≡◌, refl, sym}
 use mathlib.Core.Logic.{◌⊎◌, inl, inr}
 use mathlib.Core.Bool.{Bool}
 use mathlib.Core.List.{List}

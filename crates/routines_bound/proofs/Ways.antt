@@ -1,11 +1,9 @@
 -- A graph that goes the ways of a flow: a call leads to where its routine starts and to where it goes on. Words by number are such a graph, where nothing excluded is reached.
-use mathlib.Core.Path.{◌≡◌, refl, sym, ◌∙◌}
+use mathlib.Core.Path.{◌≡◌, sym, ◌∙◌}
 use mathlib.Core.Bool.{Bool}
 use mathlib.Core.List.{List}
 use Prim.Native.Nat.{ℕ, ◌<◌}
 use native.Mathlib.Omega.{arith}
-use native.Mathlib.Decide.{ℕ_discrete}
-use borrow.Author.Tests.{eq-eqb, ne_eqb}
 use Rattle.graph.specs.Graph.{Graph}
 use Rattle.routines.specs.Calling.{Flow, Routine, outer, called, end_of, unknown, after, In, Live, IsBad}
 use Rattle.routines.proofs.Within.{Kind, kind_of, out-excluded}

@@ -13,7 +13,6 @@ use Rattle.routines.specs.Calling.{Flow, outer, after, unknown}
 use Rattle.routines.specs.Losing.{Loses, returns, by_next, by_other, past_known, past_unknown}
 use Rattle.routines.proofs.Within.{edge_on, edge-call, edge-cases}
 use Rattle.routines_numbered.specs.Packed.{nodes_in}
-use Rattle.routines_known.specs.Marking as marking
 use Rattle.routines_known.specs.Marking.{flow_on, Sized, Lost, AllLose, IdleTo}
 use Rattle.counts.specs.Weights.{steps}
 use Rattle.counts.specs.Searches.{Seeded}

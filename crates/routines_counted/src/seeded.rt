@@ -53,8 +53,8 @@ pub fn mark_ahead(
     words: &[u64],
     at: usize,
     seeded: &mut [u64],
-    first: &mut [u16],
-    link: &mut [u16],
+    first: &mut [u32],
+    link: &mut [u32],
     stack: &mut [u16],
     ahead: &mut [u8],
 )

@@ -1,5 +1,5 @@
 -- Keys, and the search for the lowest.
-use Rattle.std.proofs.Common.{◌≡◌, ℕ, ◌+◌, ◌-◌, ◌*◌, ◌/◌, ◌%◌, ◌<◌, ◌≤◌, Bool, true, false, not, ◌⊎◌, List, length, get_or, sym, refl, ap, ◌∙◌, inl, inr, ⊎_elim, arith, le-ltb, lt-ltb}
+use Rattle.std.proofs.Common.{◌≡◌, ℕ, ◌+◌, ◌-◌, ◌*◌, ◌/◌, ◌%◌, ◌<◌, ◌≤◌, Bool, true, false, not, ◌⊎◌, List, get_or, sym, refl, ◌∙◌, inl, inr, arith, le-ltb, lt-ltb}
 use native.Mathlib.Decide.{ℕ_discrete, dec_lt}
 use Rattle.graph_search.specs.Marks.{OnQ, Queue}
 use Rattle.routines_numbered.specs.Packed.{name_in}
@@ -102,14 +102,6 @@ module _ {x : List ℕ} {P : ℕ → Type 0} {q : List ℕ} where
 
 pub true_false : ◌≡◌ {A = Bool} true false → ⊥
 true_false e = let z : ◌≡◌ {A = ℕ} 0 1 = cc in omega arith
-
-pub was_false : (r : Bool) → not r ≡ true → r ≡ false
-was_false true e = sym e
-was_false false e = refl
-
-pub was_true : (r : Bool) → not r ≡ false → r ≡ true
-was_true true e = refl
-was_true false e = sym e
 
 pub on_lt : {q : List ℕ} {count n y : ℕ} → Queue q count n → OnQ q count y → y < n
 on_lt a (i, h, e) = rw (← e) (a.below i h)

@@ -1,8 +1,8 @@
 -- The joined graph of words, node by node.
-use Rattle.std.proofs.Common.{◌≡◌, ℕ, ◌+◌, ◌-◌, ◌*◌, ◌/◌, ◌%◌, ◌<◌, ◌≤◌, Bool, true, false, eqb, ltb, ◌⊎◌, List, length, get_or, sym, refl, ap, ◌∙◌, subst, inl, inr, ⊎_elim, arith, le-ltb, lt-ltb, eq-eqb, ne_eqb}
+use Rattle.std.proofs.Common.{◌≡◌, ℕ, ◌+◌, ◌-◌, ◌*◌, ◌/◌, ◌%◌, ◌<◌, ◌≤◌, Bool, true, false, eqb, ltb, ◌⊎◌, List, length, get_or, sym, refl, ◌∙◌, subst, inl, inr, ⊎_elim, arith, le-ltb, lt-ltb, eq-eqb, ne_eqb}
 use native.Mathlib.Decide.{ℕ_discrete, dec_lt}
 use Rattle.laws.specs.Choice.{pick, either}
-use Rattle.graph.specs.Graph.{Graph, Edge, Excluded}
+use Rattle.graph.specs.Graph.{Graph, Excluded}
 use Rattle.graph.specs.Laid.{Inside}
 use Rattle.routines_joined.specs.Ranks.{After}
 use Rattle.routines.specs.Calling.{after}

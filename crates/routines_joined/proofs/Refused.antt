@@ -1,21 +1,20 @@
 -- The lowest keys of the joined graph are 24, 21 and 22.
-use Rattle.std.proofs.Common.{◌≡◌, ℕ, ◌+◌, ◌-◌, ◌*◌, ◌/◌, ◌%◌, ◌<◌, ◌≤◌, ◌⊎◌, List, length, get_or, sym, refl, ap, ◌∙◌, subst, inl, inr, arith}
-use Rattle.graph.specs.Graph.{Graph, Edge, Reach, ReachPlus, Excluded, Bad, Loops, Least}
+use Rattle.std.proofs.Common.{◌≡◌, ℕ, ◌-◌, ◌/◌, ◌<◌, ◌≤◌, List, sym, refl, ap, ◌∙◌, subst, arith}
+use Rattle.graph.specs.Graph.{Reach, ReachPlus, Excluded, Loops}
 use Rattle.graph_search.specs.Marks.{Marked, OnQ, Listed}
 use Rattle.graph_search.specs.Search.{Reached}
 use Rattle.routines_joined.specs.Ranks.{NeverRises}
 use Rattle.routines_joined.proofs.Ranks.{steady-of}
-use Rattle.routines.specs.Calling.{Flow, Routine, outer, called, unknown, Recurs, IsBad, IsLoop}
-use Rattle.routines.specs.Answer.{LowestAddress}
+use Rattle.routines.specs.Calling.{Routine, outer, called, unknown, Recurs, IsBad, IsLoop}
 use Rattle.routines.specs.Shape.{Widens}
 use Rattle.routines.specs.Joined.{code}
-use Rattle.routines.proofs.Edges.{code_above, place_code}
+use Rattle.routines.proofs.Edges.{code_above}
 use Rattle.routines.proofs.Refusals.{entry_lt, bad-code, bad-place, entry-loops, loops-entry}
 use Rattle.routines.proofs.Repeats.{loop-code, loop-place}
 use Rattle.routines_numbered.specs.Packed.{node_in, name_in, nodes_in}
 use Rattle.routines_joined.specs.Words.{flow_at, Laid, joined_at, key_at, LowestKey}
-use Rattle.routines_joined.specs.Suspects.{Ruled, RuledAll}
-use Rattle.routines_joined.specs.Refused.{NothingRecurs, Recursion, address_in, IsExcluded, IsRepeats, IsSound}
+use Rattle.routines_joined.specs.Suspects.{RuledAll}
+use Rattle.routines_joined.specs.Refused.{NothingRecurs, Recursion, address_in, IsExcluded, IsRepeats}
 use Rattle.routines_joined.proofs.Nodes.{small}
 use Rattle.routines_joined.proofs.Keys.{key_entry, key_place, key_lt, key_low}
 

@@ -1,6 +1,6 @@
 -- What is answered of a numbered flow in which SF is unknown after every call, or which says where it is known: 24, 21 and 22.
-use Rattle.std.specs.Prelude.{ℕ, ◌+◌, ◌<◌, ◌≤◌, List}
-use Rattle.graph.specs.Graph.{Graph, Least}
+use Rattle.std.specs.Prelude.{ℕ, ◌<◌, ◌≤◌, List}
+use Rattle.graph.specs.Graph.{Least}
 use Rattle.graph_search.specs.Marks.{Listed}
 use Rattle.graph_search.specs.Search.{Reached}
 use Rattle.routines.specs.Calling.{Flow, unknown, Recurs, IsBad, IsLoop}

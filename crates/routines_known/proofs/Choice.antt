@@ -1,19 +1,17 @@
 -- Words that say where their calls go on are the flow by what is known after calls.
-use mathlib.Core.Path.{◌≡◌, refl, sym, ap, subst, ◌∙◌}
-use mathlib.Core.Bool.{Bool, true, false, not}
+use mathlib.Core.Path.{◌≡◌, refl, sym, ◌∙◌}
+use mathlib.Core.Bool.{true, false, not}
 use mathlib.Core.List.{List}
-use Prim.Native.Nat.{ℕ, ◌-◌, ◌*◌, ◌≤◌, ◌<◌}
+use Prim.Native.Nat.{ℕ, ◌<◌}
 use native.Mathlib.Omega.{arith}
 use native.Mathlib.Decide.{ℕ_discrete, dec_lt}
-use lib.Dec.{eqb, ltb}
-use lib.ListN.{length, get_or}
-use borrow.Author.Tests.{eq-eqb, ne_eqb, lt-ltb, le-ltb}
+use lib.ListN.{get_or}
+use borrow.Author.Tests.{lt-ltb, le-ltb}
 use Rattle.laws.specs.Choice.{pick}
 use Rattle.routines.specs.Calling.{unknown, after}
 use Rattle.routines.specs.Losing.{known_by}
 use Rattle.routines.proofs.Chosen.{Chosen}
 use Rattle.routines_numbered.specs.Packed.{place_in, next_in, other_in, into_in, kind_in, cost_in, node_in, Fits, name_in, nodes_in}
-use Rattle.routines_numbered.specs.Numbering.{LinksLt}
 use Rattle.routines_numbered.proofs.Packed.{place_of, next_of, other-of, into-of, kind_of, cost-of}
 use Rattle.routines_joined.specs.Words.{flow_at, Laid}
 use Rattle.routines_known.specs.Choosing.{known_next, chosen_word, ChosenTo}

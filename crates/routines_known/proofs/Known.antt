@@ -1,21 +1,21 @@
 -- The marks by number tell what is known after the calls of the flow.
-use mathlib.Core.Path.{◌≡◌, refl, sym, ap, subst, ◌∙◌}
-use mathlib.Core.Bool.{Bool, true, false}
+use mathlib.Core.Path.{◌≡◌, sym, ap, subst, ◌∙◌}
+use mathlib.Core.Bool.{true}
 use mathlib.Core.List.{List}
-use Prim.Native.Nat.{ℕ, ◌-◌, ◌*◌, ◌<◌}
+use Prim.Native.Nat.{ℕ, ◌<◌}
 use native.Mathlib.Omega.{arith}
-use lib.Dec.{ltb, ltb→lt}
+use lib.Dec.{ltb→lt}
 use lib.ListN.{length, get_or}
-use borrow.Author.Tests.{eq-eqb, lt-ltb}
+use borrow.Author.Tests.{lt-ltb}
 use Rattle.laws.proofs.Computed.{true→T}
 use Rattle.graph_search.specs.Marks.{Marked}
 use Rattle.graph_search.proofs.Zeros.{marked_lt}
-use Rattle.routines.specs.Calling.{Flow, Recurs}
+use Rattle.routines.specs.Calling.{Recurs}
 use Rattle.routines.specs.Answer.{Judged}
 use Rattle.routines.specs.Shape.{Widens}
 use Rattle.routines.specs.Losing.{Loses, returns, by_next, by_other, past_known, past_unknown, Region, Marks, KnownAfter, known_by}
 use Rattle.routines.proofs.Knowing.{knows}
-use Rattle.routines_numbered.specs.Packed.{nodes_in, map_in}
+use Rattle.routines_numbered.specs.Packed.{nodes_in}
 use Rattle.routines_joined.specs.Words.{flow_at, Laid}
 use Rattle.routines_known.specs.Marking as marking
 use Rattle.routines_known.specs.Marking.{flow_on, AllLose, Lost, IdleTo, marked_in}

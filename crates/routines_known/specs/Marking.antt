@@ -1,5 +1,5 @@
 -- Marks m, one a number: what a number's mark goes by, and what marking comes to.
-use Rattle.std.specs.Prelude.{◌≡◌, Bool, true, false, List, ℕ, ◌+◌, ◌≤◌, ◌<◌, ltb, length, get_or}
+use Rattle.std.specs.Prelude.{◌≡◌, Bool, false, List, ℕ, ◌+◌, ◌≤◌, ◌<◌, ltb, length, get_or}
 use Rattle.graph_search.specs.Marks.{Marked, zeros}
 use Rattle.routines.specs.Calling.{Flow}
 use Rattle.routines.specs.Losing.{Loses}
@@ -19,7 +19,7 @@ flow_on x = record {
 }
 
 pub record Sized (x : List ℕ) (n : ℕ) : Type 0 where
-  pub words : length x ≡ 16384
+  pub words : n ≤ length x
   pub few : n ≤ 16384
   pub links : (v : ℕ) → v < n → LinksLt x n v
 

@@ -1,14 +1,14 @@
 -- Packed numbers hold what was put in, and a place that is put at the end of them is found.
-use mathlib.Core.Path.{◌≡◌, refl, sym, ap, ◌∙◌}
+use mathlib.Core.Path.{◌≡◌, ap, ◌∙◌}
 use mathlib.Core.List.{List}
-use Prim.Native.Nat.{ℕ, suc, ◌+◌, ◌*◌, ◌/◌, ◌%◌, ◌<◌, ◌^◌}
+use Prim.Native.Nat.{ℕ, suc, ◌/◌, ◌%◌, ◌<◌, ◌^◌}
 use native.Mathlib.Omega.{arith}
 use native.Mathlib.Decide.{ℕ_discrete}
 use lib.Dec.{eqb}
 use lib.ListN.{length, get_or, set}
 use lib.Seq.{get_or-set_same, get_or-set_other}
-use Rattle.routines.specs.Exploring.{Node, Finds}
-use Rattle.routines_numbered.specs.Packed.{place_in, node_in, packed, Fits, name_in, nodes_in, map_in}
+use Rattle.routines.specs.Exploring.{Finds}
+use Rattle.routines_numbered.specs.Packed.{place_in, node_in, packed, Fits, name_in, map_in}
 
 module _ {p n o i k c : ℕ} (h : Fits p n o i k c) where
   pub place_of : place_in (packed p n o i k c) ≡ p

@@ -15,7 +15,7 @@ use Rattle.graph.specs.Graph.{Graph}
 use Rattle.graph_search.specs.Marks.{zeros, Blank}
 use Rattle.graph_search.proofs.Zeros.{zeros_set, zeros_le, cases_set}
 use Rattle.routines_joined.specs.Words.{NodeIs}
-use Rattle.routines_numbered.specs.Packed.{node_in, nodes_in}
+use Rattle.routines_numbered.specs.Packed.{nodes_in}
 use Rattle.routines_sums.specs.Dist.{Spent, Levels, Stays, Value, ends, forks, calls, Dist, Idle, fork_over, call_over, Settled}
 use Rattle.routines_sums.specs.Ways.{ways_in, costs_in, Priced, IdleTo, Swept}
 

@@ -15,20 +15,20 @@ use Rattle.record.specs.declared.Machine.{Machine}
 use Rattle.row.specs.Places.{Around, with_pc}
 use Rattle.row.specs.Steps.{Did}
 use Rattle.row.specs.Rows.{Done, spent, stops, with_marks, work_of, branch_of, call_of, worked, ended, latches_of, performed, pc_past}
-use Rattle.row.specs.Columns.{is_port, step_puts, work_puts, is_ordinary, Ordinary}
+use Rattle.row.specs.Columns.{is_port, work_puts, is_ordinary, Ordinary}
 use Rattle.row.proofs.Keeps.{putting, work-keeps-always, work-keeps-but}
 
 -- every work leaves EI; and the mode, unless it puts a nibble to a port
 work_ei : (m : Machine) (w : Around) (l : Line) (s : Step) (a : After) → (work_of m w l s a).machine.core.ints.ei ≡ m.core.ints.ei
 work_ei m w l s a =
     work-keeps-always (λ n. n.core.ints.ei) w (λ n q. refl) (λ n q. refl) (λ n r pc. refl)
-    (λ n p v. putting {P = λ k. k.core.ints.ei ≡ n.core.ints.ei} p (record { same = refl; regs = λ r. refl; ram = λ r. refl; ports = λ q e. refl; ptrs = λ q. refl; timers = λ t. refl; ints = λ i e. e }))
+    (λ n p v. putting {P = λ k. k.core.ints.ei ≡ n.core.ints.ei} {w = w} p (record { same = refl; regs = λ r. refl; ram = λ r. refl; ports = λ q e. refl; ptrs = λ q. refl; timers = λ t. refl; ints = λ i e. e }))
     m l s a
 
 work_mode : (m : Machine) (w : Around) (l : Line) (s : Step) (a : After) → work_puts is_port s a ≡ false → (work_of m w l s a).machine.core.mode ≡ m.core.mode
 work_mode m w l s a =
     work-keeps-but (λ n. n.core.mode) w (λ n q. refl) (λ n q. refl) (λ n r pc. refl) is_port
-    (λ n p v e. putting {P = λ k. k.core.mode ≡ n.core.mode} p (record { same = refl; regs = λ r. refl; ram = λ r. refl; ports = λ q is. absurd (subst T (sym (ap is_port is) ∙ e) tt); ptrs = λ q. refl; timers = λ t. refl; ints = λ i e. refl }))
+    (λ n p v e. putting {P = λ k. k.core.mode ≡ n.core.mode} {w = w} p (record { same = refl; regs = λ r. refl; ram = λ r. refl; ports = λ q is. absurd (subst T (sym (ap is_port is) ∙ e) tt); ptrs = λ q. refl; timers = λ t. refl; ints = λ i e. refl }))
     m l s a
 
 set_flag : (k : Mark) (old : Bool) (x : Made) → k ≡ set → flag_after k old x ≡ true

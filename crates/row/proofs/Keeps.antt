@@ -75,8 +75,8 @@ any_in w m Step.DP+1 = tt
 
 pub any_after : (w : Around) (m : Machine) (s : Step) (a : After) → AllowedAfter w Any m s a
 any_after w m s After.alone = tt
-any_after w m s (After.flags_of t) = any_in w _ t
-any_after w m s (After.flags_before t) = any_in w _ t
+any_after w m s (After.flags_of t) = any_in w (operation_step m w s).machine t
+any_after w m s (After.flags_before t) = any_in w (operation_step m w s).machine t
 
 -- every place without a property
 abbrev pub But : (Place → Bool) → Machine → Place → Type 0
@@ -90,8 +90,8 @@ module _ (w : Around) (g : Place → Bool) where
 
   none_after : (m : Machine) (s : Step) (a : After) → after_puts g a ≡ false → AllowedAfter w (But g) m s a
   none_after m s After.alone e = tt
-  none_after m s (After.flags_of t) e = none_in _ t e
-  none_after m s (After.flags_before t) e = none_in _ t e
+  none_after m s (After.flags_of t) e = none_in (operation_step m w s).machine t e
+  none_after m s (After.flags_before t) e = none_in (operation_step m w s).machine t e
 
   pub but_in : (m : Machine) (s : Step) (a : After) → work_puts g s a ≡ false → AllowedIn w (But g) m s
   but_in m s a e = none_in m s (neither_left (step_puts g s) (after_puts g a) e)

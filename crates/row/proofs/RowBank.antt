@@ -74,7 +74,7 @@ module _ (w : Around) (n : ℕ) (m : Machine) (l : Line) (s : Step) (a : After) 
   no_port : work_puts is_port s a ≡ false → (work_of m w l s a).machine.core.ports.p3 ≡ m.core.ports.p3
   no_port =
       work-keeps-but (λ k. k.core.ports.p3) w reads (λ k q. refl) (λ k r pc. refl) is_port
-      (λ k p v e. putting {P = λ j. j.core.ports.p3 ≡ k.core.ports.p3} p (record { same = refl; regs = λ r. refl; ram = λ r. refl; ports = λ q is. absurd (subst T (sym (ap is_port is) ∙ e) tt); ptrs = λ q. refl; timers = λ t. refl; ints = λ i e. refl }))
+      (λ k p v e. putting {P = λ j. j.core.ports.p3 ≡ k.core.ports.p3} {w = w} p (record { same = refl; regs = λ r. refl; ram = λ r. refl; ports = λ q is. absurd (subst T (sym (ap is_port is) ∙ e) tt); ptrs = λ q. refl; timers = λ t. refl; ints = λ i e. refl }))
       m l s a
 
   module _ (f : T (both (fits_step n s) (fits_after n a))) (h : m.core.regs.lr < 16) where
@@ -82,7 +82,7 @@ module _ (w : Around) (n : ℕ) (m : Machine) (l : Line) (s : Step) (a : After) 
     free-port : among (guarded w.options.device) w.insn.b ≡ false → (work_of m w l s a).machine.core.ports.p3 ≡ m.core.ports.p3
     free-port free =
         work-keeps (λ k. k.core.ports.p3) w reads (λ k q. refl) (λ k r pc. refl) LowLr
-        (λ k p v low. putting {P = λ j. j.core.ports.p3 ≡ k.core.ports.p3} p (record { same = refl; regs = λ r. refl; ram = λ r. refl; ports = λ q is. written k q v (low (rw is tt)); ptrs = λ q. refl; timers = λ t. refl; ints = λ i e. refl }))
+        (λ k p v low. putting {P = λ j. j.core.ports.p3 ≡ k.core.ports.p3} {w = w} p (record { same = refl; regs = λ r. refl; ram = λ r. refl; ports = λ q is. written k q v (low (rw is tt)); ptrs = λ q. refl; timers = λ t. refl; ints = λ i e. refl }))
         m l s a (low-in w n m s (both_left (fits_step n s) (fits_after n a) f) (λ t. h)) (low-after w n m s a (both_right (fits_step n s) (fits_after n a) f))
       where
         written : (k : Machine) (q : Port) (v : ℕ) → k.core.regs.lr < 16 → (port_written w.options.device k (port_of k.core.regs w.insn q) v).core.ports.p3 ≡ k.core.ports.p3

@@ -14,7 +14,7 @@ use Rattle.row.proofs.Keeps.{putting, work-keeps-always}
 work_mark : (m : Machine) (w : Around) (l : Line) (s : Step) (a : After) → (work_of m w l s a).machine.core.mark ≡ m.core.mark
 work_mark m w l s a =
     work-keeps-always (λ n. n.core.mark) w (λ n q. refl) (λ n q. refl) (λ n r pc. refl)
-    (λ n p v. putting {P = λ k. k.core.mark ≡ n.core.mark} p (record { same = refl; regs = λ r. refl; ram = λ r. refl; ports = λ q e. refl; ptrs = λ q. refl; timers = λ t. refl; ints = λ i e. refl }))
+    (λ n p v. putting {P = λ k. k.core.mark ≡ n.core.mark} {w = w} p (record { same = refl; regs = λ r. refl; ram = λ r. refl; ports = λ q e. refl; ptrs = λ q. refl; timers = λ t. refl; ints = λ i e. refl }))
     m l s a
 
 -- the record after a row has the mark of the record before

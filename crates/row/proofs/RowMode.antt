@@ -14,6 +14,7 @@ use Rattle.sheet.specs.declared.Insn.{Insn}
 use Rattle.record.specs.declared.Registers.{Registers}
 use Rattle.record.specs.declared.Machine.{Machine}
 use Rattle.row.specs.Places.{Around, port_of, port_written}
+use Rattle.row.specs.Steps.{operation_step}
 use Rattle.row.specs.Rows.{work_of}
 use Rattle.row.specs.Columns.{is_port}
 use Rattle.row.proofs.Keeps.{reading, putting, AllowedIn, AllowedAfter, work-keeps}
@@ -42,13 +43,13 @@ module _ (w : Around) (n : ℕ) where
 
   pub low-after : (m : Machine) (s : Step) (a : After) → T (fits_after n a) → AllowedAfter w LowLr m s a
   low-after m s After.alone f = tt
-  low-after m s (After.flags_of t) f = low_second _ t f
-  low-after m s (After.flags_before t) f = low_second _ t f
+  low-after m s (After.flags_of t) f = low_second (operation_step m w s).machine t f
+  low-after m s (After.flags_before t) f = low_second (operation_step m w s).machine t f
 
   pub work_mode : (w.insn.b ≡ 16 → ⊥) → (m : Machine) (l : Line) (s : Step) (a : After) → T (both (fits_step n s) (fits_after n a)) → m.core.regs.lr < 16 → (work_of m w l s a).machine.core.mode ≡ m.core.mode
   work_mode not_16 m l s a f h =
       work-keeps (λ k. k.core.mode) w (λ k q. refl) (λ k q. refl) (λ k r pc. refl) LowLr
-      (λ k p v low. putting {P = λ j. j.core.mode ≡ k.core.mode} p (record { same = refl; regs = λ r. refl; ram = λ r. refl; ports = λ q is. written k q v (low (rw is tt)); ptrs = λ q. refl; timers = λ t. refl; ints = λ i e. refl }))
+      (λ k p v low. putting {P = λ j. j.core.mode ≡ k.core.mode} {w = w} p (record { same = refl; regs = λ r. refl; ram = λ r. refl; ports = λ q is. written k q v (low (rw is tt)); ptrs = λ q. refl; timers = λ t. refl; ints = λ i e. refl }))
       m l s a (low-in m s (both_left (fits_step n s) (fits_after n a) f) (λ t. h)) (low-after m s a (both_right (fits_step n s) (fits_after n a) f))
     where
       written : (k : Machine) (q : Port) (v : ℕ) → k.core.regs.lr < 16 → (port_written w.options.device k (port_of k.core.regs w.insn q) v).core.mode ≡ k.core.mode

@@ -6,7 +6,7 @@ use Prim.Native.Nat.{ℕ, ◌/◌, ◌+◌, ◌≤◌}
 use native.Mathlib.Omega.{arith}
 use lib.Dec.{eqb, leb, ltb}
 use borrow.Author.Tests.{eq-eqb, ne_eqb}
-use Rattle.laws.specs.Choice.{both, either}
+use Rattle.laws.specs.Choice.{both}
 use Rattle.laws.proofs.Choices.{picked}
 use Rattle.device.specs.Device.{reserved}
 use Rattle.device.specs.declared.Device.{Device}

@@ -157,9 +157,9 @@ module _ (w : Around) (bytes : (at : ℕ) → w.rom at < 256) (n : ℕ) (field :
   nibble : (m : Machine) → Valid w.options.device m → (p : Place) → T (low_place n p) → (get_of m w p).value < 16
   nibble m h p t = get-low m w h bytes p (low_place_lem n p w.insn field t)
 
-  put_step : (m : Machine) (d : Place) (o : Op) (x y : Place) → Valid w.options.device m → (T (either (is_port d) (is_port x)) → m.core.mode ≡ Running) → T (fits_step n (Step.put d o x y)) → Valid w.options.device (put_step m w d o x y).machine
+  put_step_lem : (m : Machine) (d : Place) (o : Op) (x y : Place) → Valid w.options.device m → (T (either (is_port d) (is_port x)) → m.core.mode ≡ Running) → T (fits_step n (Step.put d o x y)) → Valid w.options.device (put_step m w d o x y).machine
   unfolding put_step
-  put_step m d o x y h e t =
+  put_step_lem m d o x y h e t =
       let x_Fits = both_left (low_place n x) (both (low_place n y) (second_fits o y)) t in
       let rest = both_right (low_place n x) (both (low_place n y) (second_fits o y)) t in
       let a = nibble m h x x_Fits in
@@ -178,7 +178,7 @@ module _ (w : Around) (bytes : (at : ℕ) → w.rom at < 256) (n : ℕ) (field :
       put_valid (put_of m w d (get_of m w x).value).machine w x (get_of m w d).value first (λ q. absurd (not_right (is_port d) (is_port x) none q)) a
 
   step-valid : (m : Machine) (s : Step) → Valid w.options.device m → (T (uses_port s) → m.core.mode ≡ Running) → T (fits_step n s) → Valid w.options.device (operation_step m w s).machine
-  step-valid m (Step.put d o x y) h e t = put_step m d o x y h e t
+  step-valid m (Step.put d o x y) h e t = put_step_lem m d o x y h e t
   step-valid m (Step.exchange d x) h e t = exchange-step m d x h t
   step-valid m Step.DP+1 h e t = pointers_valid h (record { sp = h.core.ptrs.sp; dp = omega arith })
 

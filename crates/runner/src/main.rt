@@ -10,12 +10,12 @@ ghost use Rattle.record.specs.Valid.{ValidCore, Nibbles};
 
 use crate::help::is_asked;
 use device::{Device, frame_size, image_size};
-use libc::STDERR_FILENO;
 use listing::line::header;
 use listing::{feed, tell};
+use program::arguments::is_given;
 use program::image::{chosen_device, open_image};
 use program::script::go_on;
-use program::streams::{Ending, ending_of, say, show, show_part};
+use program::streams::{Ending, STDERR_FILENO, ending_of, say, show, show_part};
 use program::words::{Choice, Chosen};
 use record::start::fresh;
 use record::{Core, Ram};
@@ -39,6 +39,7 @@ fn tell_last(d: Device, image: &[u8], m: Core, ram: &mut Ram, line: &[u8], out: 
 
 // The lines of the script that are whole in the part and find room in the output, then more of the script. A proved loop has to end, and nothing says that a script does: no run uses up the turns.
 fn session(
+    rt: &HostRuntime,
     d: Device,
     image: &[u8],
     m: Core,
@@ -61,7 +62,7 @@ fn session(
             return Ending::Done;
         }
         core = fed.core;
-        let span = go_on(frame_size(d), part, from, to, fed.used);
+        let span = go_on(rt, frame_size(d), part, from, to, fed.used);
         from = span.from;
         to = span.to;
         if span.failed {
@@ -75,7 +76,7 @@ fn session(
     Ending::Done
 }
 
-fn run(d: Device, image: &[u8]) -> Ending
+fn run(rt: &HostRuntime, d: Device, image: &[u8]) -> Ending
     requires { length image.now ≡ image_size d }
 {
     let mut part = io::large_buffer();
@@ -87,33 +88,33 @@ fn run(d: Device, image: &[u8]) -> Ending
     let m = fresh(d);
     let core = m.core;
     let mut ram = m.ram;
-    session(d, image, core, &mut ram, &mut part, &mut out)
+    session(rt, d, image, core, &mut ram, &mut part, &mut out)
 }
 
 // The buffer has a byte more than the largest image, so that a file that is too long shows.
-fn run_chosen(c: Chosen) -> Ending {
+fn run_chosen(rt: &HostRuntime, c: Chosen) -> Ending {
     let d = c.device;
     let word = c.before as usize + 1;
     let mut image = [0u8; 16385];
-    let file = open_image(d, word, &mut image, &USAGE);
+    let file = open_image(rt, d, word, &mut image, &USAGE);
     let size = file.size;
     if size != image_size(d) {
         return ending_of(false, file.written);
     }
-    if word + 1 < os::arg_count() {
+    if is_given(rt, word + 1) {
         usage();
         return Ending::Done;
     }
-    run(d, &image[..size])
+    run(rt, d, &image[..size])
 }
 
-fn main() {
-    if is_asked() {
+fn main(rt: HostRuntime) {
+    if is_asked(&rt) {
         return;
     }
-    let Choice::Made(c) = chosen_device() else {
+    let Choice::Made(c) = chosen_device(&rt) else {
         usage();
         return;
     };
-    say(run_chosen(c));
+    say(run_chosen(&rt, c));
 }

@@ -2,8 +2,9 @@
 use program::help::is_told;
 
 // Whether the first word asked for the help or for the version, which are then written.
-pub fn is_asked() -> bool {
+pub fn is_asked(rt: &HostRuntime) -> bool {
     is_told(
+        rt,
         b"screen: the display after a step of a script, 40 dots in each of 8 rows.
 
 usage: screen [--device NAME] [--pbm] IMAGE [STEP] < SCRIPT

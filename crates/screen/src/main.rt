@@ -12,11 +12,11 @@ use crate::help::is_asked;
 use check::same;
 use device::{Device, frame_size, image_size};
 use frame::{Frame, frame_of};
-use libc::STDERR_FILENO;
 use listing::tell;
+use program::arguments::{arg, is_given};
 use program::image::{chosen_device, open_image};
 use program::script::go_on;
-use program::streams::{Ending, ending_of, say, show, show_part};
+use program::streams::{Ending, STDERR_FILENO, ending_of, say, show, show_part};
 use program::words::{Choice, Chosen};
 use record::start::fresh;
 use record::{Core, Machine, Ram};
@@ -160,7 +160,15 @@ fn is_over(ended: bool, only: u64, step: u64) -> bool {
 }
 
 // A proved loop has to end, and nothing says that a script does: no run uses up the turns.
-fn session(d: Device, image: &[u8], wish: Wish, m: Core, ram: &mut Ram, part: &mut [u8]) -> Ending
+fn session(
+    rt: &HostRuntime,
+    d: Device,
+    image: &[u8],
+    wish: Wish,
+    m: Core,
+    ram: &mut Ram,
+    part: &mut [u8],
+) -> Ending
     requires { (length image.now ≡ image_size d) × (ValidCore d m) × (Nibbles ram.old) × (frame_size d < length part.old) }
 {
     let mut core = m;
@@ -178,7 +186,7 @@ fn session(d: Device, image: &[u8], wish: Wish, m: Core, ram: &mut Ram, part: &m
         if is_over(turn.ended, wish.only, step) {
             return at_end(d, wish, step, core, *ram);
         }
-        let span = go_on(frame_size(d), part, from, to, turn.used);
+        let span = go_on(rt, frame_size(d), part, from, to, turn.used);
         from = span.from;
         to = span.to;
         if span.failed {
@@ -193,22 +201,23 @@ fn session(d: Device, image: &[u8], wish: Wish, m: Core, ram: &mut Ram, part: &m
 }
 
 // The script from the fresh record.
-fn run(d: Device, image: &[u8], wish: Wish) -> Ending
+fn run(rt: &HostRuntime, d: Device, image: &[u8], wish: Wish) -> Ending
     requires { length image.now ≡ image_size d }
 {
     let mut part = io::large_buffer();
     let m = fresh(d);
     let core = m.core;
     let mut ram = m.ram;
-    session(d, image, wish, core, &mut ram, &mut part)
+    session(rt, d, image, wish, core, &mut ram, &mut part)
 }
 
 // The step that a word names, where there is one.
-fn run_word(d: Device, image: &[u8], form: Form, at: usize) -> Ending
+fn run_word(rt: &HostRuntime, d: Device, image: &[u8], form: Form, at: usize) -> Ending
     requires { (length image.now ≡ image_size d) × (at ≤ 1000) }
 {
-    if os::arg_count() <= at {
+    if !is_given(rt, at) {
         return run(
+            rt,
             d,
             image,
             Wish {
@@ -218,17 +227,18 @@ fn run_word(d: Device, image: &[u8], form: Form, at: usize) -> Ending
         );
     }
     let mut word = io::buffer();
-    let n = os::arg(at, &mut word);
+    let n = arg(rt, at, &mut word);
     let only = step_word(&word[..n]);
     if only == 0 {
         usage();
         return Ending::Done;
     }
-    if at + 1 < os::arg_count() {
+    if is_given(rt, at + 1) {
         usage();
         return Ending::Done;
     }
     run(
+        rt,
         d,
         image,
         Wish {
@@ -239,36 +249,36 @@ fn run_word(d: Device, image: &[u8], form: Form, at: usize) -> Ending
 }
 
 // The image that a word names. The buffer has a byte more than the largest image, so that a file that is too long shows.
-fn run_image(d: Device, form: Form, word: usize) -> Ending
+fn run_image(rt: &HostRuntime, d: Device, form: Form, word: usize) -> Ending
     requires { word ≤ 999 }
 {
     let mut image = [0u8; 16385];
-    let file = open_image(d, word, &mut image, &USAGE);
+    let file = open_image(rt, d, word, &mut image, &USAGE);
     let size = file.size;
     if size != image_size(d) {
         return ending_of(false, file.written);
     }
-    run_word(d, &image[..size], form, word + 1)
+    run_word(rt, d, &image[..size], form, word + 1)
 }
 
-fn run_chosen(c: Chosen) -> Ending {
+fn run_chosen(rt: &HostRuntime, c: Chosen) -> Ending {
     let d = c.device;
     let at = c.before as usize + 1;
     let mut word = io::buffer();
-    let n = os::arg(at, &mut word);
+    let n = arg(rt, at, &mut word);
     if same(&word[..n], b"--pbm") {
-        return run_image(d, Form::Pbm, at + 1);
+        return run_image(rt, d, Form::Pbm, at + 1);
     }
-    run_image(d, Form::Signs, at)
+    run_image(rt, d, Form::Signs, at)
 }
 
-fn main() {
-    if is_asked() {
+fn main(rt: HostRuntime) {
+    if is_asked(&rt) {
         return;
     }
-    let Choice::Made(c) = chosen_device() else {
+    let Choice::Made(c) = chosen_device(&rt) else {
         usage();
         return;
     };
-    say(run_chosen(c));
+    say(run_chosen(&rt, c));
 }

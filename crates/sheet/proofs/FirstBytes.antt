@@ -118,5 +118,5 @@ all_none = tt
 pub none_from : (b : ℕ) → b < 256 → NoneFrom b (from b).bytes
 none_from b h = same_of (eqb (from b).bytes 0) (not (begin_some (digits (b ∷ [])))) (at none 256 all_none b h)
 
-pub by_first : (b : ℕ) → b < 256 → (r : Cost) → r ≡ from b → TimedFrom b r.bytes r.cycles × NoneFrom b r.bytes
-by_first b h r e = rw e (first_byte_lem b h, none_from b h)
+pub by_first : (b : ℕ) → b < 256 → (r : Cost) → r ≡ from b → record { timed_from : TimedFrom b r.bytes r.cycles; none_from : NoneFrom b r.bytes }
+by_first b h r e = rw e (record { timed_from = first_byte_lem b h; none_from = none_from b h })

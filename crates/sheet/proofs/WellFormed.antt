@@ -1,7 +1,6 @@
 -- The texts of the table are well formed: one test over all rows, carried to each of them.
 use mathlib.Core.Bool.{Bool, true}
 use mathlib.Core.List.{List, [], ◌∷◌}
-use Prim.Native.Char.{Char}
 use Prim.Native.String.{String}
 use lib.Dec.{T}
 use lib.Text.{eqt, eqt→eq}

@@ -6,9 +6,8 @@ use native.Mathlib.Decide.{dec_lt, ℕ_discrete}
 use native.Mathlib.Nat.{add-zero, add-suc, suc-add}
 use native.Mathlib.Numerals.{one-add}
 use native.Mathlib.Omega.{arith}
-use lib.Dec.{T, ltb}
+use lib.Dec.{T}
 use borrow.Author.Tests.{lt-ltb, le-ltb}
-use Rattle.laws.specs.Choice.{pick}
 use Rattle.laws.proofs.Computed.{true→T, T→true}
 use Rattle.sheet.specs.Table.{Line, lines, line_at, line_in}
 use Rattle.sheet.specs.Reading.{bits_fixed_if_fits, Winner, over, winner, row_number}
@@ -26,6 +25,7 @@ module _ (ds : List ℕ) where
   over-most n b w (no h) = rw (le-ltb w.bits b (omega arith)) (omega arith, omega arith)
 
   winner-most : (ls : List Line) (n : ℕ) {j : ℕ} {l : Line} → At ls j l → bits l ≤ (winner ls n ds).bits
+  winner-most [] n {j = j} {l = l} x' = elim x' [ ]
   winner-most (l ∷ ls) n here = (over-most n (bits l) (winner ls (suc n) ds) (dec_lt _ _)).0
   winner-most (l ∷ ls) n (there p) = omega (arith, (over-most n (bits l) (winner ls (suc n) ds) (dec_lt _ _)).1, winner-most ls (suc n) p)
 

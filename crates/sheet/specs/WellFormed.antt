@@ -1,7 +1,7 @@
 -- That the texts of the table are read whole: what was read of an object code, written out again, is the text, so that no sign of it was passed over; and so is what was read of a mark.
 use Rattle.std.specs.Prelude.{ℕ, zero, suc, ◌/◌, ◌%◌, true, List, [], ◌∷◌, ◌≡◌, eqb}
 use Prim.Native.Char.{Char}
-use Prim.Native.String.{String, [] as none, ◌∷◌ as ◌and◌}
+use Prim.Native.String.{String, ◌∷◌ as ◌and◌}
 use Rattle.laws.specs.Choice.{pick}
 use Rattle.sheet.specs.Code.{Group, #, all, fixed1, fixed2, fixed3, above2, groups_of, has_sign}
 use Rattle.sheet.specs.Table.{Mark, kept, carry, not_carry, is_zero, not_zero, clear, set, by_operation, mark, PrintedCode, Printed, printed}

@@ -7,9 +7,9 @@ mod help;
 ghost use Rattle.std.specs.Prelude.{◌*◌, ◌<◌, ◌≤◌, length};
 
 use crate::help::is_asked;
-use libc::{STDERR_FILENO, STDIN_FILENO};
+use program::arguments::is_given;
 use program::part::read_behind;
-use program::streams::{Ending, ending_of, say, show_part};
+use program::streams::{Ending, STDERR_FILENO, ending_of, say, show_part};
 use sound_generator::start;
 use sound_text::command::nothing_entered;
 use sound_text::{feed, last};
@@ -19,14 +19,14 @@ fn usage() {
 }
 
 // A proved loop has to end, and nothing says that the input does: no run uses up the turns.
-fn session(part: &mut [u8], out: &mut [u8]) -> Ending
+fn session(rt: &HostRuntime, part: &mut [u8], out: &mut [u8]) -> Ending
     requires { (0 < length part.old) × (76 ≤ length out.old) × (76 * length part.old ≤ length out.old) }
 {
     let mut state = start();
     let mut entry = nothing_entered();
     let mut turns = u64::MAX;
     while turns > 0 {
-        let got = read_behind(STDIN_FILENO, part, 0);
+        let got = read_behind(&mut rt.stdin(), part, 0);
         if got.failed {
             return Ending::CannotRead;
         }
@@ -46,15 +46,15 @@ fn session(part: &mut [u8], out: &mut [u8]) -> Ending
     Ending::Done
 }
 
-fn main() {
-    if is_asked() {
+fn main(rt: HostRuntime) {
+    if is_asked(&rt) {
         return;
     }
-    if 1 < os::arg_count() {
+    if is_given(&rt, 1) {
         usage();
         return;
     }
     let mut part = [0u8; 512];
     let mut out = io::large_buffer();
-    say(session(&mut part, &mut out));
+    say(session(&rt, &mut part, &mut out));
 }

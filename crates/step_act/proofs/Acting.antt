@@ -11,7 +11,7 @@ use Rattle.sheet.specs.Reading.{read_at}
 use Rattle.sheet.specs.declared.Insn.{Insn}
 use Rattle.sheet.specs.declared.Read.{Read}
 use Rattle.reader.specs.Answer.{stop_of}
-use Rattle.reader.proofs.NoRow.{NoRow, no_row}
+use Rattle.reader.proofs.NoRow.{NoRow, no_row_lem}
 use Rattle.ports.specs.declared.Mode.{Mode}
 use Rattle.record.specs.Stack.{can_push, accepted}
 use Rattle.record.specs.Valid.{Valid}
@@ -34,7 +34,7 @@ module _ (m : Core) (l : List ℕ) (source : ℕ) where
 
 pub none_read : (rom : ℕ → ℕ → ℕ) (options : Options) (m : Core) (l : List ℕ) (r : Read) → r ≡ read_at (rom m.ports.p3) m.pc → NoRow r → Gives (run_one rom options (assembled m l)) l (stopped_turn m (stop_of r))
 unfolding run_one
-none_read rom options m l r e t = rw (← e) (no_row r (λ (s : Read). Gives (run_read (rom m.ports.p3) options (assembled m l) s) l (stopped_turn m (stop_of s))) t (record { same = refl }) (record { same = refl }))
+none_read rom options m l r e t = rw (← e) (no_row_lem r (λ (s : Read). Gives (run_read (rom m.ports.p3) options (assembled m l) s) l (stopped_turn m (stop_of s))) t (record { same = refl }) (record { same = refl }))
 
 module _ (rom : ℕ → ℕ → ℕ) (options : Options) (m : Core) (l k : List ℕ) where
   pub row_read : (i : Insn) (x : Turn) → read_at (rom m.ports.p3) m.pc ≡ Read.Row i → Performs (rom m.ports.p3) options m i l k x → Gives (run_one rom options (assembled m l)) k x

@@ -1,5 +1,5 @@
 -- A look at a frame makes a valid record of a valid one, leaves a running one running, and marks another.
-use mathlib.Core.Path.{◌≡◌, refl, ◌∙◌}
+use mathlib.Core.Path.{◌≡◌, refl}
 use mathlib.Core.Bool.{Bool, true, false}
 use Prim.Native.Nat.{ℕ}
 use Rattle.laws.proofs.Computed.{true→T}

@@ -9,7 +9,7 @@ use Rattle.sheet.specs.Timing.{TimedFrom}
 use Rattle.sheet.specs.declared.Insn.{Insn}
 use Rattle.sheet.specs.declared.Read.{Read}
 use Rattle.reader.proofs.Rows.{read-in-fields, columns}
-use Rattle.reader.proofs.NoRow.{NoRow, no_row}
+use Rattle.reader.proofs.NoRow.{NoRow, no_row_lem}
 use Rattle.bound_flow.proofs.Inside.{cycles_of_lem}
 use Rattle.text_bounder.specs.Report.{cycles_read, cycles_at}
 
@@ -20,4 +20,4 @@ cycles_shown rom at bytes {i} {n} {t} e timed =
     (rw e (sym is), omega (arith, is, leb→le (cycles_of i.row) 3 (both_right (leb 1 (cycles_of i.row)) _ (cycles_of_lem i.row h.some h.row))))
 
 pub no_cycles : (rom : ℕ → ℕ) (at : ℕ) (r : Read) → r ≡ read_at rom at → NoRow r → 0 ≡ cycles_at rom at
-no_cycles rom at r e none = no_row r (λ (s : Read). 0 ≡ cycles_read s) none refl refl ∙ ap cycles_read e
+no_cycles rom at r e none = no_row_lem r (λ (s : Read). 0 ≡ cycles_read s) none refl refl ∙ ap cycles_read e

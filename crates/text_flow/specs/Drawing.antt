@@ -1,5 +1,5 @@
 -- The lines of the program flow, in Graphviz's DOT. Sentences in quotation marks are of docs/PROGRAMS.md.
-use Rattle.std.specs.Prelude.{ℕ, ◌/◌, Bool, true, false, List, [], ◌++◌, eqb}
+use Rattle.std.specs.Prelude.{ℕ, ◌/◌, Bool, true, false, List, ◌++◌, eqb}
 use Rattle.laws.specs.Choice.{pick}
 use Rattle.text.specs.Digits.{characters, hex}
 use Rattle.text_lister.specs.Listing.{columns_of}

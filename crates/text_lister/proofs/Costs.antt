@@ -9,7 +9,7 @@ use Rattle.sheet.specs.declared.Read.{Read}
 use Rattle.sheet.specs.declared.Read.TheVariants.{Row}
 use Rattle.reader.specs.Answer.{stop_of}
 use Rattle.reader.proofs.Rows.{columns, row_ends}
-use Rattle.reader.proofs.NoRow.{NoRow, no_row}
+use Rattle.reader.proofs.NoRow.{NoRow, no_row_lem}
 use Rattle.text_lister.specs.Listing.{refused_columns, code_columns, sweep_next}
 
 module _ (rom : ℕ → ℕ) (at : ℕ) {i : Insn} {n t : ℕ} (e : read_at rom at ≡ Row i) (timed : TimedFrom (rom at) n t) where
@@ -27,7 +27,7 @@ module _ (rom : ℕ → ℕ) (at : ℕ) {i : Insn} {n t : ℕ} (e : read_at rom 
 
 module _ (rom : ℕ → ℕ) (at : ℕ) (r : Read) (e : r ≡ read_at rom at) (none : NoRow r) where
   pub none-columns : (stop : ℕ) → stop ≡ stop_of r → code_columns rom at (read_at rom at) ≡ refused_columns (rom at) stop
-  none-columns stop q = sym (ap (refused_columns (rom at)) q ∙ (no_row r (λ (s : Read). refused_columns (rom at) (stop_of s) ≡ code_columns rom at s) none refl refl ∙ ap (code_columns rom at) e))
+  none-columns stop q = sym (ap (refused_columns (rom at)) q ∙ (no_row_lem r (λ (s : Read). refused_columns (rom at) (stop_of s) ≡ code_columns rom at s) none refl refl ∙ ap (code_columns rom at) e))
 
   pub none-next : at + 1 ≡ sweep_next at (read_at rom at)
-  none-next = no_row r (λ (s : Read). at + 1 ≡ sweep_next at s) none refl refl ∙ ap (sweep_next at) e
+  none-next = no_row_lem r (λ (s : Read). at + 1 ≡ sweep_next at s) none refl refl ∙ ap (sweep_next at) e

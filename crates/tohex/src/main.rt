@@ -6,9 +6,9 @@ mod help;
 use crate::help::is_asked;
 use device::{Device, image_size};
 use hex_writer::{P982_TEXT_SIZE, TEXT_SIZE, write_hex, write_p982_hex};
-use libc::STDERR_FILENO;
+use program::arguments::is_given;
 use program::image::{chosen_device, open_image};
-use program::streams::{ending_of, say, show};
+use program::streams::{STDERR_FILENO, ending_of, say, show};
 use program::words::{Choice, Chosen};
 
 const USAGE: [u8; 35] = *b"usage: tohex [--device NAME] IMAGE\n";
@@ -45,29 +45,29 @@ fn show_text(d: Device, image: &[u8]) -> bool {
 }
 
 // Whether all that it has to say was written. The buffer has a byte more than an image, so that a file that is too long shows.
-fn run(c: Chosen) -> bool {
+fn run(rt: &HostRuntime, c: Chosen) -> bool {
     let d = c.device;
     let word = c.before as usize + 1;
     let mut image = [0u8; 16385];
-    let file = open_image(d, word, &mut image, &USAGE);
+    let file = open_image(rt, d, word, &mut image, &USAGE);
     let size = file.size;
     if size != image_size(d) {
         return file.written;
     }
-    if word + 1 < os::arg_count() {
+    if is_given(rt, word + 1) {
         usage();
         return true;
     }
     show_text(d, &image[..size])
 }
 
-fn main() {
-    if is_asked() {
+fn main(rt: HostRuntime) {
+    if is_asked(&rt) {
         return;
     }
-    let Choice::Made(c) = chosen_device() else {
+    let Choice::Made(c) = chosen_device(&rt) else {
         usage();
         return;
     };
-    say(ending_of(false, run(c)));
+    say(ending_of(false, run(&rt, c)));
 }

@@ -2,8 +2,9 @@
 use program::help::is_told;
 
 // Whether the first word asked for the help or for the version, which are then written.
-pub fn is_asked() -> bool {
+pub fn is_asked(rt: &HostRuntime) -> bool {
     is_told(
+        rt,
         b"why: tells for each step why an interrupt was taken or not.
 
 usage: why [--device NAME] IMAGE [STEP] < SCRIPT

@@ -10,10 +10,10 @@ ghost use Rattle.record.specs.Valid.{ValidCore, Nibbles};
 
 use crate::help::is_asked;
 use device::{Device, frame_size, image_size};
-use libc::STDERR_FILENO;
+use program::arguments::{arg, is_given};
 use program::image::{chosen_device, open_image};
 use program::script::go_on;
-use program::streams::{Ending, ending_of, say, show, show_part};
+use program::streams::{Ending, STDERR_FILENO, ending_of, say, show, show_part};
 use program::words::{Choice, Chosen};
 use record::start::fresh;
 use record::{Core, Ram};
@@ -101,6 +101,7 @@ fn after(step: u64, used: usize) -> u64 {
 
 // A proved loop has to end, and nothing says that a script does: no run uses up the turns.
 fn session(
+    rt: &HostRuntime,
     d: Device,
     image: &[u8],
     only: u64,
@@ -126,7 +127,7 @@ fn session(
         }
         core = told.core;
         step = after(step, told.used);
-        let span = go_on(frame_size(d), part, from, to, told.used);
+        let span = go_on(rt, frame_size(d), part, from, to, told.used);
         from = span.from;
         to = span.to;
         if span.failed {
@@ -141,7 +142,7 @@ fn session(
 }
 
 // The script from the fresh record; only is 0 where each step is asked for.
-fn ask(d: Device, image: &[u8], only: u64) -> Ending
+fn ask(rt: &HostRuntime, d: Device, image: &[u8], only: u64) -> Ending
     requires { length image.now ≡ image_size d }
 {
     let mut part = io::large_buffer();
@@ -149,50 +150,50 @@ fn ask(d: Device, image: &[u8], only: u64) -> Ending
     let m = fresh(d);
     let core = m.core;
     let mut ram = m.ram;
-    session(d, image, only, core, &mut ram, &mut part, &mut out)
+    session(rt, d, image, only, core, &mut ram, &mut part, &mut out)
 }
 
 // The step that a word names, where there is one.
-fn ask_word(d: Device, image: &[u8], at: usize) -> Ending
+fn ask_word(rt: &HostRuntime, d: Device, image: &[u8], at: usize) -> Ending
     requires { (length image.now ≡ image_size d) × (at ≤ 1000) }
 {
-    if os::arg_count() <= at {
-        return ask(d, image, 0);
+    if !is_given(rt, at) {
+        return ask(rt, d, image, 0);
     }
     let mut word = io::buffer();
-    let n = os::arg(at, &mut word);
+    let n = arg(rt, at, &mut word);
     let only = step_word(&word[..n]);
     if only == 0 {
         usage();
         return Ending::Done;
     }
-    if at + 1 < os::arg_count() {
+    if is_given(rt, at + 1) {
         usage();
         return Ending::Done;
     }
-    ask(d, image, only)
+    ask(rt, d, image, only)
 }
 
 // The buffer has a byte more than the largest image, so that a file that is too long shows.
-fn ask_chosen(c: Chosen) -> Ending {
+fn ask_chosen(rt: &HostRuntime, c: Chosen) -> Ending {
     let d = c.device;
     let word = c.before as usize + 1;
     let mut image = [0u8; 16385];
-    let file = open_image(d, word, &mut image, &USAGE);
+    let file = open_image(rt, d, word, &mut image, &USAGE);
     let size = file.size;
     if size != image_size(d) {
         return ending_of(false, file.written);
     }
-    ask_word(d, &image[..size], word + 1)
+    ask_word(rt, d, &image[..size], word + 1)
 }
 
-fn main() {
-    if is_asked() {
+fn main(rt: HostRuntime) {
+    if is_asked(&rt) {
         return;
     }
-    let Choice::Made(c) = chosen_device() else {
+    let Choice::Made(c) = chosen_device(&rt) else {
         usage();
         return;
     };
-    say(ask_chosen(c));
+    say(ask_chosen(&rt, c));
 }

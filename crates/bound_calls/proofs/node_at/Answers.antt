@@ -9,7 +9,7 @@ use Rattle.bound_calls.proofs.Nodes.{operand_lt, none-node, row-node}
 use Rattle.bound_calls.proofs.node_at.Goals as goal
 
 pub returns-in_default : goal.returns-in_default
-returns-in_default c = none-node _ _ _ _ c.read_at.ensures c.in-Row.keys2 _ c.nowhere.ensures
+returns-in_default c = none-node _ _ _ _ c.read_at.ensures c.in_default.not-Row _ c.nowhere.ensures
 
 pub bounds-image-i : goal.bounds-image-i
 bounds-image-i c = rw c.in_image-i.ensures (before_end c.args.p3 (c.args.v / 2) _ c.requires.0 (omega arith))
@@ -21,4 +21,4 @@ pub node_by-requires : goal.node_by-requires
 node_by-requires c = (omega arith, operand_lt _ (read-in-fields (rom_of c.args.image.now c.args.p3) (c.args.v / 2) _ (sym c.read_at.ensures ∙ c.in-Row.is) (λ at. (c.type_inv.image (in_image c.args.p3 at)).fits)), c.way_of-way.ensures.few)
 
 pub returns : goal.returns
-returns c = row-node _ _ _ _ (sym c.read_at.ensures ∙ c.in-Row.is) _ _ _ (rw c.in_image-i.ensures at c.timing-cost.ensures.0) c.way_of-way.ensures _ c.Node-by.ensures
+returns c = row-node _ _ _ _ (sym c.read_at.ensures ∙ c.in-Row.is) _ _ _ (rw c.in_image-i.ensures at c.timing-cost.ensures.timed_from) c.way_of-way.ensures _ c.node_by.ensures

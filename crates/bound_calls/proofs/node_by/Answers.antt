@@ -1,7 +1,7 @@
 -- `bound_calls::node_by` meets its contract.
 use Prim.Native.Nat.{◌+◌, ◌*◌, ◌%◌}
 use native.Mathlib.Nat.{add-zero}
-use Rattle.bound_calls.proofs.Ways.{last_way}
+use Rattle.std.proofs.Common.{◌≡◌, arith}
 use Rattle.bound_calls.proofs.node_by.Goals as goal
 
 pub returns-in-0 : goal.returns-in-0
@@ -32,4 +32,4 @@ pub returns-in-8 : goal.returns-in-8
 returns-in-8 c = rw (c.in-8.is, c.call-in-8.ensures, c.short_entry.ensures)
 
 pub returns-in_default : goal.returns-in_default
-returns-in_default c = rw (last_way c.args.way c.requires.2 c.in-0.rest, c.back.ensures)
+returns-in_default c = let e : c.args.way ≡ 9 = omega arith in rw (e, c.back.ensures)

@@ -26,8 +26,8 @@ loop-head-init c =
     let pre-fact = c.requires in
     let number-fact = c.number-count in (
       explore_start args-fact.d (rom_of args-fact.image.now args-fact.p3) args-fact.address pre-fact.4 number-fact.ensures.0 (omega (arith, number-fact.ensures.1)),
-      omega (arith, number-fact.auto.0, pre-fact.3),
-      omega (arith, number-fact.auto.1.0, pre-fact.5),
+      omega (arith, number-fact.auto.map, pre-fact.3),
+      omega (arith, number-fact.auto.words, pre-fact.5),
       omega arith,
     )
 
@@ -56,8 +56,8 @@ loop-head-preserved c =
     let loop-test-fact = c.loop-head-test in
     let read-place-fact = c.read_place-count in (
       explore_on loop-fact.invariant.0 loop-test-fact.true read-place-fact.ensures,
-      omega (arith, read-place-fact.auto.1.1.1.0, loop-fact.invariant.1),
-      omega (arith, read-place-fact.auto.1.1.1.1.0, loop-fact.invariant.2),
+      omega (arith, read-place-fact.auto.map, loop-fact.invariant.1),
+      omega (arith, read-place-fact.auto.words, loop-fact.invariant.2),
       omega (arith, loop-test-fact.true, read-place-fact.ensures.grows.more),
     )
 

@@ -8,7 +8,7 @@ number-requires c =
     let number2-fact = c.number-known in
     let number-fact = c.number-unknown in
     let pre-fact = c.requires in
-    (number2-fact.ensures.0.told, omega (arith, number-fact.auto.0, number2-fact.auto.0, pre-fact.1), omega (arith, number-fact.auto.1.0, number2-fact.auto.1.0, pre-fact.2), omega (arith, pre-fact.3.entry_lt))
+    (number2-fact.ensures.0.told, omega (arith, number-fact.auto.map, number2-fact.auto.map, pre-fact.1), omega (arith, number-fact.auto.words, number2-fact.auto.words, pre-fact.2), omega (arith, pre-fact.3.entry_lt))
 
 pub returns-then-x-eq3 : goal.returns-then-x-eq3
 returns-then-x-eq3 c =
@@ -29,7 +29,7 @@ pub number-requires-2 : goal.number-requires-2
 number-requires-2 c =
     let number4-fact = c.number-next_count in
     let pre-fact = c.requires in
-    (number4-fact.ensures.0.told, omega (arith, number4-fact.auto.0, pre-fact.1), omega (arith, number4-fact.auto.1.0, pre-fact.2), pre-fact.3.other_lt)
+    (number4-fact.ensures.0.told, omega (arith, number4-fact.auto.map, pre-fact.1), omega (arith, number4-fact.auto.words, pre-fact.2), pre-fact.3.other_lt)
 
 pub returns : goal.returns
 returns c =

@@ -19,7 +19,7 @@ bounds-words-head c =
 pub number_after-found-requires : goal.number_after-found-requires
 number_after-found-requires c =
     let pre-fact = c.requires in
-    let node-at-fact = c.Node-at in
+    let node-at-fact = c.node_at-x in
     let args-fact = c.args in
     let place-of-fact = c.place_of-place in
     (pre-fact.1, pre-fact.2, pre-fact.3, rw node-at-fact.ensures (node_good args-fact.d (rom_of args-fact.image.now args-fact.p3) (λ at. (c.type_inv.image (in_image args-fact.p3 at)).fits) _ (omega (arith, place-of-fact.ensures))))
@@ -28,17 +28,17 @@ pub links_of-links-requires : goal.links_of-links-requires
 links_of-links-requires c =
     let number-after-fact = c.number_after-found in
     let pre-fact = c.requires in
-    let node-at-fact = c.Node-at in
+    let node-at-fact = c.node_at-x in
     let args-fact = c.args in
     let place-of-fact = c.place_of-place in
-    (omega (arith, number-after-fact.auto.0, pre-fact.2), rw node-at-fact.ensures (node_good args-fact.d (rom_of args-fact.image.now args-fact.p3) (λ at. (c.type_inv.image (in_image args-fact.p3 at)).fits) _ (omega (arith, place-of-fact.ensures))), number-after-fact.ensures.has)
+    (omega (arith, number-after-fact.auto.map, pre-fact.2), rw node-at-fact.ensures (node_good args-fact.d (rom_of args-fact.image.now args-fact.p3) (λ at. (c.type_inv.image (in_image args-fact.p3 at)).fits) _ (omega (arith, place-of-fact.ensures))), number-after-fact.ensures.has)
 
 pub pack-requires : goal.pack-requires
 unfolding name_in
 pack-requires c =
     let args-fact = c.args in
     let place-of-fact = c.place_of-place in
-    let node-at-fact = c.Node-at in
+    let node-at-fact = c.node_at-x in
     let number-after-fact = c.number_after-found in
     let links-of-fact = c.links_of-links in
     laid-fits args-fact.d (rom_of args-fact.image.now args-fact.p3) (λ at. (c.type_inv.image (in_image args-fact.p3 at)).fits) _ _ _ _ args-fact.count args-fact.head _ _ _ _ place-of-fact.ensures node-at-fact.ensures number-after-fact.ensures links-of-fact.ensures
@@ -52,7 +52,7 @@ pub bounds-words-head-2 : goal.bounds-words-head-2
 bounds-words-head-2 c =
     let number-after-fact = c.number_after-found in
     let pre-fact = c.requires in
-    omega (arith, number-after-fact.auto.1.0, pre-fact.3, pre-fact.4, count_le _ _ _ pre-fact.1)
+    omega (arith, number-after-fact.auto.words, pre-fact.3, pre-fact.4, count_le _ _ _ pre-fact.1)
 
 pub returns : goal.returns
 unfolding name_in
@@ -60,10 +60,10 @@ returns c =
     let pack-fact = c.pack in
     let args-fact = c.args in
     let place-of-fact = c.place_of-place in
-    let node-at-fact = c.Node-at in
+    let node-at-fact = c.node_at-x in
     let number-after-fact = c.number_after-found in
     let links-of-fact = c.links_of-links in
     let pre-fact = c.requires in
     rw pack-fact.ensures
     (reads args-fact.d (rom_of args-fact.image.now args-fact.p3) (λ at. (c.type_inv.image (in_image args-fact.p3 at)).fits) _ _ _ _ args-fact.count args-fact.head _ _ _ _
-    place-of-fact.ensures node-at-fact.ensures number-after-fact.ensures links-of-fact.ensures pre-fact.4 (omega (arith, number-after-fact.auto.1.0, pre-fact.3)))
+    place-of-fact.ensures node-at-fact.ensures number-after-fact.ensures links-of-fact.ensures pre-fact.4 (omega (arith, number-after-fact.auto.words, pre-fact.3)))

@@ -7,18 +7,16 @@ use Rattle.clock.proofs.met.Goals as goal
 
 pub latched-requires : goal.latched-requires
 latched-requires c =
-    let s = c.before.before in let e = s.before.before in
-    let i : InRange c.count-s.result = rw c.count-s.ensures (count_in_range s.before.counts.result s.counts2.result e.args.t e.requires.0) in
+    let i : InRange c.count-s.result = rw c.count-s.ensures (count_in_range c.counts-a.result c.counts-b.result c.args.t c.requires.0) in
     (lit< tt, omega (arith, i.il))
 
 pub returns : goal.returns
 unfolding met
 returns c =
-    let s = c.before.before.before in
     rw (
       c.latched.ensures,
       c.count-s.ensures,
-      s.counts2.ensures,
-      s.before.counts.ensures,
+      c.counts-b.ensures,
+      c.counts-a.ensures,
       c.tbi_sets-sets.ensures,
     )

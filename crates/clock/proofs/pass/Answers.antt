@@ -5,5 +5,4 @@ use Rattle.clock.proofs.pass.Goals as goal
 
 pub returns-then-t-gain-lt256 : goal.returns-then-t-gain-lt256
 returns-then-t-gain-lt256 c =
-    let e = c.before.before.before in
-    sym (passed_quiet _ _ _ e.requires.1 e.requires.0.base c.if-t-gain-lt256.true)
+    sym (passed_quiet _ _ _ c.requires.1 c.requires.0.base c.if-t-gain-lt256.true)

@@ -9,5 +9,4 @@ is_multiple-requires c = tbi_fits c.args.p25 c.requires
 pub returns : goal.returns
 unfolding tbi_table
 returns c =
-    let e = c.before.before in
-    rw (← tbi_exponent_lem e.args.p25 e.requires, ← c.is_multiple.ensures) c.both.ensures
+    rw (← tbi_exponent_lem c.args.p25 c.requires, ← c.is_multiple.ensures) c.both.ensures

@@ -6,7 +6,7 @@ use Rattle.clock.proofs.Ranges.{gained_in_range}
 use Rattle.clock.proofs.tick.Goals as goal
 
 pub met-requires : goal.met-requires
-met-requires c = let e = c.before.before.before in (gained_in_range e.args.t e.requires.0, e.requires.1)
+met-requires c = (gained_in_range c.args.t c.requires.0, c.requires.1)
 
 pub returns-then-s-eq0 : goal.returns-then-s-eq0
 unfolding tick
@@ -14,5 +14,4 @@ returns-then-s-eq0 c = c.met.ensures
 
 pub returns : goal.returns
 returns c =
-    let e = c.before.before.before in
-    sym (tick_quiet _ e.args.t e.requires.1 c.if-s-eq0.false)
+    sym (tick_quiet _ c.args.t c.requires.1 c.if-s-eq0.false)

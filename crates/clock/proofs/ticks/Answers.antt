@@ -1,5 +1,4 @@
 -- `clock::ticks` meets its contract. The invariant: as many cycles as are left, from here, are all the cycles from the start.
-use Prim.Native.Nat.{◌-◌}
 use mathlib.Core.Path.{refl, sym, ap, ◌∙◌}
 use native.Mathlib.Nat.{sub-zero}
 use native.Mathlib.Omega.{arith}

@@ -40,16 +40,16 @@ pub shape_of-ours-then-end-script : goal.shape_of-ours-then-end-script
 shape_of-ours-then-end-script c = c.loop-present.invariant.size
 
 pub returns-then-end-script : goal.returns-then-end-script
-returns-then-end-script c = rw (c.so_far-then-end-script.ensures, c.with_phase-present.ensures) (goes c.loop-present.invariant c.listen-got.ensures (λ s e. omega (arith, c.line_end-end.ensures.0, c.if-end-script.true, length-drop c.loop-present.read c.args.script.now, c.loop-present.invariant.within)))
+returns-then-end-script c = rw (c.so_far-then-end-script.ensures, c.with_phase-present.ensures) (goes c.loop-present.invariant c.listen-got.ensures (λ s e. omega (arith, c.line_end-end.ensures.value, c.if-end-script.true, length-drop c.loop-present.read c.args.script.now, c.loop-present.invariant.within)))
 
 pub slice_bounds-next-count : goal.slice_bounds-next-count
-slice_bounds-next-count c = omega (arith, c.line_end-end.ensures.0)
+slice_bounds-next-count c = omega (arith, c.line_end-end.ensures.value)
 
 pub slice_bounds-next-start : goal.slice_bounds-next-start
-slice_bounds-next-start c = omega (arith, c.line_end-end.ensures.0)
+slice_bounds-next-start c = omega (arith, c.line_end-end.ensures.value)
 
 pub slice_bounds-next-end : goal.slice_bounds-next-end
-slice_bounds-next-end c = c.line_end-end.ensures.1
+slice_bounds-next-end c = c.line_end-end.ensures.upper_bound
 
 pub next-present-requires : goal.next-present-requires
 next-present-requires c =
@@ -58,13 +58,13 @@ next-present-requires c =
     (c.requires.0, rw c.with_phase-present.ensures (going-heeds c.loop-present.invariant c.listen-got.ensures).sound, rw c.with_phase-present.ensures f, c.if-present.false, rw c.with_phase-present.ensures (c.loop-present.invariant.sound.fair e), rw c.with_phase-present.ensures (omega (arith, c.loop-present.invariant.count, c.requires.2)))
 
 pub overflow_add-read : goal.overflow_add-read
-overflow_add-read c = omega (arith, c.line_end-end.ensures.1, c.if-end-script.false, c.well_formed.1.1.1.1.1.0.0)
+overflow_add-read c = omega (arith, c.line_end-end.ensures.upper_bound, c.if-end-script.false, c.well_formed.1.1.1.1.1.0.0)
 
 pub loop-present-smaller : goal.loop-present-smaller
-loop-present-smaller c = omega (arith, c.line_end-end.ensures.0, c.line_end-end.ensures.1, c.if-end-script.false)
+loop-present-smaller c = omega (arith, c.line_end-end.ensures.value, c.line_end-end.ensures.upper_bound, c.if-end-script.false)
 
 pub loop-present-preserved : goal.loop-present-preserved
-loop-present-preserved c = going_next (going-heeds c.loop-present.invariant c.listen-got.ensures) c.line_end-end.ensures.0 (omega (arith, c.line_end-end.ensures.1, c.if-end-script.false)) (rw c.with_phase-present.ensures at c.next-present.ensures)
+loop-present-preserved c = going_next (going-heeds c.loop-present.invariant c.listen-got.ensures) c.line_end-end.ensures.value (omega (arith, c.line_end-end.ensures.upper_bound, c.if-end-script.false)) (rw c.with_phase-present.ensures at c.next-present.ensures)
 
 pub shape_of-ours-else-is_settled : goal.shape_of-ours-else-is_settled
 shape_of-ours-else-is_settled c = c.loop-present.invariant.size

@@ -1,5 +1,4 @@
 -- `display::show` meets its contract: from byte j on the forty are left to be written.
-use Prim.Native.Nat.{◌-◌}
 use native.Mathlib.Omega.{arith}
 use Rattle.laws.proofs.Writing.{writing_all}
 use Rattle.display.proofs.Bytes.{byte_more, bytes_end}

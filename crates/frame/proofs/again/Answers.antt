@@ -1,5 +1,4 @@
 -- `frame::again` meets its contract.
-use borrow.Author.Tests.{not-false}
 use Rattle.frame.proofs.Alike.{not-again, joined}
 use Rattle.frame.proofs.again.Goals as goal
 
@@ -23,9 +22,9 @@ returns c =
     let s = c.args.s.now in
     let n = c.args.n in
     let at = c.args.at in
-    let first = c.same_four.ensures.same (not-false _ c.if-not-same_four.false) in
-    let second = c.same_four-2.ensures.same (not-false _ c.if-not-same_four-2.false) in
-    let third = c.same_four-3.ensures.same (not-false _ c.if-not-same_four-3.false) in
-    let fourth = c.same_four-4.ensures.same (not-false _ c.if-not-same_four-4.false) in
-    let fifth = c.same_four-5.ensures.same (not-false _ c.if-not-same_four-5.false) in
+    let first = c.same_four.ensures.same c.if-not-same_four.false in
+    let second = c.same_four-2.ensures.same c.if-not-same_four-2.false in
+    let third = c.same_four-3.ensures.same c.if-not-same_four-3.false in
+    let fourth = c.same_four-4.ensures.same c.if-not-same_four-4.false in
+    let fifth = c.same_four-5.ensures.same c.if-not-same_four-5.false in
     record { same = λ e. joined s n at 20 4 (joined s n at 16 4 (joined s n at 12 4 (joined s n at 8 4 (joined s n at 4 4 first second) third) fourth) fifth) (c.same_four-6.ensures.same e) }

@@ -3,7 +3,6 @@ use Prim.Native.Nat.{◌+◌, ◌-◌}
 use mathlib.Core.Path.{◌≡◌, sym}
 use native.Mathlib.Omega.{arith}
 use lib.ListN.{length}
-use borrow.Author.Tests.{not-true, not-false}
 use Rattle.device.specs.Device.{frame_size}
 use Rattle.frame.proofs.Judging.{cut_short, no_frames, first-bad, first_good, more-bad, more-good, rest-judged}
 use Rattle.frame.proofs.Sizes.{some, whole_less}
@@ -19,19 +18,19 @@ pub returns-then-s-n : goal.returns-then-s-n
 returns-then-s-n c = sym (no_frames _ _ (rw c.frame_size-n.ensures at c.if-s-n-ne0.false) (rw c.frame_size-n.ensures at c.if-s-n.true))
 
 pub returns-then-not-is_frame_at : goal.returns-then-not-is_frame_at
-returns-then-not-is_frame_at c = sym (first-bad _ _ _ (rw c.frame_size-n.ensures at c.if-s-n.false) c.is_frame_at.ensures (not-true _ c.if-not-is_frame_at.true))
+returns-then-not-is_frame_at c = sym (first-bad _ _ _ (rw c.frame_size-n.ensures at c.if-s-n.false) c.is_frame_at.ensures c.if-not-is_frame_at.true)
 
 pub loop-at-init : goal.loop-at-init
-loop-at-init c = first_good _ _ _ (rw c.frame_size-n.ensures at c.if-s-n.false) c.is_frame_at.ensures (rw c.frame_size-n.ensures at c.if-s-n-ne0.false) (not-false _ c.if-not-is_frame_at.false)
+loop-at-init c = first_good _ _ _ (rw c.frame_size-n.ensures at c.if-s-n.false) c.is_frame_at.ensures (rw c.frame_size-n.ensures at c.if-s-n-ne0.false) c.if-not-is_frame_at.false
 
 pub after_one-requires : goal.after_one-requires
 after_one-requires c = (c.frame_size-n.ensures, omega arith, rw c.frame_size-n.ensures c.loop-at.invariant.after)
 
 pub returns-then-not-after_one : goal.returns-then-not-after_one
-returns-then-not-after_one c = sym (more-bad _ _ _ _ c.loop-at.invariant (rw c.frame_size-n.ensures at c.after_one.ensures) (not-true _ c.if-not-after_one.true))
+returns-then-not-after_one c = sym (more-bad _ _ _ _ c.loop-at.invariant (rw c.frame_size-n.ensures at c.after_one.ensures) c.if-not-after_one.true)
 
 pub loop-at-preserved : goal.loop-at-preserved
-loop-at-preserved c = more-good _ _ _ _ c.loop-at.invariant (rw c.frame_size-n.ensures at c.after_one.ensures) (omega arith) (not-false _ c.if-not-after_one.false)
+loop-at-preserved c = more-good _ _ _ _ c.loop-at.invariant (rw c.frame_size-n.ensures at c.after_one.ensures) (omega arith) c.if-not-after_one.false
 
 pub judged-requires : goal.judged-requires
 judged-requires c =

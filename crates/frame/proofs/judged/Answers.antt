@@ -1,5 +1,4 @@
 -- `frame::judged` meets its contract. The invariant: what was judged lies between the first place and this one.
-use Prim.Native.Nat.{◌-◌}
 use native.Mathlib.Omega.{arith}
 use Rattle.frame.proofs.Judging.{none_yet, along-fits, along-next, along_end}
 use Rattle.frame.proofs.Sizes.{some}

@@ -1,5 +1,4 @@
 -- `graph_search::clear` meets its contract: the elements that are passed are 0.
-use Prim.Native.Nat.{◌-◌}
 use borrow.Author.Rules.{rules}
 use native.Mathlib.Omega.{arith}
 use lib.ListN.{length-set}

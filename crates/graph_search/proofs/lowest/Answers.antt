@@ -1,5 +1,4 @@
 -- `graph_search::lowest` meets its contract: the lowest of the part of the queue that is passed.
-use Prim.Native.Nat.{◌-◌}
 use borrow.Author.Rules.{rules}
 use native.Mathlib.Omega.{arith}
 use Rattle.graph_search.proofs.LowestOf.{lowest_none, lowest-more, lowest-end}

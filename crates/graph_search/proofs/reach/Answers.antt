@@ -1,6 +1,5 @@
 -- `graph_search::reach` meets its contract: what stands before the head of the queue has its successors marked; the head comes to the end, since no more can be queued than there are places.
 use mathlib.Core.Path.{refl, ◌∙◌}
-use Prim.Native.Nat.{◌-◌}
 use native.Mathlib.Omega.{arith}
 use Rattle.graph.proofs.Reach.{laid_at, laid_inside}
 use Rattle.graph_search.proofs.Zeros.{wide16}
@@ -13,17 +12,17 @@ clear-requires c = tt
 
 pub mark-count-requires : goal.mark-count-requires
 mark-count-requires c = (
-  room_blank _ _ c.clear.ensures (omega (arith, c.clear.auto.0, c.requires.1)) (omega (arith, c.clear.auto.0, c.requires.0.small)),
-  omega (arith, c.clear.auto.0, c.requires.2),
+  room_blank _ _ c.clear.ensures (omega (arith, c.clear.auto.m, c.requires.1)) (omega (arith, c.clear.auto.m, c.requires.0.small)),
+  omega (arith, c.clear.auto.m, c.requires.2),
 )
 
 pub loop-head-init : goal.loop-head-init
 loop-head-init c = (
-  laid_at (c.mark-count.auto.0 ∙ c.clear.auto.0) c.requires.0,
+  laid_at (c.mark-count.auto.m ∙ c.clear.auto.m) c.requires.0,
   refl,
   refl,
-  room_grown (room_blank _ _ c.clear.ensures (omega (arith, c.clear.auto.0, c.requires.1)) (omega (arith, c.clear.auto.0, c.requires.0.small)))
-      c.mark-count.ensures.0 c.mark-count.auto.0 c.mark-count.auto.1.0,
+  room_grown (room_blank _ _ c.clear.ensures (omega (arith, c.clear.auto.m, c.requires.1)) (omega (arith, c.clear.auto.m, c.requires.0.small)))
+      c.mark-count.ensures.0 c.mark-count.auto.m c.mark-count.auto.q,
   search-start c.clear.ensures c.mark-count.ensures,
 )
 
@@ -43,22 +42,22 @@ pub overflow_add-head : goal.overflow_add-head
 overflow_add-head c = omega (arith, c.loop-head.invariant.3.small, c.loop-head.invariant.3.room, c.loop-head-test.true)
 
 pub loop-head-smaller : goal.loop-head-smaller
-loop-head-smaller c = omega (arith, c.visit-count.auto.1.1.1.0, c.loop-head.invariant.3.room, c.loop-head-test.true)
+loop-head-smaller c = omega (arith, c.visit-count.auto.m, c.loop-head.invariant.3.room, c.loop-head-test.true)
 
 pub loop-head-preserved : goal.loop-head-preserved
 loop-head-preserved c = (
-  laid_at c.visit-count.auto.1.1.1.0 c.loop-head.invariant.0,
-  c.visit-count.auto.1.1.1.0 ∙ c.loop-head.invariant.1,
-  c.visit-count.auto.1.1.1.1.0 ∙ c.loop-head.invariant.2,
-  room_grown c.loop-head.invariant.3 c.visit-count.ensures.0 c.visit-count.auto.1.1.1.0 c.visit-count.auto.1.1.1.1.0,
+  laid_at c.visit-count.auto.m c.loop-head.invariant.0,
+  c.visit-count.auto.m ∙ c.loop-head.invariant.1,
+  c.visit-count.auto.q ∙ c.loop-head.invariant.2,
+  room_grown c.loop-head.invariant.3 c.visit-count.ensures.0 c.visit-count.auto.m c.visit-count.auto.q,
   search-more c.loop-head.invariant.4 c.loop-head-test.true c.visit-count.ensures,
 )
 
 pub shape_of-m : goal.shape_of-m
-shape_of-m c = omega (arith, c.loop-head.invariant.1, c.mark-count.auto.0, c.clear.auto.0)
+shape_of-m c = omega (arith, c.loop-head.invariant.1, c.mark-count.auto.m, c.clear.auto.m)
 
 pub shape_of-q : goal.shape_of-q
-shape_of-q c = omega (arith, c.loop-head.invariant.2, c.mark-count.auto.1.0)
+shape_of-q c = omega (arith, c.loop-head.invariant.2, c.mark-count.auto.q)
 
 pub returns : goal.returns
 returns c = (search-end c.loop-head.invariant.4 c.loop-head-test.false, search-listed c.loop-head.invariant.3 c.loop-head.invariant.4 c.loop-head-test.false)

@@ -21,8 +21,8 @@ overflow_cast-b c = wide16 (c.type_inv.other _)
 
 pub mark-requires : goal.mark-requires
 mark-requires c = (
-  room_grown c.requires.1 c.mark-t.ensures.0 c.mark-t.auto.0 c.mark-t.auto.1.0,
-  omega (arith, c.mark-t.auto.0, c.requires.0.other_lt c.args.v c.requires.2),
+  room_grown c.requires.1 c.mark-t.ensures.0 c.mark-t.auto.m c.mark-t.auto.q,
+  omega (arith, c.mark-t.auto.m, c.requires.0.other_lt c.args.v c.requires.2),
 )
 
 pub returns : goal.returns

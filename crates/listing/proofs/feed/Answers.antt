@@ -33,19 +33,19 @@ pub tell-told-requires : goal.tell-told-requires
 tell-told-requires c = (c.requires.0, c.loop-out.invariant.valid.core, c.loop-out.invariant.valid.ram, omega arith)
 
 pub overflow_add-used : goal.overflow_add-used
-overflow_add-used c = omega (arith, c.line_end-end.ensures.1, c.if-end-part.false, c.well_formed.1.1.1.1.0.0)
+overflow_add-used c = omega (arith, c.line_end-end.ensures.upper_bound, c.if-end-part.false, c.well_formed.1.1.1.1.0.0)
 
 pub shape_of-out-then-told : goal.shape_of-out-then-told
-shape_of-out-then-told c = (feeding-ends c.loop-out.invariant c.line_end-end.ensures.0 (omega (arith, c.line_end-end.ensures.1, c.if-end-part.false)) c.tell-told.ensures c.if-told.true).wrote.size
+shape_of-out-then-told c = (feeding-ends c.loop-out.invariant c.line_end-end.ensures.value (omega (arith, c.line_end-end.ensures.upper_bound, c.if-end-part.false)) c.tell-told.ensures c.if-told.true).wrote.size
 
 pub returns-then-told : goal.returns-then-told
-returns-then-told c = rw c.so_far-then-told.ensures (feeding-ends c.loop-out.invariant c.line_end-end.ensures.0 (omega (arith, c.line_end-end.ensures.1, c.if-end-part.false)) c.tell-told.ensures c.if-told.true)
+returns-then-told c = rw c.so_far-then-told.ensures (feeding-ends c.loop-out.invariant c.line_end-end.ensures.value (omega (arith, c.line_end-end.ensures.upper_bound, c.if-end-part.false)) c.tell-told.ensures c.if-told.true)
 
 pub loop-out-smaller : goal.loop-out-smaller
 loop-out-smaller c = omega arith
 
 pub loop-out-preserved : goal.loop-out-preserved
-loop-out-preserved c = feeding-next c.loop-out.invariant c.line_end-end.ensures.0 (omega arith) c.tell-told.ensures c.if-told.false
+loop-out-preserved c = feeding-next c.loop-out.invariant c.line_end-end.ensures.value (omega arith) c.tell-told.ensures c.if-told.false
 
 pub shape_of-out : goal.shape_of-out
 shape_of-out c = c.loop-out.invariant.wrote.size

@@ -3,4 +3,4 @@ use Rattle.laws.proofs.Writing.{wrote_then}
 use Rattle.notation.proofs.marked.Goals as goal
 
 pub returns : goal.returns
-returns c = wrote_then c.number-next.ensures.0 c.put.ensures
+returns c = wrote_then c.number-next.ensures.wrote c.put.ensures

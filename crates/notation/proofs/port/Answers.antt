@@ -8,4 +8,4 @@ pub decimal-requires : goal.decimal-requires
 decimal-requires c = omega (arith, places_up_to 2 c.args.p (omega arith))
 
 pub returns : goal.returns
-returns c = wrote_then c.put-next.ensures c.decimal.ensures.0
+returns c = wrote_then c.put-next.ensures c.decimal.ensures.wrote

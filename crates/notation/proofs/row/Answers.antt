@@ -1,6 +1,5 @@
 -- `notation::row` meets its contract: from i on the mnemonic is left to be spelled.
 use mathlib.Core.Path.{sym, ◌∙◌}
-use Prim.Native.Nat.{◌-◌}
 use native.Mathlib.Omega.{arith}
 use borrow.Author.Rules.{rules}
 use lib.ListN.{drop_of_length-le}
@@ -20,10 +19,7 @@ pub shape_of-out-then-c-eq-FILL : goal.shape_of-out-then-c-eq-FILL
 shape_of-out-then-c-eq-FILL c = c.loop-i.invariant.0.wrote.size
 
 pub returns-then-c-eq-FILL : goal.returns-then-c-eq-FILL
-returns-then-c-eq-FILL c = (
-  writing_none (rw (letter_none c.args.insn.row c.loop-i.i (search rules) (sym c.letter-c.ensures ∙ c.if-c-eq-FILL.true)) at c.loop-i.invariant.0),
-  omega arith,
-)
+returns-then-c-eq-FILL c = record { wrote = writing_none (rw (letter_none c.args.insn.row c.loop-i.i (search rules) (sym c.letter-c.ensures ∙ c.if-c-eq-FILL.true)) at c.loop-i.invariant.0); upper_bound = omega arith }
 
 pub sign-next-requires : goal.sign-next-requires
 sign-next-requires c = omega arith
@@ -45,7 +41,4 @@ pub shape_of-out : goal.shape_of-out
 shape_of-out c = c.loop-i.invariant.0.wrote.size
 
 pub returns : goal.returns
-returns c = (
-  writing_none (rw (drop_of_length-le (mnemonic_of c.args.insn.row) {i = c.loop-i.i} (omega (arith, mnemonic_length c.args.insn.row (search rules)))) at c.loop-i.invariant.0),
-  omega arith,
-)
+returns c = record { wrote = writing_none (rw (drop_of_length-le (mnemonic_of c.args.insn.row) {i = c.loop-i.i} (omega (arith, mnemonic_length c.args.insn.row (search rules)))) at c.loop-i.invariant.0); upper_bound = omega arith }

@@ -1,5 +1,6 @@
 -- `notation::sign` meets its contract.
 use borrow.Author.Tests.{ne_eqb}
+use borrow.Author.Rules.{rules}
 use Rattle.notation.specs.Notation.{sign}
 use Rattle.notation.proofs.sign.Goals as goal
 
@@ -17,7 +18,7 @@ returns-in-121 c = rw c.in-121.is c.marked-in-121.ensures
 
 pub returns-in-98 : goal.returns-in-98
 unfolding sign
-returns-in-98 c = rw c.in-98.is c.number.ensures.0
+returns-in-98 c = rw c.in-98.is c.number.ensures.wrote
 
 pub returns-in-112 : goal.returns-in-112
 unfolding sign
@@ -29,10 +30,9 @@ returns-in-114 c = rw c.in-114.is c.marked-in-114.ensures
 
 pub returns-in-97 : goal.returns-in-97
 unfolding sign
-returns-in-97 c = rw c.in-97.is (rw c.Goes-to.ensures at c.marked-in-97.ensures)
+returns-in-97 c = rw c.in-97.is (rw c.goes_to.ensures at c.marked-in-97.ensures)
 
 pub returns-in_default : goal.returns-in_default
 unfolding sign
 returns-in_default c =
-    let put = c.put in
-    rw (ne_eqb _ _ c.in-107.rest.0.0.0.0.0.0.1, ne_eqb _ _ c.in-107.rest.0.0.0.0.0.1, ne_eqb _ _ c.in-107.rest.0.0.0.0.1, ne_eqb _ _ c.in-107.rest.0.0.0.1, ne_eqb _ _ c.in-107.rest.0.0.1, ne_eqb _ _ c.in-107.rest.0.1, ne_eqb _ _ c.in-107.rest.1) put.ensures
+    rw (ne_eqb c.args.c 107 (search rules), ne_eqb c.args.c 120 (search rules), ne_eqb c.args.c 121 (search rules), ne_eqb c.args.c 98 (search rules), ne_eqb c.args.c 112 (search rules), ne_eqb c.args.c 114 (search rules), ne_eqb c.args.c 97 (search rules)) c.put.ensures

@@ -6,10 +6,10 @@ use borrow.Author.Rules.{rules}
 use Rattle.reader.proofs.last_two.Goals as goal
 
 pub returns-then-cost-lt3 : goal.returns-then-cost-lt3
-returns-then-cost-lt3 c = c.decode.ensures ∙ two-enough _ _ _ (search rules) c.timing-cost.ensures _ c.if-cost-lt3.true
+returns-then-cost-lt3 c = c.decode.ensures ∙ two-enough _ _ _ (search rules) (c.timing-cost.ensures.timed_from, c.timing-cost.ensures.none_from) _ c.if-cost-lt3.true
 
 pub returns-then-b1-eq12 : goal.returns-then-b1-eq12
-returns-then-b1-eq12 c = rw (eq-eqb _ _ c.if-b1-eq12.true) at (two_past _ _ _ (search rules) c.timing-cost.ensures c.args.b1 (search rules) c.if-cost-lt3.false)
+returns-then-b1-eq12 c = rw (eq-eqb _ _ c.if-b1-eq12.true) at (two_past _ _ _ (search rules) (c.timing-cost.ensures.timed_from, c.timing-cost.ensures.none_from) c.args.b1 (search rules) c.if-cost-lt3.false)
 
 pub returns : goal.returns
-returns c = rw (ne_eqb _ _ c.if-b1-eq12.false) at (two_past _ _ _ (search rules) c.timing-cost.ensures c.args.b1 (search rules) c.if-cost-lt3.false)
+returns c = rw (ne_eqb _ _ c.if-b1-eq12.false) at (two_past _ _ _ (search rules) (c.timing-cost.ensures.timed_from, c.timing-cost.ensures.none_from) c.args.b1 (search rules) c.if-cost-lt3.false)

@@ -1,5 +1,4 @@
 -- What is fresh alike on each device.
-use Prim.Native.Nat.{ℕ}
 use mathlib.Core.Path.{◌≡◌, refl}
 use lib.ListN.{get_or}
 use Rattle.device.specs.Device.{fresh_frame, reset_of}

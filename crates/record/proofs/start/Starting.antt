@@ -1,5 +1,4 @@
 -- The fresh record and each reset record are valid, and reset's answer is determined.
-use Prim.Native.Nat.{◌<◌}
 use mathlib.Core.Path.{◌≡◌, refl, sym, ◌∙◌}
 use lib.Dec.{lit<}
 use lib.ListN.{replicate}

@@ -21,5 +21,5 @@ pub returns-in-Sound : goal.returns-in-Sound
 returns-in-Sound c =
     let pre = c.requires in
     let judged = c.judged-judgement in
-    let measured = c.decreases in
+    let measured = c.measured in
     sound_answer pre judged.ensures c.in-Sound.is measured.ensures

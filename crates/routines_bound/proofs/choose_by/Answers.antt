@@ -6,10 +6,10 @@ pub choose-requires : goal.choose-requires
 choose-requires c =
     let mark-losing = c.mark_losing in
     let pre = c.requires in
-    sized_at mark-losing.auto.1.1.1.1.0 pre.0
+    sized_at mark-losing.auto.marks pre.0
 
 pub returns : goal.returns
 returns c =
     let mark-losing = c.mark_losing in
     let choose = c.choose in
-    record { l = _; len = mark-losing.auto.1.1.1.1.0; all = mark-losing.ensures.0; idle = rw mark-losing.auto.1.1.1.1.0 at mark-losing.ensures.1; chosen = rw mark-losing.auto.1.1.1.1.0 at choose.ensures }
+    record { l = _; len = mark-losing.auto.marks; all = mark-losing.ensures.0; idle = rw mark-losing.auto.marks at mark-losing.ensures.1; chosen = rw mark-losing.auto.marks at choose.ensures }

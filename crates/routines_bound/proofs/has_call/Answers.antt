@@ -1,6 +1,5 @@
 -- `routines_bound::has_call` meets its contract.
 use mathlib.Core.Path.{◌∙◌}
-use Prim.Native.Nat.{◌-◌}
 use native.Mathlib.Omega.{arith}
 use borrow.Author.Count.{below_more}
 use Rattle.routines_numbered.specs.Packed.{node_in, nodes_in}

@@ -1,5 +1,5 @@
 -- `routines_bound::judge_calls` meets its contract.
-use borrow.Author.Tests.{not-true}
+use native.Mathlib.Omega.{arith}
 use Rattle.routines_bound.proofs.Calls.{plain-calls, chosen-calls, recursive_calls}
 use Rattle.routines_bound.proofs.judge_calls.Goals as goal
 
@@ -8,7 +8,7 @@ returns-then-not-has_call c =
     let pre = c.requires in
     let has-call = c.has_call in
     let if1 = c.if-not-has_call in
-    plain-calls _ _ pre.words (has-call.ensures (not-true _ if1.true))
+    plain-calls _ _ pre.words (has-call.ensures if1.true)
 
 pub lowest_recursion-lowest-requires : goal.lowest_recursion-lowest-requires
 lowest_recursion-lowest-requires c =
@@ -24,7 +24,7 @@ returns-then-lowest-lt-ENTRIES c =
 pub choose_calls-requires : goal.choose_calls-requires
 choose_calls-requires c =
     let pre = c.requires in
-    let laid = pre.words.laid in record { words = laid.words; few = laid.few; links = laid.links }
+    let laid = pre.words.laid in record { words = omega (arith, laid.words, laid.few); few = laid.few; links = laid.links }
 
 pub returns : goal.returns
 returns c =

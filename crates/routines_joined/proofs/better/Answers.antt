@@ -1,5 +1,4 @@
 -- `routines_joined::better` meets its contract.
-use Rattle.routines_joined.proofs.Keys.{was_false, was_true}
 use Rattle.std.proofs.Common.{refl, inl, inr, arith}
 use Rattle.routines_joined.proofs.Nodes.{spans_small}
 use Rattle.routines_joined.proofs.better.Goals as goal
@@ -20,7 +19,7 @@ returns-then-not-beats c =
     let beats = c.beats in
     let if2 = c.if-not-beats in
     let key_of = c.key_of-key in
-    record { either = inl refl; keeps = λ h. (h, omega arith); least = λ f p. let b = beats.ensures.not_so (was_false _ if2.true) in (b.0, omega (arith, key_of.ensures, b.1)) }
+    record { either = inl refl; keeps = λ h. (h, omega arith); least = λ f p. let b = beats.ensures.not_so if2.true in (b.0, omega (arith, key_of.ensures, b.1)) }
 
 pub returns-then-suspect-eq0 : goal.returns-then-suspect-eq0
 returns-then-suspect-eq0 c =
@@ -37,6 +36,6 @@ returns c =
     let if2 = c.if-not-beats in
     record {
       either = inr (refl, omega (arith, key_of.ensures, if1.false));
-      keeps = λ h. (omega (arith, spans_small pre.0, pre.1), omega (arith, key_of.ensures, beats.ensures.so (was_true _ if2.false) h));
+      keeps = λ h. (omega (arith, spans_small pre.0, pre.1), omega (arith, key_of.ensures, beats.ensures.so if2.false h));
       least = λ f p. (omega (arith, spans_small pre.0, pre.1), omega arith);
     }

@@ -19,7 +19,7 @@ pub reach-requires : goal.reach-requires
 reach-requires c =
     let pre = c.requires in
     let step_of_lem = c.step_of-step in
-    (pre.0, pre.1, (step_lt pre.0 pre.2 step_of_lem.ensures).0)
+    (pre.0, pre.1, omega (arith, pre.2, (step_lt pre.0 pre.2 step_of_lem.ensures).0))
 
 pub returns-then-m-x-ne0 : goal.returns-then-m-x-ne0
 returns-then-m-x-ne0 c =
@@ -34,7 +34,7 @@ reach-requires-2 c =
     let the-reach = c.reach in
     let pre = c.requires in
     let step_of_lem = c.step_of-step in
-    (spans_at the-reach.auto.1.1.1.0 pre.0, omega (arith, the-reach.auto.1.1.1.0, the-reach.auto.1.1.1.1.0, pre.1), omega (arith, the-reach.auto.1.1.1.0, (step_lt pre.0 pre.2 step_of_lem.ensures).1))
+    (spans_at the-reach.auto.marks pre.0, omega (arith, the-reach.auto.marks, the-reach.auto.queue, pre.1), omega (arith, the-reach.auto.marks, (step_lt pre.0 pre.2 step_of_lem.ensures).1))
 
 pub overflow_cast-result : goal.overflow_cast-result
 overflow_cast-result c =

@@ -1,5 +1,5 @@
 -- `routines_joined::lowest_excluded` meets its contract.
-use Rattle.std.proofs.Common.{◌-◌, arith}
+use Rattle.std.proofs.Common.{arith}
 use Rattle.graph_search.proofs.Zeros.{wide16}
 use Rattle.routines_joined.proofs.Nodes.{asked}
 use Rattle.routines_joined.proofs.Keys.{lowest_none, lowest-more, lowest-end}

@@ -1,5 +1,5 @@
 -- `routines_joined::lowest_loop` meets its contract.
-use Rattle.std.proofs.Common.{◌-◌, ◌∙◌, arith}
+use Rattle.std.proofs.Common.{◌∙◌, arith}
 use Rattle.routines_joined.proofs.Nodes.{spans_at}
 use Rattle.routines_joined.proofs.Keys.{key_lt, key_once, loop-here, loop-none, loop-passed, loop-over, on_lt}
 use Rattle.routines_joined.proofs.lowest_loop.Goals as goal
@@ -52,14 +52,14 @@ shape_of-m-then-comes_back-ne0 c =
     let comes_back = c.comes_back in
     let the-loop = c.loop-floor in
     let pre = c.requires in
-    omega (arith, comes_back.auto.1.1.1.0, the-loop.invariant.1, pre.3)
+    omega (arith, comes_back.auto.m, the-loop.invariant.1, pre.3)
 
 pub shape_of-q-then-comes_back-ne0 : goal.shape_of-q-then-comes_back-ne0
 shape_of-q-then-comes_back-ne0 c =
     let comes_back = c.comes_back in
     let the-loop = c.loop-floor in
     let pre = c.requires in
-    omega (arith, comes_back.auto.1.1.1.1.0, the-loop.invariant.2, pre.3, pre.4)
+    omega (arith, comes_back.auto.q, the-loop.invariant.2, pre.3, pre.4)
 
 pub returns-then-comes_back-ne0 : goal.returns-then-comes_back-ne0
 returns-then-comes_back-ne0 c =
@@ -97,8 +97,8 @@ loop-floor-preserved c =
     let if1 = c.if-x-ge-NODES in (
       λ i h p. rw key_of.ensures (loop-passed the-loop.invariant.0 next-suspect.ensures (comes_back.ensures.not_so if2.false)
           (λ j k e. key_once pre.0.laid _ _ (omega (arith, pre.0.len, pre.1.below j k)) (omega (arith, pre.0.len, on_lt pre.1 (next-suspect.ensures.found (omega (arith, if1.false))).0)) e) i h p),
-      comes_back.auto.1.1.1.0 ∙ the-loop.invariant.1,
-      comes_back.auto.1.1.1.1.0 ∙ the-loop.invariant.2,
+      comes_back.auto.m ∙ the-loop.invariant.1,
+      comes_back.auto.q ∙ the-loop.invariant.2,
     )
 
 pub shape_of-m : goal.shape_of-m

@@ -1,5 +1,5 @@
 -- `routines_joined::never_rises` meets its contract.
-use Rattle.std.proofs.Common.{◌-◌, arith}
+use Rattle.std.proofs.Common.{arith}
 use Rattle.routines_joined.proofs.Ranks.{rises-none, rises-more, rises-end}
 use Rattle.graph_search.proofs.Zeros.{wide16}
 use Rattle.routines_joined.proofs.never_rises.Goals as goal

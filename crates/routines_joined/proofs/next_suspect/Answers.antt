@@ -1,5 +1,5 @@
 -- `routines_joined::next_suspect` meets its contract.
-use Rattle.std.proofs.Common.{◌-◌, arith}
+use Rattle.std.proofs.Common.{arith}
 use Rattle.graph_search.proofs.Zeros.{wide16}
 use Rattle.routines_joined.proofs.Keys.{suspect-none, suspect-more, suspect-end}
 use Rattle.routines_joined.proofs.next_suspect.Goals as goal

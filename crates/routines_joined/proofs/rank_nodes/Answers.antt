@@ -1,5 +1,5 @@
 -- `routines_joined::rank_nodes` meets its contract.
-use Rattle.std.proofs.Common.{◌-◌, arith, length-set}
+use Rattle.std.proofs.Common.{arith, length-set}
 use Rattle.routines_joined.proofs.Nodes.{spans_at, spans_small}
 use Rattle.routines_joined.proofs.rank_nodes.Goals as goal
 
@@ -108,12 +108,12 @@ pub loop-moves-preserved : goal.loop-moves-preserved
 loop-moves-preserved c =
     let walk-on = c.walk_on-a in
     let the-loop = c.loop-moves in (
-      spans_at walk-on.auto.1.1.0 the-loop.invariant.0,
-      omega (arith, the-loop.invariant.1, walk-on.auto.1.1.0),
-      omega (arith, the-loop.invariant.2, walk-on.auto.1.1.0, walk-on.auto.1.1.1.0),
-      omega (arith, the-loop.invariant.3, walk-on.auto.1.1.0, walk-on.auto.1.1.1.1.0),
-      omega (arith, the-loop.invariant.4, walk-on.auto.1.1.0, walk-on.auto.1.1.1.1.1.0),
-      omega (arith, the-loop.invariant.5, walk-on.auto.1.1.0, walk-on.auto.1.1.1.1.1.1.0),
+      spans_at walk-on.auto.rank the-loop.invariant.0,
+      omega (arith, the-loop.invariant.1, walk-on.auto.rank),
+      omega (arith, the-loop.invariant.2, walk-on.auto.rank, walk-on.auto.number),
+      omega (arith, the-loop.invariant.3, walk-on.auto.rank, walk-on.auto.below),
+      omega (arith, the-loop.invariant.4, walk-on.auto.rank, walk-on.auto.back),
+      omega (arith, the-loop.invariant.5, walk-on.auto.rank, walk-on.auto.stage),
       walk-on.ensures,
     )
 

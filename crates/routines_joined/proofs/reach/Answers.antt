@@ -1,5 +1,5 @@
 -- `routines_joined::reach` meets its contract.
-use Rattle.std.proofs.Common.{◌-◌, refl, ◌∙◌, arith}
+use Rattle.std.proofs.Common.{refl, ◌∙◌, arith}
 use Rattle.graph_search.proofs.Zeros.{wide16}
 use Rattle.graph_search.proofs.Grown.{room_blank, room_grown}
 use Rattle.graph_search.proofs.Search.{search-start, search-more, search-end, search-listed, head_lt}
@@ -13,17 +13,17 @@ pub mark-count-requires : goal.mark-count-requires
 mark-count-requires c =
     let clear = c.clear in
     let pre = c.requires in
-    (room_blank _ _ clear.ensures (omega (arith, clear.auto.0, pre.1)) (omega (arith, clear.auto.0, spans_small pre.0)), omega (arith, clear.auto.0, pre.2))
+    (room_blank _ _ clear.ensures (omega (arith, clear.auto.m, pre.1)) (omega (arith, clear.auto.m, spans_small pre.0)), omega (arith, clear.auto.m, pre.2))
 
 pub loop-head-init : goal.loop-head-init
 loop-head-init c =
     let the-mark = c.mark-count in
     let clear = c.clear in
     let pre = c.requires in (
-      spans_at (the-mark.auto.0 ∙ clear.auto.0) pre.0,
+      spans_at (the-mark.auto.m ∙ clear.auto.m) pre.0,
       refl,
       refl,
-      room_grown (room_blank _ _ clear.ensures (omega (arith, clear.auto.0, pre.1)) (omega (arith, clear.auto.0, spans_small pre.0))) the-mark.ensures.0 the-mark.auto.0 the-mark.auto.1.0,
+      room_grown (room_blank _ _ clear.ensures (omega (arith, clear.auto.m, pre.1)) (omega (arith, clear.auto.m, spans_small pre.0))) the-mark.ensures.0 the-mark.auto.m the-mark.auto.q,
       search-start clear.ensures the-mark.ensures,
     )
 
@@ -60,17 +60,17 @@ loop-head-smaller c =
     let visit = c.visit-count in
     let the-loop = c.loop-head in
     let loop-test = c.loop-head-test in
-    omega (arith, visit.auto.1.1.0, the-loop.invariant.3.room, loop-test.true)
+    omega (arith, visit.auto.marks, the-loop.invariant.3.room, loop-test.true)
 
 pub loop-head-preserved : goal.loop-head-preserved
 loop-head-preserved c =
     let visit = c.visit-count in
     let the-loop = c.loop-head in
     let loop-test = c.loop-head-test in (
-      spans_at visit.auto.1.1.0 the-loop.invariant.0,
-      visit.auto.1.1.0 ∙ the-loop.invariant.1,
-      visit.auto.1.1.1.0 ∙ the-loop.invariant.2,
-      room_grown the-loop.invariant.3 visit.ensures.0 visit.auto.1.1.0 visit.auto.1.1.1.0,
+      spans_at visit.auto.marks the-loop.invariant.0,
+      visit.auto.marks ∙ the-loop.invariant.1,
+      visit.auto.queue ∙ the-loop.invariant.2,
+      room_grown the-loop.invariant.3 visit.ensures.0 visit.auto.marks visit.auto.queue,
       search-more the-loop.invariant.4 loop-test.true visit.ensures,
     )
 
@@ -79,13 +79,13 @@ shape_of-marks c =
     let the-loop = c.loop-head in
     let the-mark = c.mark-count in
     let clear = c.clear in
-    omega (arith, the-loop.invariant.1, the-mark.auto.0, clear.auto.0)
+    omega (arith, the-loop.invariant.1, the-mark.auto.m, clear.auto.m)
 
 pub shape_of-queue : goal.shape_of-queue
 shape_of-queue c =
     let the-loop = c.loop-head in
     let the-mark = c.mark-count in
-    omega (arith, the-loop.invariant.2, the-mark.auto.1.0)
+    omega (arith, the-loop.invariant.2, the-mark.auto.q)
 
 pub returns : goal.returns
 returns c =

@@ -20,18 +20,18 @@ pub reach-count-requires : goal.reach-count-requires
 reach-count-requires c =
     let pre = c.requires in
     let rank-nodes = c.rank_nodes in
-    (pre.0, omega (arith, rank-nodes.auto.1.1.1.1.1.0, pre.1.queues), omega (arith, pre.0.len, pre.0.laid.some))
+    (pre.0, omega (arith, rank-nodes.auto.below, pre.1.queues), omega (arith, pre.0.len, pre.0.laid.some))
 
 pub lowest_repetition-requires : goal.lowest_repetition-requires
 lowest_repetition-requires c =
     let rank-nodes = c.rank_nodes in
     let pre = c.requires in
     let the-reach = c.reach-count in (
-      spans_at (rank-nodes.auto.1.1.1.0 ∙ pre.1.ranks) pre.0,
-      queue_at (omega (arith, rank-nodes.auto.1.1.1.0, pre.1.ranks, the-reach.auto.1.1.1.0)) (listed_queue the-reach.ensures.1 (omega (arith, the-reach.auto.1.1.1.0, spans_small pre.0))),
+      spans_at (rank-nodes.auto.rank ∙ pre.1.ranks) pre.0,
+      queue_at (omega (arith, rank-nodes.auto.rank, pre.1.ranks, the-reach.auto.marks)) (listed_queue the-reach.ensures.1 (omega (arith, the-reach.auto.marks, spans_small pre.0))),
       record { marks = _; reached = the-reach.ensures.0; listed = the-reach.ensures.1 },
-      omega (arith, rank-nodes.auto.1.1.1.1.1.1.1.0, rank-nodes.auto.1.1.1.0, pre.1.ranks, pre.1.stages),
-      omega (arith, rank-nodes.auto.1.1.1.1.0, rank-nodes.auto.1.1.1.1.1.1.1.0, pre.1.numbers, pre.1.stages),
+      omega (arith, rank-nodes.auto.stage, rank-nodes.auto.rank, pre.1.ranks, pre.1.stages),
+      omega (arith, rank-nodes.auto.number, rank-nodes.auto.stage, pre.1.numbers, pre.1.stages),
     )
 
 pub returns : goal.returns

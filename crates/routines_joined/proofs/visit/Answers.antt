@@ -27,7 +27,7 @@ mark-requires c =
     let pre = c.requires in
     let the-mark = c.mark-next_count in
     let step_of_lem = c.step_of-step in
-    (room_grown pre.1 the-mark.ensures.0 the-mark.auto.0 the-mark.auto.1.0, omega (arith, the-mark.auto.0, (step_lt pre.0 pre.2 step_of_lem.ensures).1))
+    (room_grown pre.1 the-mark.ensures.0 the-mark.auto.m the-mark.auto.q, omega (arith, the-mark.auto.m, (step_lt pre.0 pre.2 step_of_lem.ensures).1))
 
 pub returns : goal.returns
 returns c =

@@ -1,6 +1,5 @@
 -- `routines_known::begin` meets its contract.
 use mathlib.Core.Path.{refl, ◌∙◌}
-use Prim.Native.Nat.{◌-◌}
 use native.Mathlib.Omega.{arith}
 use Rattle.routines_known.proofs.Settling.{sized_at}
 use Rattle.routines_known.proofs.begin.Goals as goal
@@ -32,18 +31,18 @@ pub loop-v-smaller : goal.loop-v-smaller
 loop-v-smaller c =
     let settle-and-wait = c.settle_and_wait-top in
     let loop-test = c.loop-v-test in
-    omega (arith, settle-and-wait.auto.1.0, loop-test.true)
+    omega (arith, settle-and-wait.auto.marks, loop-test.true)
 
 pub loop-v-preserved : goal.loop-v-preserved
 loop-v-preserved c =
     let settle-and-wait = c.settle_and_wait-top in
     let the-loop = c.loop-v in
     let enter = c.enter in (
-      settle-and-wait.auto.1.0 ∙ the-loop.invariant.0,
-      enter.auto.1.0 ∙ the-loop.invariant.1,
-      enter.auto.1.1.0 ∙ the-loop.invariant.2,
-      settle-and-wait.auto.1.1.0 ∙ the-loop.invariant.3,
-      sized_at settle-and-wait.auto.1.0 the-loop.invariant.4,
+      settle-and-wait.auto.marks ∙ the-loop.invariant.0,
+      enter.auto.first ∙ the-loop.invariant.1,
+      enter.auto.link ∙ the-loop.invariant.2,
+      settle-and-wait.auto.stack ∙ the-loop.invariant.3,
+      sized_at settle-and-wait.auto.marks the-loop.invariant.4,
       settle-and-wait.ensures.0,
       settle-and-wait.ensures.1,
     )

@@ -1,6 +1,6 @@
 -- `routines_known::choose` meets its contract.
 use mathlib.Core.Path.{ap}
-use Prim.Native.Nat.{ℕ, ◌-◌}
+use Prim.Native.Nat.{ℕ}
 use native.Mathlib.Omega.{arith}
 use Rattle.routines_numbered.specs.Packed.{into_in, node_in, nodes_in}
 use Rattle.routines_known.proofs.Choosing.{chosen_none, chosen_more, chosen-end}

@@ -13,14 +13,14 @@ pub spread-requires : goal.spread-requires
 spread-requires c =
     let begin = c.begin-top in
     let pre = c.requires in
-    (sized_at begin.auto.1.1.1.0 pre.0, begin.ensures.1, begin.ensures.0)
+    (sized_at begin.auto.marks pre.0, begin.ensures.1, begin.ensures.0)
 
 pub loop-changed-init : goal.loop-changed-init
 loop-changed-init c =
     let spread = c.spread in
     let begin = c.begin-top in
     let pre = c.requires in
-    (refl, sized_at (spread.auto.1.1.1.0 ∙ begin.auto.1.1.1.0) pre.0, spread.ensures, λ e. absurd (omega (arith, e)))
+    (refl, sized_at (spread.auto.marks ∙ begin.auto.marks) pre.0, spread.ensures, λ e. absurd (omega (arith, e)))
 
 pub sweep-changed-requires : goal.sweep-changed-requires
 sweep-changed-requires c =
@@ -37,30 +37,30 @@ pub loop-changed-preserved : goal.loop-changed-preserved
 loop-changed-preserved c =
     let sweep = c.sweep-changed in
     let the-loop = c.loop-changed in
-    (sweep.auto.1.0 ∙ the-loop.invariant.0, sized_at sweep.auto.1.0 the-loop.invariant.1, sweep.ensures.lose, λ e. rw sweep.auto.1.0 (idle_after sweep.ensures e))
+    (sweep.auto.marks ∙ the-loop.invariant.0, sized_at sweep.auto.marks the-loop.invariant.1, sweep.ensures.lose, λ e. rw sweep.auto.marks (idle_after sweep.ensures e))
 
 pub shape_of-first : goal.shape_of-first
 shape_of-first c =
     let begin = c.begin-top in
-    begin.auto.1.0
+    begin.auto.first
 
 pub shape_of-link : goal.shape_of-link
 shape_of-link c =
     let begin = c.begin-top in
-    begin.auto.1.1.0
+    begin.auto.link
 
 pub shape_of-stack : goal.shape_of-stack
 shape_of-stack c =
     let spread = c.spread in
     let begin = c.begin-top in
-    spread.auto.1.1.1.1.0 ∙ begin.auto.1.1.1.1.0
+    spread.auto.stack ∙ begin.auto.stack
 
 pub shape_of-marks : goal.shape_of-marks
 shape_of-marks c =
     let the-loop = c.loop-changed in
     let spread = c.spread in
     let begin = c.begin-top in
-    the-loop.invariant.0 ∙ spread.auto.1.1.1.0 ∙ begin.auto.1.1.1.0
+    the-loop.invariant.0 ∙ spread.auto.marks ∙ begin.auto.marks
 
 pub returns : goal.returns
 returns c =

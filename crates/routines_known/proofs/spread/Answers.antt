@@ -1,6 +1,5 @@
 -- `routines_known::spread` meets its contract.
 use mathlib.Core.Path.{refl, ◌∙◌}
-use Prim.Native.Nat.{◌-◌}
 use native.Mathlib.Omega.{arith}
 use Rattle.routines_known.proofs.Settling.{sized_at}
 use Rattle.routines_known.proofs.spread.Goals as goal
@@ -45,13 +44,13 @@ pub loop-moves-smaller : goal.loop-moves-smaller
 loop-moves-smaller c =
     let back = c.back-a in
     let loop-test = c.loop-moves-test in
-    omega (arith, back.auto.1.1.1.0, loop-test.true)
+    omega (arith, back.auto.marks, loop-test.true)
 
 pub loop-moves-preserved : goal.loop-moves-preserved
 loop-moves-preserved c =
     let back = c.back-a in
     let the-loop = c.loop-moves in
-    (back.auto.1.1.1.0 ∙ the-loop.invariant.0, back.auto.1.1.1.1.0 ∙ the-loop.invariant.1, sized_at back.auto.1.1.1.0 the-loop.invariant.2, back.ensures.0, back.ensures.1)
+    (back.auto.marks ∙ the-loop.invariant.0, back.auto.stack ∙ the-loop.invariant.1, sized_at back.auto.marks the-loop.invariant.2, back.ensures.0, back.ensures.1)
 
 pub shape_of-marks : goal.shape_of-marks
 shape_of-marks c =

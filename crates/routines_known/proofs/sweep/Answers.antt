@@ -1,6 +1,5 @@
 -- `routines_known::sweep` meets its contract.
 use mathlib.Core.Path.{refl, ◌∙◌}
-use Prim.Native.Nat.{◌-◌}
 use native.Mathlib.Omega.{arith}
 use Rattle.graph_search.proofs.Zeros.{zeros_le}
 use Rattle.routines_known.proofs.Settling.{sized_at, swept_none, swept_more, swept_end}
@@ -35,14 +34,14 @@ pub loop-v-smaller : goal.loop-v-smaller
 loop-v-smaller c =
     let settle = c.settle-changed in
     let loop-test = c.loop-v-test in
-    omega (arith, settle.auto.1.0, loop-test.true)
+    omega (arith, settle.auto.marks, loop-test.true)
 
 pub loop-v-preserved : goal.loop-v-preserved
 loop-v-preserved c =
     let settle = c.settle-changed in
     let the-loop = c.loop-v in
     let loop-test = c.loop-v-test in
-    (settle.auto.1.0 ∙ the-loop.invariant.0, omega (arith, settle.auto.1.0, loop-test.true), sized_at settle.auto.1.0 the-loop.invariant.2, swept_more the-loop.invariant.3 settle.ensures)
+    (settle.auto.marks ∙ the-loop.invariant.0, omega (arith, settle.auto.marks, loop-test.true), sized_at settle.auto.marks the-loop.invariant.2, swept_more the-loop.invariant.3 settle.ensures)
 
 pub shape_of-marks : goal.shape_of-marks
 shape_of-marks c =

@@ -48,7 +48,7 @@ pub route_end : {g : Graph} {dep : List ℕ} {goal reached v : ℕ} {l : List �
 route_end z (last k) = refl
 route_end z (move m r) = absurd (move_end z m)
 
-pub route_length : {g : Graph} {dep ks : List ℕ} {goal reached v : ℕ} {l : List ℕ} → Route g dep goal reached ks v l → length ks < length l
+pub route_length : {g : Graph} {dep : List ℕ} {goal : ℕ} {ks : List ℕ} {reached v : ℕ} {l : List ℕ} → Route g dep goal reached ks v l → length ks < length l
 route_length (last k) = omega arith
 route_length (move (to_next k e h) r) = omega (arith, route_length r)
 route_length (move (to_other k e h) r) = omega (arith, route_length r)

@@ -9,13 +9,13 @@ pub returns-then-stays : goal.returns-then-stays
 returns-then-stays c =
     let leave = c.leave in
     let pre = c.requires in
-    (leave.ensures.0, leave.ensures.1, within_at leave.auto.1.1.0 pre.6)
+    (leave.ensures.0, leave.ensures.1, within_at leave.auto.d pre.6)
 
 pub returns-then-tried-ge2 : goal.returns-then-tried-ge2
 returns-then-tried-ge2 c =
     let leave2 = c.leave-then-tried-ge2 in
     let pre = c.requires in
-    (leave2.ensures.0, leave2.ensures.1, within_at leave2.auto.1.1.0 pre.6)
+    (leave2.ensures.0, leave2.ensures.1, within_at leave2.auto.d pre.6)
 
 pub bounds-stage-w : goal.bounds-stage-w
 bounds-stage-w c =

@@ -12,4 +12,4 @@ returns c =
     let settle = c.settle in
     let pre = c.requires in
     let args = c.args in
-    (settle.ensures.dist, omega (arith, pre.5.at args.v, settle.auto.1.0))
+    (settle.ensures.dist, omega (arith, pre.5.at args.v, settle.auto.d))

@@ -20,7 +20,7 @@ sweep-changed-requires c =
     let the-loop = c.loop-changed in
     let walk = c.walk in
     let pre = c.requires in
-    (priced_at (the-loop.invariant.0 ∙ walk.auto.1.1.0) pre.0, the-loop.invariant.2, omega (arith, the-loop.invariant.0, the-loop.invariant.1, walk.auto.1.1.0, walk.auto.1.1.1.0, pre.4))
+    (priced_at (the-loop.invariant.0 ∙ walk.auto.d) pre.0, the-loop.invariant.2, omega (arith, the-loop.invariant.0, the-loop.invariant.1, walk.auto.d, walk.auto.dep, pre.4))
 
 pub loop-changed-smaller : goal.loop-changed-smaller
 loop-changed-smaller c =
@@ -32,29 +32,29 @@ pub loop-changed-preserved : goal.loop-changed-preserved
 loop-changed-preserved c =
     let sweep = c.sweep-changed in
     let the-loop = c.loop-changed in
-    (sweep.auto.1.0 ∙ the-loop.invariant.0, sweep.auto.1.1.0 ∙ the-loop.invariant.1, sweep.ensures.dist, λ e. rw sweep.auto.1.0 (idle_after sweep.ensures e))
+    (sweep.auto.d ∙ the-loop.invariant.0, sweep.auto.dep ∙ the-loop.invariant.1, sweep.ensures.dist, λ e. rw sweep.auto.d (idle_after sweep.ensures e))
 
 pub shape_of-d : goal.shape_of-d
 shape_of-d c =
     let the-loop = c.loop-changed in
     let walk = c.walk in
-    the-loop.invariant.0 ∙ walk.auto.1.1.0
+    the-loop.invariant.0 ∙ walk.auto.d
 
 pub shape_of-dep : goal.shape_of-dep
 shape_of-dep c =
     let the-loop = c.loop-changed in
     let walk = c.walk in
-    the-loop.invariant.1 ∙ walk.auto.1.1.1.0
+    the-loop.invariant.1 ∙ walk.auto.dep
 
 pub shape_of-stage : goal.shape_of-stage
 shape_of-stage c =
     let walk = c.walk in
-    walk.auto.1.1.1.1.0
+    walk.auto.stage
 
 pub shape_of-back : goal.shape_of-back
 shape_of-back c =
     let walk = c.walk in
-    walk.auto.1.1.1.1.1.0
+    walk.auto.back
 
 pub returns : goal.returns
 returns c =

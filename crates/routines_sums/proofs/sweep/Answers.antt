@@ -1,6 +1,5 @@
 -- `routines_sums::sweep` meets its contract.
 use mathlib.Core.Path.{refl, ◌∙◌}
-use Prim.Native.Nat.{◌-◌}
 use native.Mathlib.Omega.{arith}
 use Rattle.graph_search.proofs.Zeros.{zeros_le}
 use Rattle.routines_sums.proofs.Settling.{priced_at, swept_none, swept_more, swept_end}
@@ -37,14 +36,14 @@ pub loop-v-smaller : goal.loop-v-smaller
 loop-v-smaller c =
     let settle = c.settle-changed in
     let loop-test = c.loop-v-test in
-    omega (arith, settle.auto.1.0, loop-test.true)
+    omega (arith, settle.auto.d, loop-test.true)
 
 pub loop-v-preserved : goal.loop-v-preserved
 loop-v-preserved c =
     let settle = c.settle-changed in
     let the-loop = c.loop-v in
     let loop-test = c.loop-v-test in
-    (settle.auto.1.0 ∙ the-loop.invariant.0, settle.auto.1.1.0 ∙ the-loop.invariant.1, omega (arith, settle.auto.1.0, loop-test.true), swept_more the-loop.invariant.3 settle.ensures)
+    (settle.auto.d ∙ the-loop.invariant.0, settle.auto.dep ∙ the-loop.invariant.1, omega (arith, settle.auto.d, loop-test.true), swept_more the-loop.invariant.3 settle.ensures)
 
 pub shape_of-d : goal.shape_of-d
 shape_of-d c =

@@ -1,6 +1,5 @@
 -- `routines_sums::walk` meets its contract.
 use mathlib.Core.Path.{refl, ◌∙◌}
-use Prim.Native.Nat.{◌-◌}
 use native.Mathlib.Omega.{arith}
 use Rattle.routines_sums.proofs.Settling.{priced_at}
 use Rattle.routines_sums.proofs.walk.Goals as goal
@@ -66,16 +65,16 @@ pub loop-moves-smaller : goal.loop-moves-smaller
 loop-moves-smaller c =
     let go-deep = c.go_deep-v in
     let loop-test = c.loop-moves-test in
-    omega (arith, go-deep.auto.1.1.0, loop-test.true)
+    omega (arith, go-deep.auto.d, loop-test.true)
 
 pub loop-moves-preserved : goal.loop-moves-preserved
 loop-moves-preserved c =
     let go-deep = c.go_deep-v in
     let the-loop = c.loop-moves in (
-      go-deep.auto.1.1.0 ∙ the-loop.invariant.0,
-      go-deep.auto.1.1.1.0 ∙ the-loop.invariant.1,
-      go-deep.auto.1.1.1.1.0 ∙ the-loop.invariant.2,
-      go-deep.auto.1.1.1.1.1.0 ∙ the-loop.invariant.3,
+      go-deep.auto.d ∙ the-loop.invariant.0,
+      go-deep.auto.dep ∙ the-loop.invariant.1,
+      go-deep.auto.stage ∙ the-loop.invariant.2,
+      go-deep.auto.back ∙ the-loop.invariant.3,
       go-deep.ensures.1,
       go-deep.ensures.0,
       go-deep.ensures.2,

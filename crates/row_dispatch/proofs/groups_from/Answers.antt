@@ -1,6 +1,7 @@
 -- `row_dispatch::groups_from` meets its contract.
 use native.Mathlib.Omega.{arith}
 use mathlib.Core.List.{[], ◌∷◌}
+use borrow.Author.Rules.{rules}
 use Rattle.row_dispatch.proofs.Groups.{packed_at, last}
 use Rattle.row_dispatch.proofs.groups_from.Goals as goal
 
@@ -44,4 +45,4 @@ pub returns-in-12 : goal.returns-in-12
 returns-in-12 c = packed_at 12 _ _ c.in-12.is tt
 
 pub returns-in_default : goal.returns-in_default
-returns-in_default c = packed_at 13 _ _ (last (12 ∷ 11 ∷ 10 ∷ 9 ∷ 8 ∷ 7 ∷ 6 ∷ 5 ∷ 4 ∷ 3 ∷ 2 ∷ 1 ∷ 0 ∷ []) 0 14 13 tt _ (omega arith) c.requires c.in-0.rest) tt
+returns-in_default c = packed_at 13 _ _ (last (12 ∷ 11 ∷ 10 ∷ 9 ∷ 8 ∷ 7 ∷ 6 ∷ 5 ∷ 4 ∷ 3 ∷ 2 ∷ 1 ∷ 0 ∷ []) 0 14 13 tt c.args.n (omega arith) c.requires (search rules)) tt

@@ -17,7 +17,7 @@ from_pointer-pointed-requires c =
     let args = c.args in
     let pre = c.requires in
     let core = pre.0.core in
-    (record { device = args.options.device; core = core }, c.Group-of.ensures, rw pre.1 (window_fits args.options.device args.m.ports.p3 core.ports.also.p3), c.if-group-lt14.false, c.if-group-lt18.true)
+    (record { device = args.options.device; core = core }, c.group_of-group.ensures, rw pre.1 (window_fits args.options.device args.m.ports.p3 core.ports.also.p3), c.if-group-lt14.false, c.if-group-lt18.true)
 
 pub returns-then-group-lt18 : goal.returns-then-group-lt18
 returns-then-group-lt18 c = rw c.with_pointed.ensures (c.from_pointer-pointed.ensures.performs _ _)

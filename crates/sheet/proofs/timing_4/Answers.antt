@@ -11,4 +11,4 @@ pub returns-in-79 : goal.returns-in-79
 returns-in-79 c = by_first _ (search rules) _ (rw (c.costs-in-79.ensures, c.in-79.is))
 
 pub returns-in_default : goal.returns-in_default
-returns-in_default c = by_first _ (search rules) _ (rw (c.costs-in_default.ensures, c.requires, ne_eqb _ _ c.in-77.rest.0.1, ne_eqb _ _ c.in-77.rest.1))
+returns-in_default c = by_first _ (search rules) _ (rw (c.costs-in_default.ensures, c.requires, ne_eqb c.args.first 0x4D (search rules), ne_eqb c.args.first 0x4F (search rules)))

@@ -14,4 +14,4 @@ pub returns-in-87 : goal.returns-in-87
 returns-in-87 c = by_first _ (search rules) _ (rw (c.costs-in-87.ensures, c.in-87.is))
 
 pub returns-in_default : goal.returns-in_default
-returns-in_default c = by_first _ (search rules) _ (rw (c.costs-in_default.ensures, c.requires, ne_eqb _ _ c.in-84.rest.0.0.1, ne_eqb _ _ c.in-84.rest.0.1, ne_eqb _ _ c.in-84.rest.1))
+returns-in_default c = by_first _ (search rules) _ (rw (c.costs-in_default.ensures, c.requires, ne_eqb c.args.first 0x54 (search rules), ne_eqb c.args.first 0x55 (search rules), ne_eqb c.args.first 0x57 (search rules)))

@@ -11,4 +11,4 @@ pub returns-in-122 : goal.returns-in-122
 returns-in-122 c = by_first _ (search rules) _ (rw (c.costs-in-122.ensures, c.in-122.is))
 
 pub returns-in_default : goal.returns-in_default
-returns-in_default c = by_first _ (search rules) _ (rw (c.costs-in_default.ensures, c.requires, ne_eqb _ _ c.in-119.rest.0.1, ne_eqb _ _ c.in-119.rest.1))
+returns-in_default c = by_first _ (search rules) _ (rw (c.costs-in_default.ensures, c.requires, ne_eqb c.args.first 0x77 (search rules), ne_eqb c.args.first 0x7A (search rules)))

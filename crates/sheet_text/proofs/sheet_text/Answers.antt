@@ -1,6 +1,5 @@
 -- `sheet_text::sheet_text` meets its contract: from i on the text is left to be written.
 use mathlib.Core.Path.{sym, ◌∙◌}
-use Prim.Native.Nat.{◌-◌}
 use native.Mathlib.Omega.{arith}
 use borrow.Author.Rules.{rules}
 use lib.ListN.{drop_of_length-le}
@@ -22,7 +21,7 @@ pub returns-then-c-eq-FILL : goal.returns-then-c-eq-FILL
 returns-then-c-eq-FILL c =
     let at = c.loop-i in
     let row = c.args.n in
-    (writing_none (rw (letter_none row at.i (search rules) (sym c.letter-c.ensures ∙ c.if-c-eq-FILL.true)) at at.invariant.0), omega arith)
+    record { wrote = writing_none (rw (letter_none row at.i (search rules) (sym c.letter-c.ensures ∙ c.if-c-eq-FILL.true)) at at.invariant.0); upper_bound = omega arith }
 
 pub put-next-requires : goal.put-next-requires
 put-next-requires c = omega arith
@@ -48,4 +47,4 @@ pub returns : goal.returns
 returns c =
     let at = c.loop-i in
     let row = c.args.n in
-    (writing_none (rw (drop_of_length-le (sheet_text row) {i = at.i} (omega (arith, text_length row (search rules)))) at at.invariant.0), omega arith)
+    record { wrote = writing_none (rw (drop_of_length-le (sheet_text row) {i = at.i} (omega (arith, text_length row (search rules)))) at at.invariant.0); upper_bound = omega arith }

@@ -5,8 +5,7 @@ use Rattle.step_look.proofs.waited.Goals as goal
 pub returns-then-wakes : goal.returns-then-wakes
 unfolding waited
 returns-then-wakes c =
-    let t = c.before.before in
-    rw (← t.before.before.has-bit.ensures, ← t.before.wakes.ensures, t.if1.true, c.awake.ensures, c.waking_cycles.ensures)
+    rw (← c.has_bit-by_level.ensures, ← c.wakes.ensures, c.if-wakes.true, c.awake.ensures, c.waking_cycles.ensures)
 
 pub returns : goal.returns
 unfolding waited

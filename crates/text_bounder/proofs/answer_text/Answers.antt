@@ -6,7 +6,7 @@ use Rattle.text_bounder.proofs.Values.{small_as}
 use Rattle.text_bounder.proofs.answer_text.Goals as goal
 
 pub returns-in_default : goal.returns-in_default
-returns-in_default c = (rw (beside_nothing c.args.answer c.in-Bounds.keys2) c.summary-end.ensures.0, omega (arith, c.summary-end.ensures.1))
+returns-in_default c = (rw (beside_nothing c.args.answer c.in-Bounds.keys2) c.summary-end.ensures.wrote, omega (arith, c.summary-end.ensures.upper_bound))
 
 pub overflow_cast-greatest : goal.overflow_cast-greatest
 overflow_cast-greatest c = let h = small_as 1 65536 c.in-Bounds.is c.requires.1 in omega (arith, h)

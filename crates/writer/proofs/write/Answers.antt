@@ -9,7 +9,7 @@ returns-then-i-gt107 c = refuses c.args.i (none_of_row c.args.i c.if-i-gt107.tru
 pub returns-then-reads_as : goal.returns-then-reads_as
 returns-then-reads_as c =
     rw c.spell-code.ensures
-    (writes c.args.i _ _ (reads_row c.args.i _ (rw c.spell-code.ensures at (sym c.reads_as.ensures ∙ c.if-reads_as.true))) (rw c.spell-code.ensures at c.timing-cost.ensures.0))
+    (writes c.args.i _ _ (reads_row c.args.i _ (rw c.spell-code.ensures at (sym c.reads_as.ensures ∙ c.if-reads_as.true))) (rw c.spell-code.ensures at c.timing-cost.ensures.timed_from))
 
 pub returns : goal.returns
 returns c = refuses c.args.i (none_read c.args.i (rw c.spell-code.ensures at (sym c.reads_as.ensures ∙ c.if-reads_as.false)))

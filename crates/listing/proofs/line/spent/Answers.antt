@@ -14,4 +14,4 @@ pub put-requires : goal.put-requires
 put-requires c = omega (arith, places_up_to 4 c.args.cycles (omega arith))
 
 pub returns : goal.returns
-returns c = (wrote_then (rw c.places-places.ensures at c.column-end.ensures.0) (wrote_then c.number-end.ensures.0 (wrote_last c.put.ensures)), omega (arith, places_up_to 4 c.args.cycles (omega arith)))
+returns c = (wrote_then (rw c.places-places.ensures at c.column-end.ensures.wrote) (wrote_then c.number-end.ensures.wrote (wrote_last c.put.ensures)), omega (arith, places_up_to 4 c.args.cycles (omega arith)))

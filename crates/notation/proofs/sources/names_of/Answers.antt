@@ -4,4 +4,4 @@ use Rattle.laws.proofs.Writing.{wrote_then, wrote_last}
 use Rattle.notation.proofs.sources.names_of.Goals as goal
 
 pub returns : goal.returns
-returns c = (wrote_then c.name_in-end.ensures.0 (wrote_then c.name_in-end-2.ensures.0 (wrote_then c.name_in-end-3.ensures.0 (wrote_then c.name_in-end-4.ensures.0 (wrote_last c.name_in.ensures.0)))), omega arith)
+returns c = record { wrote = wrote_then c.name_in-end.ensures.wrote (wrote_then c.name_in-end-2.ensures.wrote (wrote_then c.name_in-end-3.ensures.wrote (wrote_then c.name_in-end-4.ensures.wrote (wrote_last c.name_in.ensures.wrote)))); upper_bound = omega arith }

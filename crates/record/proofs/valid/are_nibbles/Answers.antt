@@ -1,5 +1,4 @@
 -- `record::valid::are_nibbles` meets its contract. The invariant: every nibble passed is below 16.
-use Prim.Native.Nat.{◌-◌}
 use native.Mathlib.Omega.{arith}
 use borrow.Author.Count.{below_none, below_more}
 use borrow.Author.Rules.{rules}

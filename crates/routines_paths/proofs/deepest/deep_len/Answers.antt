@@ -1,6 +1,5 @@
 -- `routines_paths::deepest::deep_len` meets its contract: the places that are passed and the way from the present one make up the way.
 use mathlib.Core.Path.{refl, ◌∙◌}
-use Prim.Native.Nat.{◌-◌}
 use native.Mathlib.Omega.{arith}
 use Rattle.routines_paths.specs.Open.{open_of}
 use Rattle.routines_paths.proofs.Open.{open_length, none_open}
@@ -41,7 +40,7 @@ pub loop-here-preserved : goal.loop-here-preserved
 loop-here-preserved c =
     let inv = c.loop-here.invariant in
     let m = c.deep_on-here in
-    (m.auto.1.1.0 ∙ inv.0, m.auto.1.1.1.0 ∙ inv.1, m.ensures.1, m.ensures.2, along_more inv.4 m.ensures.0)
+    (m.auto.stack ∙ inv.0, m.auto.pend ∙ inv.1, m.ensures.1, m.ensures.2, along_more inv.4 m.ensures.0)
 
 pub overflow_add-result : goal.overflow_add-result
 overflow_add-result c =

@@ -1,6 +1,9 @@
 -- `routines_paths::deepest::enter` meets its contract.
 use mathlib.Core.Path.{refl}
 use native.Mathlib.Omega.{arith}
+use Rattle.std.proofs.Common.{rules, get_or}
+use mir.Val.{Fits}
+use mir.Syntax.{w32}
 use Rattle.graph_search.proofs.Zeros.{wide16}
 use Rattle.routines_paths.proofs.Open.{open_push}
 use Rattle.routines_paths.proofs.deepest.Moves.{working_push, wide32, sum_fits, most_fits}
@@ -17,11 +20,12 @@ overflow_add-top c =
 pub overflow_cast-pend : goal.overflow_cast-pend
 overflow_cast-pend c = wide32 (c.type_inv.pend _)
 
-pub overflow_cast-pend : goal.overflow_cast-pend
-overflow_cast-pend c =
+pub overflow_cast-pend-2 : goal.overflow_cast-pend-2
+overflow_cast-pend-2 c =
     let pre = c.requires in
     let args = c.args in
-    most_fits _ _ _ _ (omega (arith, pre.1, pre.0.small)) (c.type_inv.dep args.way.second) (c.type_inv.pend args.here.top) c.most-m.ensures
+    let pended : Fits w32 (get_or args.pend.now args.here.top 0) = search rules in
+    most_fits _ _ _ _ (omega (arith, pre.1, pre.0.small)) (c.type_inv.dep args.way.second) pended c.most-m.ensures
 
 pub returns : goal.returns
 returns c =

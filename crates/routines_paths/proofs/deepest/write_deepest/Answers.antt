@@ -1,6 +1,5 @@
 -- `routines_paths::deepest::write_deepest` meets its contract: the bytes of the places that are passed stand in the buffer.
 use mathlib.Core.Path.{refl, ◌∙◌}
-use Prim.Native.Nat.{◌-◌}
 use native.Mathlib.Omega.{arith}
 use Rattle.routines_paths.specs.Open.{open_of}
 use Rattle.routines_paths.proofs.Open.{open_length, none_open}
@@ -47,7 +46,7 @@ loop-path-preserved c =
     let inv = c.loop-path.invariant in
     let m = c.deep_on-here in
     let put = c.put in
-    (put.auto.1.1.0 ∙ inv.0, m.auto.1.1.0 ∙ inv.1, m.auto.1.1.1.0 ∙ inv.2, m.ensures.1, m.ensures.2, writing_more inv.5 m.ensures.0 put.ensures)
+    (put.auto.path ∙ inv.0, m.auto.stack ∙ inv.1, m.auto.pend ∙ inv.2, m.ensures.1, m.ensures.2, writing_more inv.5 m.ensures.0 put.ensures)
 
 pub put-requires-2 : goal.put-requires-2
 put-requires-2 c =
@@ -62,7 +61,7 @@ pub shape_of-pend : goal.shape_of-pend
 shape_of-pend c = c.loop-path.invariant.2
 
 pub shape_of-path : goal.shape_of-path
-shape_of-path c = c.put-2.auto.1.1.0 ∙ c.loop-path.invariant.0
+shape_of-path c = c.put-2.auto.path ∙ c.loop-path.invariant.0
 
 pub returns : goal.returns
 returns c =

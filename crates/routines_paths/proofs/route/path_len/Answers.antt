@@ -42,7 +42,7 @@ loop-here-preserved c =
     let pre = c.requires in
     let inv = c.loop-here.invariant in
     let m = c.move_on-here in
-    (m.auto.1.1.0 ∙ inv.0, m.ensures.1, along_more pre.1 inv.2 m.ensures.0)
+    (m.auto.stack ∙ inv.0, m.ensures.1, along_more pre.1 inv.2 m.ensures.0)
 
 pub shape_of-stack : goal.shape_of-stack
 shape_of-stack c = c.loop-here.invariant.0

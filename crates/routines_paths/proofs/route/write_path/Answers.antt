@@ -48,7 +48,7 @@ loop-path-preserved c =
     let inv = c.loop-path.invariant in
     let m = c.move_on-here in
     let put = c.put in
-    (put.auto.1.1.0 ∙ inv.0, m.auto.1.1.0 ∙ inv.1, m.ensures.1, writing_more inv.3 pre.1 m.ensures.0 put.ensures)
+    (put.auto.path ∙ inv.0, m.auto.stack ∙ inv.1, m.ensures.1, writing_more inv.3 pre.1 m.ensures.0 put.ensures)
 
 pub put-requires-2 : goal.put-requires-2
 put-requires-2 c =
@@ -60,7 +60,7 @@ pub shape_of-stack : goal.shape_of-stack
 shape_of-stack c = c.loop-path.invariant.1
 
 pub shape_of-path : goal.shape_of-path
-shape_of-path c = c.put-2.auto.1.1.0 ∙ c.loop-path.invariant.0
+shape_of-path c = c.put-2.auto.path ∙ c.loop-path.invariant.0
 
 pub returns : goal.returns
 returns c =

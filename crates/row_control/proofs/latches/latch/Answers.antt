@@ -1,6 +1,7 @@
 -- `row_control::latches::latch` meets its contract.
 use mathlib.Core.List.{[], ◌∷◌}
 use Rattle.laws.proofs.Among.{first}
+use borrow.Author.Rules.{rules}
 use Rattle.row_control.proofs.Latching.{cil, dicil, eicil, exae}
 use Rattle.row_control.proofs.latches.latch.Goals as goal
 
@@ -14,4 +15,4 @@ pub returns-in-84 : goal.returns-in-84
 returns-in-84 c = rw (c.in-84.is, c.latched-in-84.ensures) (eicil _ _)
 
 pub returns-in_default : goal.returns-in_default
-returns-in_default c = rw (first (85 ∷ 84 ∷ 83 ∷ 82 ∷ []) _ c.requires.1 c.in-82.rest, c.exchanged.ensures) (exae _ _)
+returns-in_default c = rw (first (85 ∷ 84 ∷ 83 ∷ 82 ∷ []) c.args.row c.requires.1 (search rules), c.exchanged.ensures) (exae _ _)

@@ -5,21 +5,21 @@ use Rattle.laws.proofs.Among.{first}
 use Rattle.record.specs.Stack.{popped}
 use Rattle.record.proofs.Range.{can-pop}
 use Rattle.row.proofs.Turns.{same_given}
+use borrow.Author.Rules.{rules}
 use Rattle.row_control.proofs.Returning.{ret, rti, stop}
-use borrow.Author.Tests.{not-true, not-false}
 use Rattle.row_control.proofs.returns.come_back.Goals as goal
 
 pub returns-then-not-can_pop : goal.returns-then-not-can_pop
-returns-then-not-can_pop c = rw c.stopped.ensures (stop _ _ _ (rw (← c.can_pop.ensures) (not-true _ c.if-not-can_pop.true)) c.requires.1)
+returns-then-not-can_pop c = rw c.stopped.ensures (stop _ _ _ (rw (← c.can_pop.ensures) c.if-not-can_pop.true) c.requires.1)
 
 pub pop-requires : goal.pop-requires
-pop-requires c = rw c.held.ensures (c.requires.0, can-pop (rw (← c.can_pop.ensures) (not-false _ c.if-not-can_pop.false)))
+pop-requires c = rw c.held.ensures (c.requires.0, can-pop (rw (← c.can_pop.ensures) c.if-not-can_pop.false))
 
 pub return_flags-requires : goal.return_flags-requires
-return_flags-requires c = rw c.held-in_default.ensures (c.requires.0, can-pop (rw (← c.can_pop.ensures) (not-false _ c.if-not-can_pop.false)))
+return_flags-requires c = rw c.held-in_default.ensures (c.requires.0, can-pop (rw (← c.can_pop.ensures) c.if-not-can_pop.false))
 
 pub returns-in-73 : goal.returns-in-73
-returns-in-73 c = rw c.in-73.is (ret _ _ _ _ (rw (← c.can_pop.ensures) (not-false _ c.if-not-can_pop.false)) (same_given (c.pop.ensures ∙ ap popped c.held.ensures) c.moved_on.ensures))
+returns-in-73 c = rw c.in-73.is (ret _ _ _ _ (rw (← c.can_pop.ensures) c.if-not-can_pop.false) (same_given (c.pop.ensures ∙ ap popped c.held.ensures) c.moved_on.ensures))
 
 pub returns-in_default : goal.returns-in_default
 returns-in_default c =
@@ -28,4 +28,4 @@ returns-in_default c =
     let if1 = c.if-not-can_pop in
     let held2 = c.held-in_default in
     let return-flags = c.return_flags in
-    rw (first (86 ∷ 73 ∷ []) _ pre.1 c.in-73.rest) (rti _ _ _ _ (rw (← can-pop.ensures) (not-false _ if1.false)) (rw (← held2.ensures, ← return-flags.ensures) c.moved_on-in_default.ensures))
+    rw (first (86 ∷ 73 ∷ []) c.args.row pre.1 (search rules)) (rti _ _ _ _ (rw (← can-pop.ensures) if1.false) (rw (← held2.ensures, ← return-flags.ensures) c.moved_on-in_default.ensures))

@@ -2,6 +2,7 @@
 use mathlib.Core.Path.{refl}
 use mathlib.Core.List.{[], ◌∷◌}
 use native.Mathlib.Omega.{arith}
+use borrow.Author.Rules.{rules}
 use Rattle.row_dispatch.proofs.Groups.{last}
 use Rattle.row_dispatch.proofs.Arms.{regrouped, low, asks, settled, loaded}
 use Rattle.row_dispatch.proofs.keeps.quiet.Goals as goal
@@ -31,7 +32,7 @@ pub load_pointer-requires : goal.load_pointer-requires
 load_pointer-requires c = asks c.requires.0.core c.requires.1 4 c.in-4.is
 
 pub load_timer-requires : goal.load_timer-requires
-load_timer-requires c = asks c.requires.0.core c.requires.1 5 (last (4 ∷ 3 ∷ 2 ∷ 1 ∷ 0 ∷ []) 0 6 5 tt _ (omega arith) c.requires.2 c.in-0.rest)
+load_timer-requires c = asks c.requires.0.core c.requires.1 5 (last (4 ∷ 3 ∷ 2 ∷ 1 ∷ 0 ∷ []) 0 6 5 tt c.args.group (omega arith) c.requires.2 (search rules))
 
 pub returns-in-0 : goal.returns-in-0
 returns-in-0 c = settled _ _ _ c.moved.ensures

@@ -2,6 +2,7 @@
 use mathlib.Core.List.{[], ◌∷◌}
 use native.Mathlib.Omega.{arith}
 use Rattle.laws.proofs.Among.{first}
+use borrow.Author.Rules.{rules}
 use Rattle.row_dispatch.specs.Groups.{port_to_cell, cell_to_port}
 use Rattle.row_dispatch.proofs.Groups.{last}
 use Rattle.row.proofs.PlacesValid.{latch_low}
@@ -51,4 +52,4 @@ pub returns-in-23 : goal.returns-in-23
 returns-in-23 c = ported-by _ _ 75 _ _ _ _ (first port_to_cell _ (regrouped c.requires.0 c.requires.2 23 c.in-23.is).row tt) (c.read_to_cell.ensures.ported _)
 
 pub returns-in_default : goal.returns-in_default
-returns-in_default c = ported-by _ _ 78 _ _ _ _ (first cell_to_port _ (regrouped c.requires.0 c.requires.2 24 (last (23 ∷ 22 ∷ 21 ∷ 20 ∷ 19 ∷ 18 ∷ []) 18 25 24 tt _ c.requires.3 c.requires.4 c.in-18.rest)).row tt) (c.write_from_cell.ensures.ported _)
+returns-in_default c = ported-by _ _ 78 _ _ _ _ (first cell_to_port _ (regrouped c.requires.0 c.requires.2 24 (last (23 ∷ 22 ∷ 21 ∷ 20 ∷ 19 ∷ 18 ∷ []) 18 25 24 tt c.args.group c.requires.3 c.requires.4 (search rules))).row tt) (c.write_from_cell.ensures.ported _)

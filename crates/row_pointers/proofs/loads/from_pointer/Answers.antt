@@ -1,5 +1,6 @@
 -- `row_pointers::loads::from_pointer` meets its contract.
 use borrow.Author.Tests.{eq-eqb}
+use borrow.Author.Rules.{rules}
 use Rattle.row_pointers.specs.Groups.{load_pointer}
 use Rattle.laws.proofs.Among.{first}
 use Rattle.row_pointers.proofs.Loading.{ldadpl, ldadpm, ldadph, ldasp}
@@ -15,4 +16,4 @@ pub returns-in-91 : goal.returns-in-91
 returns-in-91 c = rw (c.in-91.is, c.acc_loaded-in-91.ensures) (ldasp _ (eq-eqb _ 0 c.requires.1))
 
 pub returns-in_default : goal.returns-in_default
-returns-in_default c = rw (first load_pointer _ c.requires.0.listed c.in-89.rest, c.acc_loaded-in_default.ensures) (ldadpl _ (eq-eqb _ 0 c.requires.1))
+returns-in_default c = rw (first load_pointer c.args.row c.requires.0.listed (search rules), c.acc_loaded-in_default.ensures) (ldadpl _ (eq-eqb _ 0 c.requires.1))

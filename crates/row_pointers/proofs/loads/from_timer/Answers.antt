@@ -1,5 +1,6 @@
 -- `row_pointers::loads::from_timer` meets its contract.
 use borrow.Author.Tests.{eq-eqb}
+use borrow.Author.Rules.{rules}
 use Rattle.row_pointers.specs.Groups.{load_timer}
 use Rattle.laws.proofs.Among.{first}
 use Rattle.row_pointers.proofs.Loading.{ldatal, ldatam, ldatah, ldatbl, ldatbm, ldatbh}
@@ -21,4 +22,4 @@ pub returns-in-97 : goal.returns-in-97
 returns-in-97 c = rw (c.in-97.is, c.acc_loaded-in-97.ensures, c.nibble_at-in-97.ensures) (ldatbh _ (eq-eqb _ 0 c.requires.1))
 
 pub returns-in_default : goal.returns-in_default
-returns-in_default c = rw (first load_timer _ c.requires.0.listed c.in-93.rest, c.acc_loaded-in_default.ensures) (ldatal _ (eq-eqb _ 0 c.requires.1))
+returns-in_default c = rw (first load_timer c.args.row c.requires.0.listed (search rules), c.acc_loaded-in_default.ensures) (ldatal _ (eq-eqb _ 0 c.requires.1))

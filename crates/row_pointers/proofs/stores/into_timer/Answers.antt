@@ -1,5 +1,6 @@
 -- `row_pointers::stores::into_timer` meets its contract.
 use borrow.Author.Tests.{eq-eqb}
+use borrow.Author.Rules.{rules}
 use Rattle.row_pointers.specs.Groups.{store_timer}
 use Rattle.laws.proofs.Among.{first}
 use Rattle.row_pointers.proofs.Storing.{statal, statam, statah, statbl, statbm, statbh}
@@ -21,4 +22,4 @@ pub returns-in-107 : goal.returns-in-107
 returns-in-107 c = rw (c.in-107.is, c.high_put-in-107.ensures) (statbh _ (eq-eqb _ 0 c.requires.1))
 
 pub returns-in_default : goal.returns-in_default
-returns-in_default c = rw (first store_timer _ c.requires.0.listed c.in-103.rest, c.low_put-in_default.ensures) (statal _ (eq-eqb _ 0 c.requires.1))
+returns-in_default c = rw (first store_timer c.args.row c.requires.0.listed (search rules), c.low_put-in_default.ensures) (statal _ (eq-eqb _ 0 c.requires.1))

@@ -1,5 +1,6 @@
 -- `row_ports::reads::read_row` meets its contract.
 use Rattle.laws.proofs.Among.{first}
+use borrow.Author.Rules.{rules}
 use Rattle.row_ports.specs.Groups.{reading}
 use Rattle.row_ports.proofs.Reading.{tfp, tfpl, ttp, ina}
 use Rattle.row_ports.proofs.reads.read_row.Goals as goal
@@ -14,4 +15,4 @@ pub returns-in-70 : goal.returns-in-70
 returns-in-70 c = rw (c.in-70.is, c.port_tested-in-70.ensures, c.weight-in-70.ensures.value) (ttp _ _ _ _)
 
 pub returns-in_default : goal.returns-in_default
-returns-in_default c = rw (first reading _ c.requires.listed c.in-67.rest, c.port_loaded.ensures) (ina _ _ _ _)
+returns-in_default c = rw (first reading c.args.row c.requires.listed (search rules), c.port_loaded.ensures) (ina _ _ _ _)

@@ -1,5 +1,6 @@
 -- `row_ports::writes::write_row` meets its contract.
 use Rattle.laws.proofs.Among.{first}
+use borrow.Author.Rules.{rules}
 use Rattle.row_ports.specs.Groups.{writing}
 use Rattle.row_ports.proofs.Writing.{clp, clpl, sep, sepl, out, outa}
 use Rattle.row_ports.proofs.writes.write_row.Goals as goal
@@ -20,4 +21,4 @@ pub returns-in-76 : goal.returns-in-76
 returns-in-76 c = rw (c.in-76.is, c.written.ensures) (out _ _ _ _)
 
 pub returns-in_default : goal.returns-in_default
-returns-in_default c = rw (first writing _ c.requires.listed c.in-57.rest, c.written-in_default.ensures) (outa _ _ _ _)
+returns-in_default c = rw (first writing c.args.row c.requires.listed (search rules), c.written-in_default.ensures) (outa _ _ _ _)

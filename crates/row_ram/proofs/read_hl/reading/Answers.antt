@@ -1,4 +1,5 @@
 -- `row_ram::read_hl::reading` meets its contract.
+use borrow.Author.Rules.{rules}
 use Rattle.row_ram.specs.Groups.{read_by_hl}
 use Rattle.laws.proofs.Among.{first}
 use Rattle.row_ram.proofs.Read.{ldam, adcam, addam, sbcam, andam, oram, xoram, cmpam, tfm}
@@ -29,4 +30,4 @@ pub returns-in-19 : goal.returns-in-19
 returns-in-19 c = rw (c.in-19.is, c.acc_carried.ensures, c.plus_cf.ensures) (adcam _ _ _)
 
 pub returns-in_default : goal.returns-in_default
-returns-in_default c = rw (first read_by_hl c.args.row c.requires.1 c.in-66.rest, c.acc_loaded.ensures) (ldam _ _ _)
+returns-in_default c = rw (first read_by_hl c.args.row c.requires.1 (search rules), c.acc_loaded.ensures) (ldam _ _ _)

@@ -1,4 +1,5 @@
 -- `row_ram::write_hl::writing` meets its contract.
+use borrow.Author.Rules.{rules}
 use Rattle.row_ram.specs.Groups.{written_by_hl}
 use Rattle.laws.proofs.Among.{first}
 use Rattle.row_ram.proofs.Write.{stam, stamd, stami, stdmi, addm, decm, incm, subm, andm, orm, exam, clm, sem}
@@ -41,4 +42,4 @@ pub returns-in-11 : goal.returns-in-11
 returns-in-11 c = rw (c.in-11.is, c.lr_lessened.ensures, c.minus.ensures) (stamd _ _ _)
 
 pub returns-in_default : goal.returns-in_default
-returns-in_default c = rw (first written_by_hl c.args.row c.requires.1.1 c.in-60.rest, c.went_on-in_default.ensures) (stam _ _ _)
+returns-in_default c = rw (first written_by_hl c.args.row c.requires.1.1 (search rules), c.went_on-in_default.ensures) (stam _ _ _)

@@ -1,4 +1,5 @@
 -- `row_ram::write_y::writing` meets its contract.
+use borrow.Author.Rules.{rules}
 use Rattle.row_ram.specs.Groups.{written_by_y}
 use Rattle.laws.proofs.Among.{first}
 use Rattle.row_ram.proofs.Write.{std, add, clr, set}
@@ -14,4 +15,4 @@ pub returns-in-20 : goal.returns-in-20
 returns-in-20 c = rw (c.in-20.is, c.summed.ensures, c.plus-x.ensures) (add _ _ _)
 
 pub returns-in_default : goal.returns-in_default
-returns-in_default c = rw (first written_by_y c.args.row c.requires.1.1 c.in-63.rest, c.went_on-in_default.ensures) (std _ _ _)
+returns-in_default c = rw (first written_by_y c.args.row c.requires.1.1 (search rules), c.went_on-in_default.ensures) (std _ _ _)

@@ -1,6 +1,7 @@
 -- `row_registers::asks::asked` meets its contract.
 use mathlib.Core.List.{[], ◌∷◌}
 use Rattle.laws.proofs.Among.{first}
+use borrow.Author.Rules.{rules}
 use Rattle.row_registers.proofs.Asking.{cmph, cmpia, cmpl, tfa, tfcfc, ttcfs, tzs, nop}
 use Rattle.row_registers.proofs.asks.asked.Goals as goal
 
@@ -26,4 +27,4 @@ pub returns-in-81 : goal.returns-in-81
 returns-in-81 c = rw (c.in-81.is, c.tested-in-81.ensures) (tzs _ _)
 
 pub returns-in_default : goal.returns-in_default
-returns-in_default c = rw (first (87 ∷ 81 ∷ 80 ∷ 79 ∷ 65 ∷ 55 ∷ 54 ∷ 53 ∷ []) _ c.requires.1 c.in-53.rest, c.nothing.ensures) (nop _ _)
+returns-in_default c = rw (first (87 ∷ 81 ∷ 80 ∷ 79 ∷ 65 ∷ 55 ∷ 54 ∷ 53 ∷ []) c.args.row c.requires.1 (search rules), c.nothing.ensures) (nop _ _)

@@ -1,6 +1,7 @@
 -- `row_registers::branches::taken` meets its contract.
 use mathlib.Core.List.{[], ◌∷◌}
 use Rattle.laws.proofs.Among.{first}
+use borrow.Author.Rules.{rules}
 use Rattle.row_registers.proofs.Branching.{sbr-taken, lbr-taken, slbr-taken}
 use Rattle.row_registers.proofs.branches.taken.Goals as goal
 
@@ -11,4 +12,4 @@ pub returns-in-48 : goal.returns-in-48
 returns-in-48 c = rw (c.in-48.is, c.jumped-in-48.ensures) (lbr-taken _ _ c.requires.3)
 
 pub returns-in_default : goal.returns-in_default
-returns-in_default c = rw (first (49 ∷ 48 ∷ 47 ∷ []) _ c.requires.2 c.in-47.rest, c.jumped-in_default.ensures) (slbr-taken _ _ c.requires.3)
+returns-in_default c = rw (first (49 ∷ 48 ∷ 47 ∷ []) c.args.row c.requires.2 (search rules), c.jumped-in_default.ensures) (slbr-taken _ _ c.requires.3)

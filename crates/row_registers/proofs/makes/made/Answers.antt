@@ -1,6 +1,7 @@
 -- `row_registers::makes::made` meets its contract.
 use mathlib.Core.List.{[], ◌∷◌}
 use Rattle.laws.proofs.Among.{first}
+use borrow.Author.Rules.{rules}
 use Rattle.row_registers.proofs.Making.{rlca, rrca, adda, addh, addl, deca, decl, inca, incl, suba, anda, ora}
 use Rattle.row_registers.proofs.makes.made.Goals as goal
 
@@ -38,4 +39,4 @@ pub returns-in-35 : goal.returns-in-35
 returns-in-35 c = rw (c.in-35.is, c.acc_logical.ensures, c.and.ensures) (anda _ _)
 
 pub returns-in_default : goal.returns-in_default
-returns-in_default c = rw (first (38 ∷ 35 ∷ 32 ∷ 30 ∷ 29 ∷ 27 ∷ 26 ∷ 24 ∷ 23 ∷ 21 ∷ 18 ∷ 17 ∷ []) _ c.requires.1 c.in-17.rest, c.acc_logical-in_default.ensures, c.or.ensures) (ora _ _)
+returns-in_default c = rw (first (38 ∷ 35 ∷ 32 ∷ 30 ∷ 29 ∷ 27 ∷ 26 ∷ 24 ∷ 23 ∷ 21 ∷ 18 ∷ 17 ∷ []) c.args.row c.requires.1 (search rules), c.acc_logical-in_default.ensures, c.or.ensures) (ora _ _)

@@ -1,6 +1,7 @@
 -- `row_registers::moves::moved` meets its contract.
 use mathlib.Core.List.{[], ◌∷◌}
 use Rattle.laws.proofs.Among.{first}
+use borrow.Author.Rules.{rules}
 use Rattle.row_registers.proofs.Moving.{ldh, ldia, ldl, tha, tla, exah, exal}
 use Rattle.row_registers.proofs.moves.moved.Goals as goal
 
@@ -23,4 +24,4 @@ pub returns-in-43 : goal.returns-in-43
 returns-in-43 c = rw (c.in-43.is, c.acc_hr_exchanged.ensures) (exah _ _)
 
 pub returns-in_default : goal.returns-in_default
-returns-in_default c = rw (first (44 ∷ 43 ∷ 16 ∷ 15 ∷ 8 ∷ 7 ∷ 5 ∷ []) _ c.requires.1 c.in-5.rest, c.acc_lr_exchanged.ensures) (exal _ _)
+returns-in_default c = rw (first (44 ∷ 43 ∷ 16 ∷ 15 ∷ 8 ∷ 7 ∷ 5 ∷ []) c.args.row c.requires.1 (search rules), c.acc_lr_exchanged.ensures) (exal _ _)

@@ -26,4 +26,4 @@ unfolding line_at
 returns-in-72 c = c.short_entry.ensures ∙ sym (goes_by_lem _ _ c.in-72.is)
 
 pub returns-in_default : goal.returns-in_default
-returns-in_default c = sym (goes_nowhere _ _ (search rules) c.in-47.rest)
+returns-in_default c = sym (goes_nowhere _ _ (search rules) (search rules))

@@ -4,4 +4,4 @@ use Rattle.text.proofs.digits.Numbers.{wrote_padded}
 use Rattle.text_lister.proofs.line.bytes_column.Goals as goal
 
 pub returns : goal.returns
-returns c = (wrote_padded 8 c.bytes-end.ensures.0 c.blanks.ensures.0, omega arith)
+returns c = record { wrote = wrote_padded 8 c.bytes-end.ensures.wrote c.blanks.ensures.wrote; value = omega arith }

@@ -6,4 +6,4 @@ use Rattle.text_lister.proofs.line.line.Goals as goal
 
 pub returns : goal.returns
 unfolding line_of
-returns c = (wrote_then c.columns-end.ensures.0 c.put.ensures, omega arith)
+returns c = record { wrote = wrote_then c.columns-end.ensures.wrote c.put.ensures; upper_bound = omega arith }

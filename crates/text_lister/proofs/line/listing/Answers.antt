@@ -28,7 +28,7 @@ loop-left-smaller c = omega arith
 
 pub loop-left-preserved : goal.loop-left-preserved
 loop-left-preserved c = (
-  rw c.after-at.ensures (writing_more (rw (listing-more (rom_of c.args.image.now c.args.p3) c.loop-left.at c.loop-left.left (omega arith) (omega arith)) at c.loop-left.invariant.0) c.line-end.ensures.0),
+  rw c.after-at.ensures (writing_more (rw (listing-more (rom_of c.args.image.now c.args.p3) c.loop-left.at c.loop-left.left (omega arith) (omega arith)) at c.loop-left.invariant.0) c.line-end.ensures.wrote),
   omega arith,
 )
 

@@ -1,0 +1,22 @@
+-- `why::ask` meets its contract.
+use Prim.Native.Nat.{◌≤◌}
+use native.Mathlib.Omega.{arith}
+use Rattle.device.specs.declared.Device.{Device}
+use Rattle.device.specs.declared.Device.TheVariants.{Em73862, Em73P982}
+use Rattle.device.specs.Device.{frame_size}
+use Rattle.record.proofs.start.Starting.{fresh_valid}
+use borrow.Author.Rules.{rules}
+use Rattle.why.proofs.ask.Goals as goal
+
+small-frames : (d : Device) → frame_size d ≤ 4
+small-frames Em73862 = search rules
+small-frames Em73P982 = search rules
+
+pub session-requires : goal.session-requires
+session-requires c =
+    let start = c.before.before.before.before.before.before.before.before.before in
+    let d = start.args.d in
+    let valid = fresh_valid d in
+    let new = c.fresh-m.ensures in
+    let room = c.large_buffer-part.ensures in
+    (start.requires, rw new valid.core, rw new valid.ram, omega (arith, small-frames d, room), search rules)
