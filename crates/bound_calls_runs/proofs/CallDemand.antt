@@ -70,6 +70,7 @@ record EndsBy (rom : ℕ → ℕ → ℕ) (o : Options) (m : Machine) (sp : ℕ)
 module _ (rom : ℕ → ℕ → ℕ) (o : Options) where
   ends_by : (frames : List Pins) (m : Machine) {sp : ℕ} (shown : AllInRange o.device frames) {k n : ℕ} → runs.EndsAt (emulated rom o) sp m (framed o.device frames shown) k n → EndsBy rom o m sp frames k n
   unfolding run_of
+  ends_by [] m {sp = sp} shown {k = k} {n = n} e = elim e [ ]
   ends_by (pins ∷ others) m shown (runs.EndsAt.now e r) = record { before = []; last = pins; after = others; parts = refl; count = refl; completes = refl; ends = e; own = r; cycles = omega arith }
   ends_by (pins ∷ others) m shown (runs.EndsAt.later past e) =
       let q = ends_by others (step_of rom o m pins).machine shown.1 e in
