@@ -17,11 +17,11 @@ module _ (f : Flow) (K : ℕ → Bool) {n E : ℕ} (small : Small f n E) (cycles
   unfolding sum
   long-from {r} m live i (calling.Path.rti {v} k) = omega (arith, pays v (in-lt f K small live i) (omega (arith, k)) (omega (arith, k)))
   long-from {r} m live i (calling.Path.goes {v} k e p) =
-      omega (arith, pays v (in-lt f K small live i) (omega (arith, k)) (omega (arith, k)), long-from m live (reach_snoc i (edge_on f K r k e)) p)
+      omega (arith, pays v (in-lt f K small live i) (omega (arith, k)) (omega (arith, k)), long-from {r = r} m live (reach_snoc i (edge_on f K r k e)) p)
   long-from {r} m live i (calling.Path.calls {v} k p) =
-      omega (arith, pays v (in-lt f K small live i) (omega (arith, k)) (omega (arith, k)), long-from (inner m live i k) (call live i k) here p)
+      omega (arith, pays v (in-lt f K small live i) (omega (arith, k)) (omega (arith, k)), long-from {r = calling.called (f.entry v)} (inner m live i k) (call live i k) here p)
   long-from (inner {r = r} m live' j c) live i (calling.Path.ret {v} k p) =
-      omega (arith, pays v (in-lt f K small live i) (omega (arith, k)) (omega (arith, k)), long-from m live' (reach_snoc j (edge-call f K r c)) p)
+      omega (arith, pays v (in-lt f K small live i) (omega (arith, k)) (omega (arith, k)), long-from {r = r} m live' (reach_snoc j (edge-call f K r c)) p)
 
   pub path-length : {l : List ℕ} → HandlerPath f K l → length l ≤ sum cycles l
   path-length p = long-from none handler here p

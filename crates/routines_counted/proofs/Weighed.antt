@@ -9,7 +9,6 @@ use native.Mathlib.Decide.{ℕ_discrete}
 use lib.ListN.{get_or}
 use Rattle.routines.specs.Calling.{Flow}
 use Rattle.counts.specs.Counts.{Count, Member, first, later}
-use Rattle.counts.specs.Weights as weights
 use Rattle.counts.specs.Weights.{Reached, Weighs, Product, Total, Once, Weight}
 use Rattle.counts.specs.Radix.{size, Masks}
 use Rattle.counts.proofs.Radix.{product_size}

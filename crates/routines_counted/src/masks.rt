@@ -64,7 +64,7 @@ pub fn weigh_count(words: &[u64], behind: &[u8], ahead: &[u8], masks: &mut [u16]
 }
 
 // Makes an array of zeros.
-fn clear_all(list: &mut [u16])
+fn clear_all(list: &mut [u32])
     requires { length list.old ≤ 16384 }
 {
     let mut i = 0;
@@ -83,11 +83,11 @@ pub fn weigh_at(
     ahead: &mut [u8],
     queue: &mut [u16],
     seeded: &mut [u64],
-    first: &mut [u16],
-    link: &mut [u16],
+    first: &mut [u32],
+    link: &mut [u32],
     masks: &mut [u16],
 )
-    requires { Sized words.now (length ahead.old) × Searches reached.now ahead.old queue.old behind.old × (0 < length ahead.old) × (length ahead.old ≤ length seeded.old)
+    requires { Sized words.now (length ahead.old) × Searches reached.now ahead.old queue.old behind.old × (0 < length ahead.old) × (length seeded.old ≡ 16384)
         × (length first.old ≤ 16384) × (length ahead.old ≤ length masks.old) × Halves masks.old }
     ensures { BitsTo (WeighsIn words.now reached.now at) masks.old (length ahead.old) masks.new }
 {

@@ -1,7 +1,7 @@
 -- The commands of the program sound, a line each. Sentences in quotation marks are of docs/PROGRAMS.md.
-use Rattle.std.specs.Prelude.{ℕ, min, Bool, true, false, List, [], ◌∷◌, eqb, leb}
+use Rattle.std.specs.Prelude.{ℕ, min, Bool, false, List, [], ◌∷◌, eqb, leb}
 use Prim.Native.Char.{code}
-use Rattle.laws.specs.Choice.{pick, both, either}
+use Rattle.laws.specs.Choice.{pick, either}
 use Rattle.text.specs.Digits.{characters}
 use Rattle.text.specs.Same.{same_text}
 use Rattle.text.specs.Words.{is_number, word_value}

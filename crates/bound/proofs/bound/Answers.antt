@@ -2,6 +2,4 @@
 use Rattle.bound.proofs.bound.Goals as goal
 
 pub returns : goal.returns
-returns c =
-    let shown = c.before.before.before.before in
-    rw (← shown.before.before.before.p3-given.ensures) shown.bound-shown.ensures
+returns c = rw (← c.p3_given.ensures) c.bound_shown.ensures

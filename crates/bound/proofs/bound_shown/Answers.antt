@@ -12,7 +12,7 @@ pub returns-then-image-image_size : goal.returns-then-image-image_size
 returns-then-image-image_size c = gives_1 (λ e. c.if-image-image_size.true (e ∙ sym c.image_size.ensures)) (kept _ _)
 
 pub returns-then-not-is_banked : goal.returns-then-not-is_banked
-returns-then-not-is_banked c = gives_2 (c.if-image-image_size.false ∙ c.image_size.ensures) (λ b. rw (sym c.is_banked.ensures ∙ not-true _ c.if-not-is_banked.true) at b) (kept _ _)
+returns-then-not-is_banked c = gives_2 (c.if-image-image_size.false ∙ c.image_size.ensures) (λ b. rw (sym c.is_banked.ensures ∙ c.if-not-is_banked.true) at b) (kept _ _)
 
 pub returns-then-address-gt-LAST_ADDRESS : goal.returns-then-address-gt-LAST_ADDRESS
 returns-then-address-gt-LAST_ADDRESS c =
@@ -21,14 +21,14 @@ returns-then-address-gt-LAST_ADDRESS c =
     let is-banked = c.is_banked in
     let if2 = c.if-not-is_banked in
     let if3 = c.if-address-gt-LAST_ADDRESS in
-    gives_20 (if1.false ∙ image-size.ensures) (true→T (sym is-banked.ensures ∙ not-false _ if2.false)) if3.true (kept _ _)
+    gives_20 (if1.false ∙ image-size.ensures) (true→T (sym is-banked.ensures ∙ if2.false)) if3.true (kept _ _)
 
 pub overflow_cast-p3 : goal.overflow_cast-p3
 overflow_cast-p3 c =
     let args = c.args in
     let is-banked = c.is_banked in
     let if2 = c.if-not-is_banked in
-    let h = ((banked args.d args.p3).sound (true→T (sym is-banked.ensures ∙ not-false _ if2.false))).0 in let n = also_nibble args.d 3 in omega arith
+    let h = ((banked args.d args.p3).sound (true→T (sym is-banked.ensures ∙ if2.false))).0 in let n = also_nibble args.d 3 in omega arith
 
 pub found-found-requires : goal.found-found-requires
 found-found-requires c =
@@ -38,7 +38,7 @@ found-found-requires c =
     let is-banked = c.is_banked in
     let if2 = c.if-not-is_banked in
     let if3 = c.if-address-gt-LAST_ADDRESS in
-    (rw (if1.false ∙ image-size.ensures) (window_fits args.d args.p3 (true→T (sym is-banked.ensures ∙ not-false _ if2.false))), omega (arith, if3.false))
+    (rw (if1.false ∙ image-size.ensures) (window_fits args.d args.p3 (true→T (sym is-banked.ensures ∙ if2.false))), omega (arith, if3.false))
 
 pub returns : goal.returns
 returns c =
@@ -49,4 +49,4 @@ returns c =
     let is-banked = c.is_banked in
     let if2 = c.if-not-is_banked in
     let if3 = c.if-address-gt-LAST_ADDRESS in
-    rw answer.ensures (answers _ _ _ _ _ _ _ _ found.result (if1.false ∙ image-size.ensures) (true→T (sym is-banked.ensures ∙ not-false _ if2.false)) (omega (arith, if3.false)) found.ensures)
+    rw answer.ensures (answers _ _ _ _ _ _ _ _ found.result (if1.false ∙ image-size.ensures) (true→T (sym is-banked.ensures ∙ if2.false)) (omega (arith, if3.false)) found.ensures)

@@ -9,7 +9,7 @@ bound_words-requires c =
     let args = c.args in
     let explore = c.explore-n in
     let pre = c.requires in
-    handler-words args.d (rom_of args.image.now args.p3) (λ at. (c.type_inv.image (in_image args.p3 at)).fits) args.address _ _ _ explore.ensures (explore.auto.1.1.1.1.1.0 ∙ pre.5) (explore.auto.1.1.1.1.0 ∙ pre.3)
+    handler-words args.d (rom_of args.image.now args.p3) (λ at. (c.type_inv.image (in_image args.p3 at)).fits) args.address _ _ _ explore.ensures (explore.auto.words ∙ pre.5) (explore.auto.map ∙ pre.3)
 
 pub returns : goal.returns
 returns c =

@@ -1,5 +1,6 @@
 -- `notation::sign` meets its contract.
 use borrow.Author.Tests.{ne_eqb}
+use borrow.Author.Rules.{rules}
 use Rattle.notation.specs.Notation.{sign}
 use Rattle.notation.proofs.sign.Goals as goal
 
@@ -34,5 +35,4 @@ returns-in-97 c = rw c.in-97.is (rw c.goes_to.ensures at c.marked-in-97.ensures)
 pub returns-in_default : goal.returns-in_default
 unfolding sign
 returns-in_default c =
-    let put = c.put in
-    rw (ne_eqb _ _ c.in_default.in_default-own.rest.0.0.0.0.0.0.1, ne_eqb _ _ c.in_default.in_default-own.rest.0.0.0.0.0.1, ne_eqb _ _ c.in_default.in_default-own.rest.0.0.0.0.1, ne_eqb _ _ c.in_default.in_default-own.rest.0.0.0.1, ne_eqb _ _ c.in_default.in_default-own.rest.0.0.1, ne_eqb _ _ c.in_default.in_default-own.rest.0.1, ne_eqb _ _ c.in_default.in_default-own.rest.1) put.ensures
+    rw (ne_eqb c.args.c 107 (search rules), ne_eqb c.args.c 120 (search rules), ne_eqb c.args.c 121 (search rules), ne_eqb c.args.c 98 (search rules), ne_eqb c.args.c 112 (search rules), ne_eqb c.args.c 114 (search rules), ne_eqb c.args.c 97 (search rules)) c.put.ensures

@@ -1,5 +1,6 @@
 -- `ports::is_writable` meets its contract.
 use mathlib.Core.Path.{◌∙◌}
+use borrow.Author.Rules.{rules}
 use Rattle.ports.proofs.Others.{also}
 use Rattle.ports.proofs.is_writable.Goals as goal
 
@@ -37,4 +38,4 @@ pub returns-in-30 : goal.returns-in-30
 returns-in-30 c = rw c.in-30.is
 
 pub returns-in_default : goal.returns-in_default
-returns-in_default c = c.also_writable.ensures ∙ also c.args.d c.args.n c.in_default.in_default-own.rest
+returns-in_default c = c.also_writable.ensures ∙ also c.args.d c.args.n (search rules)

@@ -1,4 +1,5 @@
 -- `ports::latch` meets its contract.
+use borrow.Author.Rules.{rules}
 use Rattle.ports.proofs.Others.{no-latch}
 use Rattle.ports.specs.Ports.{latch_of}
 use Rattle.ports.proofs.latch.Goals as goal
@@ -64,4 +65,4 @@ unfolding latch_of
 returns-in-30 c = rw c.in-30.is
 
 pub returns-in_default : goal.returns-in_default
-returns-in_default c = no-latch _ c.in_default.in_default-own.rest _
+returns-in_default c = no-latch _ (search rules) _

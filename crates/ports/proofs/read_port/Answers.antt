@@ -1,5 +1,6 @@
 -- `ports::read_port` meets its contract.
 use borrow.Author.Tests.{ne_eqb}
+use borrow.Author.Rules.{rules}
 use Rattle.ports.specs.Ports.{read_port}
 use Rattle.ports.proofs.read_port.Goals as goal
 
@@ -21,4 +22,4 @@ returns-in-9 c = rw c.in-9.is c.read_as-in-9.ensures
 
 pub returns-in_default : goal.returns-in_default
 unfolding read_port
-returns-in_default c = rw (ne_eqb _ 0 c.in_default.in_default-own.rest.0.0.0.1, ne_eqb _ 4 c.in_default.in_default-own.rest.0.0.1, ne_eqb _ 8 c.in_default.in_default-own.rest.0.1, ne_eqb _ 9 c.in_default.in_default-own.rest.1)
+returns-in_default c = rw (ne_eqb c.args.n 0 (search rules), ne_eqb c.args.n 4 (search rules), ne_eqb c.args.n 8 (search rules), ne_eqb c.args.n 9 (search rules))

@@ -1,4 +1,5 @@
 -- `ports::with_latch` meets its contract.
+use borrow.Author.Rules.{rules}
 use Rattle.ports.proofs.Others.{same-latches}
 use Rattle.ports.specs.Ports.{with_latch}
 use Rattle.ports.proofs.with_latch.Goals as goal
@@ -64,4 +65,4 @@ unfolding with_latch
 returns-in-30 c = rw c.in-30.is
 
 pub returns-in_default : goal.returns-in_default
-returns-in_default c = same-latches _ c.in_default.in_default-own.rest _ _
+returns-in_default c = same-latches _ (search rules) _ _

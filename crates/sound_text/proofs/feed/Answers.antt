@@ -1,6 +1,5 @@
 -- `sound_text::feed` meets its contract. The invariant: the characters before i are fed.
 use mathlib.Core.Path.{refl}
-use Prim.Native.Nat.{◌-◌}
 use native.Mathlib.Numerals.{add-one}
 use native.Mathlib.Omega.{arith}
 use borrow.Author.Rules.{rules}
@@ -21,7 +20,7 @@ pub loop-i-smaller : goal.loop-i-smaller
 loop-i-smaller c = omega arith
 
 pub loop-i-preserved : goal.loop-i-preserved
-loop-i-preserved c = (rw (add-one c.loop-i.i, take-suc c.args.part.now c.loop-i.i 0 c.loop-i-test.true) (fed_then c.loop-i.invariant.0 c.fed-p.ensures.0), omega arith, omega arith, search rules)
+loop-i-preserved c = (rw (add-one c.loop-i.i, take-suc c.args.part.now c.loop-i.i 0 c.loop-i-test.true) (fed_then c.loop-i.invariant.0 c.fed-p.ensures.feeds), omega arith, omega arith, search rules)
 
 pub returns : goal.returns
-returns c = (rw (take_all c.loop-i.i c.args.part.now c.loop-i-test.false) at c.loop-i.invariant.0, omega arith)
+returns c = record { feeds = rw (take_all c.loop-i.i c.args.part.now c.loop-i-test.false) at c.loop-i.invariant.0; at_in_bounds = omega arith }

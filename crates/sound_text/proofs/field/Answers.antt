@@ -8,4 +8,4 @@ pub decimal-requires : goal.decimal-requires
 decimal-requires c = omega (arith, places_up_to 2 c.args.v (omega arith), c.put_text-end.ensures.end)
 
 pub returns : goal.returns
-returns c = (wrote_then c.put_text-end.ensures c.decimal.ensures.0, omega (arith, places_up_to 2 c.args.v (omega arith), c.put_text-end.ensures.end))
+returns c = record { wrote = wrote_then c.put_text-end.ensures c.decimal.ensures.wrote; upper_bound = omega (arith, places_up_to 2 c.args.v (omega arith), c.put_text-end.ensures.end) }

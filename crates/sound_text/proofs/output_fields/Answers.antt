@@ -11,4 +11,4 @@ pub field-end-requires-2 : goal.field-end-requires-2
 field-end-requires-2 c = omega (arith, c.bit_of-2.ensures, bit_of_lt c.output-shown.result.high)
 
 pub returns : goal.returns
-returns c = (wrote_then (rw c.bit_of.ensures at c.field-end.ensures.0) (wrote_then c.put_text-end.ensures (wrote_then c.number-end.ensures.0 (wrote_then (rw (c.bit_of-2.ensures, c.output-shown.ensures) at c.field-end-2.ensures.0) (wrote_last c.put.ensures)))), omega arith)
+returns c = record { wrote = wrote_then (rw c.bit_of.ensures at c.field-end.ensures.wrote) (wrote_then c.put_text-end.ensures (wrote_then c.number-end.ensures.wrote (wrote_then (rw (c.bit_of-2.ensures, c.output-shown.ensures) at c.field-end-2.ensures.wrote) (wrote_last c.put.ensures)))); upper_bound = omega arith }

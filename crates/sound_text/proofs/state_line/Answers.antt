@@ -6,4 +6,4 @@ use Rattle.sound_text.proofs.state_line.Goals as goal
 
 pub returns : goal.returns
 unfolding state_line
-returns c = (wrote_then c.tone_fields-end.ensures.0 c.output_fields.ensures.0, omega arith)
+returns c = record { wrote = wrote_then c.tone_fields-end.ensures.wrote c.output_fields.ensures.wrote; upper_bound = omega arith }

@@ -10,8 +10,8 @@ returns-then-answer-eq0 c = rw (c.if-p.true, eq-eqb c.args.p.answer.number 0 c.i
 
 pub returns-then-p : goal.returns-then-p
 unfolding text_of
-returns-then-p c = rw (c.if-p.true, ne_eqb c.args.p.answer.number 0 c.if-answer-eq0.false) (c.refused_line.ensures.0, omega arith)
+returns-then-p c = rw (c.if-p.true, ne_eqb c.args.p.answer.number 0 c.if-answer-eq0.false) record { wrote = c.refused_line.ensures.wrote; upper_bound = omega arith }
 
 pub returns : goal.returns
 unfolding text_of
-returns c = rw c.if-p.false (c.put_text.ensures, omega arith)
+returns c = rw c.if-p.false record { wrote = c.put_text.ensures; upper_bound = omega arith }

@@ -8,4 +8,4 @@ pub field-end-requires-2 : goal.field-end-requires-2
 field-end-requires-2 c = omega (arith, c.bit_of.ensures, bit_of_lt c.args.s.asleep)
 
 pub returns : goal.returns
-returns c = (wrote_then c.field-end.ensures.0 (wrote_then (rw c.bit_of.ensures at c.field-end-2.ensures.0) (wrote_then c.field-end-3.ensures.0 (wrote_last c.field.ensures.0))), omega arith)
+returns c = record { wrote = wrote_then c.field-end.ensures.wrote (wrote_then (rw c.bit_of.ensures at c.field-end-2.ensures.wrote) (wrote_then c.field-end-3.ensures.wrote (wrote_last c.field.ensures.wrote))); upper_bound = omega arith }

@@ -1,6 +1,7 @@
 -- `writer::place` meets its contract.
 use borrow.Author.Tests.{eq-eqb, ne_eqb}
 use native.Mathlib.Omega.{arith}
+use borrow.Author.Rules.{rules}
 use Rattle.writer.proofs.place.Goals as goal
 
 pub returns-in-4 : goal.returns-in-4
@@ -13,4 +14,4 @@ pub returns-in-2 : goal.returns-in-2
 returns-in-2 c = (rw c.in-2.is, omega arith)
 
 pub returns-in_default : goal.returns-in_default
-returns-in_default c = (rw (ne_eqb _ 4 c.in_default.in_default-own.rest.0.0.1, ne_eqb _ 3 c.in_default.in_default-own.rest.0.1, ne_eqb _ 2 c.in_default.in_default-own.rest.1), omega arith)
+returns-in_default c = (rw (ne_eqb c.args.behind 4 (search rules), ne_eqb c.args.behind 3 (search rules), ne_eqb c.args.behind 2 (search rules)), omega arith)

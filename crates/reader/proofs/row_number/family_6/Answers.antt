@@ -3,13 +3,14 @@ use mathlib.Core.List.{[], ◌∷◌}
 use Prim.Native.Nat.{◌/◌, ◌%◌}
 use native.Mathlib.Omega.{arith}
 use lib.Dec.{ltb, ltb→lt}
+use borrow.Author.Rules.{rules}
 use Rattle.laws.proofs.Computed.{rest_at}
 use Rattle.sheet.specs.Reading.{row_number, row_with}
 use Rattle.reader.proofs.row_number.Arms.{whole, direct_reads}
 use Rattle.reader.proofs.row_number.family_6.Goals as goal
 
 pub row_60-requires : goal.row_60-requires
-row_60-requires c = (ltb→lt c.args.l 8 (rest_at (λ k. ltb k 8) (15 ∷ 14 ∷ 13 ∷ 12 ∷ 11 ∷ 10 ∷ 9 ∷ 8 ∷ 3 ∷ []) 16 tt c.args.l (omega arith) c.in_default.in_default-own.rest), λ e. c.in_default.in_default-own.rest.0.0.0.0.0.0.0.0.1 e)
+row_60-requires c = (ltb→lt c.args.l 8 (rest_at (λ k. ltb k 8) (15 ∷ 14 ∷ 13 ∷ 12 ∷ 11 ∷ 10 ∷ 9 ∷ 8 ∷ 3 ∷ []) 16 tt c.args.l (omega arith) (search rules)), search rules)
 
 pub returns-in-3 : goal.returns-in-3
 returns-in-3 c ds = rw (c.with_both.ensures, c.in-3.is) (c.row_63.ensures ds)

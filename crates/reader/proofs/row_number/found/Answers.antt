@@ -4,6 +4,7 @@ use mathlib.Core.List.{[], ◌∷◌}
 use Prim.Native.Nat.{ℕ, ◌/◌, ◌%◌, ◌<◌}
 use native.Mathlib.Omega.{arith}
 use lib.Dec.{eqb, ltb, ltb→lt}
+use borrow.Author.Rules.{rules}
 use Rattle.laws.proofs.Computed.{rest_at}
 use Rattle.sheet.specs.Reading.{insn, row_number, row_with}
 use Rattle.sheet.specs.declared.Read.TheVariants.{Row}
@@ -47,4 +48,4 @@ pub returns-in-15 : goal.returns-in-15
 returns-in-15 c ds = rw (c.with_both-in-15.ensures, c.in-15.is) (c.row_f.ensures (c.args.b1 / 16 ∷ c.args.b1 % 16 ∷ c.args.b2 / 16 ∷ c.args.b2 % 16 ∷ ds))
 
 pub returns-in_default : goal.returns-in_default
-returns-in_default c ds = rw c.with_both-in_default.ensures (unfold row_with in (let h : (c.args.b0 / 16) < 4 = ltb→lt (c.args.b0 / 16) 4 (rest_at (λ k. ltb k 4) (15 ∷ 14 ∷ 13 ∷ 12 ∷ 11 ∷ 10 ∷ 9 ∷ 8 ∷ 7 ∷ 6 ∷ 5 ∷ 4 ∷ []) 16 tt (c.args.b0 / 16) (omega arith) c.in_default.in_default-own.rest) in ap (λ (n : ℕ). Row (insn 47 n 0)) (omega arith)) ∙ row_is 47 _ (rest_at (λ k. eqb (row_number (k ∷ c.args.b0 % 16 ∷ c.args.b1 / 16 ∷ c.args.b1 % 16 ∷ c.args.b2 / 16 ∷ c.args.b2 % 16 ∷ ds)) 47) (15 ∷ 14 ∷ 13 ∷ 12 ∷ 11 ∷ 10 ∷ 9 ∷ 8 ∷ 7 ∷ 6 ∷ 5 ∷ 4 ∷ []) 16 (unfold row_number in tt) (c.args.b0 / 16) (omega arith) c.in_default.in_default-own.rest))
+returns-in_default c ds = rw c.with_both-in_default.ensures (unfold row_with in (let h : (c.args.b0 / 16) < 4 = ltb→lt (c.args.b0 / 16) 4 (rest_at (λ k. ltb k 4) (15 ∷ 14 ∷ 13 ∷ 12 ∷ 11 ∷ 10 ∷ 9 ∷ 8 ∷ 7 ∷ 6 ∷ 5 ∷ 4 ∷ []) 16 tt (c.args.b0 / 16) (omega arith) (search rules)) in ap (λ (n : ℕ). Row (insn 47 n 0)) (omega arith)) ∙ row_is 47 _ (rest_at (λ k. eqb (row_number (k ∷ c.args.b0 % 16 ∷ c.args.b1 / 16 ∷ c.args.b1 % 16 ∷ c.args.b2 / 16 ∷ c.args.b2 % 16 ∷ ds)) 47) (15 ∷ 14 ∷ 13 ∷ 12 ∷ 11 ∷ 10 ∷ 9 ∷ 8 ∷ 7 ∷ 6 ∷ 5 ∷ 4 ∷ []) 16 (unfold row_number in tt) (c.args.b0 / 16) (omega arith) (search rules)))

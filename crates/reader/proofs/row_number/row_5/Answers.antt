@@ -3,6 +3,7 @@ use mathlib.Core.Path.{◌≡◌, refl}
 use mathlib.Core.List.{[], ◌∷◌}
 use native.Mathlib.Omega.{arith}
 use lib.Dec.{eqb, eqb→eq}
+use borrow.Author.Rules.{rules}
 use Rattle.laws.proofs.Computed.{rest_at}
 use Rattle.sheet.specs.Reading.{row_number, row_with}
 use Rattle.reader.proofs.row_number.row_5.Goals as goal
@@ -47,4 +48,4 @@ pub returns-in-15 : goal.returns-in-15
 returns-in-15 c ds = rw c.in-15.is (unfold row_number row_with in refl)
 
 pub returns-in_default : goal.returns-in_default
-returns-in_default c ds = let e : c.args.l ≡ 4 = eqb→eq c.args.l 4 (rest_at (λ k. eqb k 4) (7 ∷ 5 ∷ 15 ∷ 14 ∷ 13 ∷ 12 ∷ 11 ∷ 10 ∷ 9 ∷ 8 ∷ 6 ∷ 3 ∷ 2 ∷ 1 ∷ 0 ∷ []) 16 tt c.args.l (omega arith) ((c.in_default.in_default-own.rest, c.requires.1), c.requires.2)) in rw e (unfold row_number row_with in refl)
+returns-in_default c ds = let e : c.args.l ≡ 4 = eqb→eq c.args.l 4 (rest_at (λ k. eqb k 4) (7 ∷ 5 ∷ 15 ∷ 14 ∷ 13 ∷ 12 ∷ 11 ∷ 10 ∷ 9 ∷ 8 ∷ 6 ∷ 3 ∷ 2 ∷ 1 ∷ 0 ∷ []) 16 tt c.args.l (omega arith) ((search rules, c.requires.1), c.requires.2)) in rw e (unfold row_number row_with in refl)

@@ -3,6 +3,7 @@ use mathlib.Core.Path.{◌≡◌, refl}
 use mathlib.Core.List.{[], ◌∷◌}
 use native.Mathlib.Omega.{arith}
 use lib.Dec.{eqb, eqb→eq}
+use borrow.Author.Rules.{rules}
 use Rattle.laws.proofs.Computed.{rest_at}
 use Rattle.sheet.specs.Reading.{row_number, row_with}
 use Rattle.reader.proofs.row_number.row_60.Goals as goal
@@ -26,4 +27,4 @@ pub returns-in-6 : goal.returns-in-6
 returns-in-6 c ds = rw c.in-6.is (unfold row_number row_with in refl)
 
 pub returns-in_default : goal.returns-in_default
-returns-in_default c ds = let e : c.args.l ≡ 7 = eqb→eq c.args.l 7 (rest_at (λ k. eqb k 7) (3 ∷ 6 ∷ 5 ∷ 4 ∷ 2 ∷ 1 ∷ 0 ∷ []) 8 tt c.args.l (omega arith) (c.in_default.in_default-own.rest, c.requires.1)) in rw e (unfold row_number row_with in refl)
+returns-in_default c ds = let e : c.args.l ≡ 7 = eqb→eq c.args.l 7 (rest_at (λ k. eqb k 7) (3 ∷ 6 ∷ 5 ∷ 4 ∷ 2 ∷ 1 ∷ 0 ∷ []) 8 tt c.args.l (omega arith) (search rules, c.requires.1)) in rw e (unfold row_number row_with in refl)

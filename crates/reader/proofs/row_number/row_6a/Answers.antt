@@ -1,6 +1,7 @@
 -- `reader::row_number::row_6a` meets its contract.
 use mathlib.Core.Path.{refl}
 use native.Mathlib.Omega.{arith}
+use borrow.Author.Rules.{rules}
 use Rattle.sheet.specs.Reading.{row_number, row_with}
 use Rattle.reader.proofs.row_number.Arms.{unnamed}
 use mathlib.Core.Logic.{⊎_elim}
@@ -37,4 +38,4 @@ pub returns-in-255 : goal.returns-in-255
 returns-in-255 c ds = rw c.in-255.is (unfold row_number row_with in refl)
 
 pub returns-in_default : goal.returns-in_default
-returns-in_default c ds = ⊎_elim (λ e. rw e (unfold row_number row_with in refl)) (λ e. rw e (unfold row_number row_with in refl)) (unnamed c.args.b1 (omega arith) (omega arith) c.in_default.in_default-own.rest)
+returns-in_default c ds = ⊎_elim (λ e. rw e (unfold row_number row_with in refl)) (λ e. rw e (unfold row_number row_with in refl)) (unnamed c.args.b1 (omega arith) (omega arith) (search rules))

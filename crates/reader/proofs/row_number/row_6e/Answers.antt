@@ -3,6 +3,7 @@ use mathlib.Core.Path.{refl}
 use mathlib.Core.List.{[], ◌∷◌}
 use Prim.Native.Nat.{◌%◌}
 use native.Mathlib.Omega.{arith}
+use borrow.Author.Rules.{rules}
 use Rattle.sheet.specs.Reading.{row_number, row_with}
 use Rattle.reader.proofs.row_number.Arms.{by-rest}
 use Rattle.reader.proofs.row_number.row_6e.Goals as goal
@@ -44,4 +45,4 @@ pub returns-in-15 : goal.returns-in-15
 returns-in-15 c ds = rw c.in-15.is (unfold row_number row_with in refl)
 
 pub returns-in_default : goal.returns-in_default
-returns-in_default c ds = unfold row_with in by-rest 6 14 0 (c.args.b1 % 16) ds (15 ∷ 14 ∷ 13 ∷ 12 ∷ 11 ∷ 9 ∷ 7 ∷ 6 ∷ 5 ∷ 4 ∷ 3 ∷ 1 ∷ []) (unfold row_number in tt) c.args.b1 (omega arith) c.in_default.in_default-own.rest
+returns-in_default c ds = unfold row_with in by-rest 6 14 0 (c.args.b1 % 16) ds (15 ∷ 14 ∷ 13 ∷ 12 ∷ 11 ∷ 9 ∷ 7 ∷ 6 ∷ 5 ∷ 4 ∷ 3 ∷ 1 ∷ []) (unfold row_number in tt) c.args.b1 (omega arith) (search rules)

@@ -3,6 +3,7 @@ use mathlib.Core.Path.{ap}
 use mathlib.Core.List.{[], ◌∷◌}
 use Prim.Native.Nat.{ℕ, ◌%◌}
 use native.Mathlib.Omega.{arith}
+use borrow.Author.Rules.{rules}
 use Rattle.sheet.specs.Reading.{insn, row_number, row_with}
 use Rattle.sheet.specs.declared.Read.TheVariants.{Row}
 use Rattle.reader.proofs.row_number.Arms.{by-rest}
@@ -27,4 +28,4 @@ pub returns-in-12 : goal.returns-in-12
 returns-in-12 c ds = rw c.in-12.is (unfold row_number row_with in ap (λ (p : ℕ). Row (insn 75 0 p)) (omega arith))
 
 pub returns-in_default : goal.returns-in_default
-returns-in_default c ds = unfold row_with in by-rest 6 15 0 (c.args.b1 % 16) ds (12 ∷ 9 ∷ 8 ∷ 4 ∷ 1 ∷ 0 ∷ []) (unfold row_number in tt) c.args.b1 (omega arith) c.in_default.in_default-own.rest
+returns-in_default c ds = unfold row_with in by-rest 6 15 0 (c.args.b1 % 16) ds (12 ∷ 9 ∷ 8 ∷ 4 ∷ 1 ∷ 0 ∷ []) (unfold row_number in tt) c.args.b1 (omega arith) (search rules)

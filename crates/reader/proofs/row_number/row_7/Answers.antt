@@ -3,6 +3,7 @@ use mathlib.Core.Path.{refl}
 use mathlib.Core.List.{[], ◌∷◌}
 use native.Mathlib.Omega.{arith}
 use lib.Dec.{eqb}
+use borrow.Author.Rules.{rules}
 use Rattle.laws.proofs.Computed.{rest_at}
 use Rattle.sheet.specs.Reading.{row_number, row_with}
 use Rattle.reader.proofs.row_number.Arms.{row_is}
@@ -51,4 +52,4 @@ pub returns-in-15 : goal.returns-in-15
 returns-in-15 c ds = rw c.in-15.is (unfold row_number row_with in refl)
 
 pub returns-in_default : goal.returns-in_default
-returns-in_default c ds = unfold row_with in row_is 0 (7 ∷ c.args.l ∷ ds) (rest_at (λ k. eqb (row_number (7 ∷ k ∷ ds)) 0) (15 ∷ 14 ∷ 13 ∷ 12 ∷ 11 ∷ 9 ∷ 8 ∷ 6 ∷ 5 ∷ 4 ∷ 3 ∷ 2 ∷ 1 ∷ 0 ∷ []) 16 (unfold row_number in tt) c.args.l (omega arith) c.in_default.in_default-own.rest)
+returns-in_default c ds = unfold row_with in row_is 0 (7 ∷ c.args.l ∷ ds) (rest_at (λ k. eqb (row_number (7 ∷ k ∷ ds)) 0) (15 ∷ 14 ∷ 13 ∷ 12 ∷ 11 ∷ 9 ∷ 8 ∷ 6 ∷ 5 ∷ 4 ∷ 3 ∷ 2 ∷ 1 ∷ 0 ∷ []) 16 (unfold row_number in tt) c.args.l (omega arith) (search rules))
