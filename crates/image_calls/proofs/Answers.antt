@@ -4,12 +4,12 @@ use mathlib.Core.List.{List}
 use mathlib.Core.Bool.{Bool, true, false}
 use mathlib.Core.Path.{◌≡◌, refl, sym, ap, subst, ◌∙◌}
 use native.Mathlib.Omega.{arith}
-use lib.Dec.{T, eqb, leb, eqb→eq, ltb, ltb→lt, leb→le}
+use lib.Dec.{eqb, leb, eqb→eq, ltb, ltb→lt, leb→le}
 use lib.ListN.{length}
 use Rattle.laws.specs.Choice.{pick}
-use Rattle.laws.proofs.Computed.{true→T, below, at}
+use Rattle.laws.proofs.Computed.{true→T, at}
 use Rattle.numbers.specs.Sizes.{addresses}
-use Rattle.numbers.specs.ComesBack.{Paper, value_at, refused, record_outside_the_ranges, address_over_8191, image_of_another_size}
+use Rattle.numbers.specs.ComesBack.{Paper, refused, record_outside_the_ranges, address_over_8191, image_of_another_size}
 use Rattle.sheet.specs.Reading.{read_at}
 use Rattle.sheet.specs.Fields.{field_a}
 use Rattle.sheet.specs.Table.{lines, line_at}

@@ -8,8 +8,7 @@ use lib.Dec.{T, eqb}
 use Rattle.laws.specs.Choice.{pick}
 use Rattle.laws.proofs.Computed.{T→true, below, implies, out, NoKey, rest_at}
 use Rattle.numbers.specs.Sizes.{addresses}
-use Rattle.sheet.specs.Flow.{target_of, call_entry}
-use Rattle.sheet.specs.Operation.{Operation, Target, Entry}
+use Rattle.sheet.specs.Operation.{Operation}
 use Rattle.sheet.specs.Operation.Operation.{work, branch, call, return, return_flag, IL⟵IL-and-r, no_operation}
 use Rattle.sheet.specs.Operation.Target.{page, half, whole}
 use Rattle.sheet.specs.Operation.Entry.{long, short}

@@ -4,9 +4,9 @@ use mathlib.Core.List.{List, [], ◌++◌}
 use mathlib.Core.Bool.{Bool, true, false}
 use mathlib.Core.Path.{◌≡◌, refl, sym, ap, ◌∙◌}
 use native.Mathlib.Omega.{arith}
-use lib.Dec.{T, ltb, lt→ltb, ltb→lt}
+use lib.Dec.{ltb, lt→ltb, ltb→lt}
 use lib.ListN.{length, take, drop}
-use lib.Seq.{take_all}
+use borrow.Rule.Slice.PartMut.{put_mid}
 use Rattle.laws.specs.Choice.{pick}
 use Rattle.laws.specs.Writing.{Wrote}
 use Rattle.laws.proofs.Computed.{true→T, T→true}
@@ -59,7 +59,7 @@ module _ (d : Device) (image : List ℕ) (p3 address : ℕ) {n : ReadNumbers} (o
     pub not-fitting : length buffer < end → NotationCall d image p3 address buffer 0 end buffer
     not-fitting h = answers buffer (kept (row_text address n.insn) buffer (omega (arith, w.end)))
 
-    pub fitting : (out : List ℕ) → end ≤ length buffer → out ≡ take (length (take end room')) (take end room') ++ drop (length (take end room')) buffer → NotationCall d image p3 address buffer 0 end out
-    fitting out h e =
-        answers out
-        (e ∙ (rw (in-room w) (ap (λ (t : List ℕ). t ++ drop (length (row_text address n.insn)) buffer) (take_all (length (row_text address n.insn)) (row_text address n.insn) (omega arith))) ∙ put (row_text address n.insn) buffer (omega (arith, w.end))))
+    pub fitting : (y : List ℕ) → end ≤ length buffer → y ≡ take end room' → NotationCall d image p3 address buffer 0 end (put_mid 0 end buffer y)
+    fitting y h e =
+        let k : end ≡ length (row_text address n.insn) = omega (arith, w.end) in
+        answers (put_mid 0 end buffer y) (rw (e ∙ in-room w, k) (put (row_text address n.insn) buffer (omega arith)))

@@ -12,7 +12,6 @@ ghost use Rattle.image_calls.specs.Operands.{Fits, begins_in_b, operand_at, goes
 ghost use Rattle.image_calls.specs.Pane.{ReadCall, LengthCall, RowCall, NotationCall, BoundCall};
 
 use bound::bound;
-use bytes::copy;
 use device::Device;
 use numbers::{
     ADDRESS_OVER_8191, IMAGE_OF_ANOTHER_SIZE, PAST_END, RECORD_OUTSIDE_THE_RANGES, UNASSIGNED_CODE,
@@ -222,7 +221,7 @@ pub fn notation_call(
     let end = notation::row(&mut room, 0, address as u16, insn);
     *length = end as u32;
     if end <= text.len() {
-        copy(&room[..end], text);
+        text[..end].copy_from_slice(&room[..end]);
     }
     0
 }

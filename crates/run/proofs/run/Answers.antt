@@ -1,6 +1,5 @@
 -- `run::run` meets its contract.
 use mathlib.Core.Path.{sym, ◌∙◌}
-use borrow.Author.Tests.{not-true, not-false}
 use Rattle.step.proofs.Answering.{denied, passes}
 use Rattle.run.proofs.Answering.{refused_1, refused_2, refused_3, refused_4, ran}
 use Rattle.run.proofs.Going.{most_in_a_word}
