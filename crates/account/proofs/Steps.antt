@@ -11,7 +11,7 @@ use Rattle.laws.proofs.Choices.{picked}
 use Rattle.bits.specs.Bits.{bit_of}
 use Rattle.edges.specs.Edges.{wakes}
 use Rattle.frame.specs.declared.Pins.{Pins}
-use Rattle.clock.specs.Clock.{is_multiple, counts, passes, counted, count, gained, met, tick, passed, event_count}
+use Rattle.clock.specs.Clock.{is_multiple, counts, counted, gained, met, tick, passed, event_count}
 use Rattle.clock.specs.declared.Time.{Time}
 use Rattle.clock.specs.declared.Rates.{Rates}
 use Rattle.clock.proofs.Quiet.{passed_base}

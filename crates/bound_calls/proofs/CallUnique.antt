@@ -5,12 +5,11 @@ use mathlib.Core.List.{List}
 use Prim.Native.Nat.{ℕ, ◌<◌, ◌≤◌}
 use native.Mathlib.Decide.{ℕ_discrete, dec_lt}
 use native.Mathlib.Omega.{arith}
-use lib.Dec.{T}
 use lib.ListN.{length}
 use Rattle.numbers.specs.ComesBack.{Paper}
 use Rattle.device.specs.Device.{image_size, rom_of, is_banked, Banked}
 use Rattle.device.specs.declared.Device.{Device}
-use Rattle.routines.specs.Answer.{Found, Kept, Answer}
+use Rattle.routines.specs.Answer.{Kept}
 use Rattle.routines.proofs.OneAnswer.{one_answer}
 use Rattle.routines.proofs.Total.{answered}
 use Rattle.bound_calls.specs.CallFlow.{call_flow, call_cycles}

@@ -1,5 +1,5 @@
 -- Where neither a call nor a row storing to SP is reachable, the outer routine is document 01's graph, and what is answered is document 01's answer, joined by depth 0.
-use mathlib.Core.Path.{◌≡◌, refl, sym, ap, subst, ◌∙◌}
+use mathlib.Core.Path.{◌≡◌, refl, sym, subst, ◌∙◌}
 use mathlib.Core.Logic.{◌⊎◌, inl, inr, ⊎_elim}
 use mathlib.Core.Bool.{Bool, true, false, not}
 use mathlib.Core.List.{List, ◌++◌}
@@ -28,13 +28,13 @@ use Rattle.routines.specs.Answer as routines
 use Rattle.routines.specs.Answer.{LowestAddress, bytes_of, Found, short, bounds, Kept, PathAnswer, FlowAnswer, Answer}
 use Rattle.routines.proofs.First.{first_unique}
 use Rattle.routines.proofs.Base.{NoCalls, bad-base, loop-base, base-bad, base-loop, judged-any, old_answer, new-answer, next-deepest, depth-zero}
-use Rattle.bound_flow.specs.Flow.{place, address_of, is_known, Way, way_by, node_by, node_read, node_of, flow_graph, flow_cost, start_of}
+use Rattle.bound_flow.specs.Flow.{address_of, is_known, Way, way_by, node_by, node_read, node_of, flow_graph, flow_cost, start_of}
 use Rattle.bound_flow.specs.Flow.{Node}
 use Rattle.bound_flow.specs.Bound.{HasBound}
 use Rattle.bound_flow.proofs.Inside.{node_good, flow_inside}
 use Rattle.bound_calls.specs.declared.CallNode.{CallNode}
 use Rattle.bound_calls.specs.CallFlow.{is_sp, CallWay, call_way_by, call_node_by, call_node_read, call_node_of, call_flow, call_cycles}
-use Rattle.bound_calls.specs.OldAnswer.{is_plain, Plain, OldFound, old_21, old_22, old_23, old_n, OldAnswer, DepthPath, Joined, same_21, same_22, same_23, depth_23, same_n, Stands, OldAnswerStands}
+use Rattle.bound_calls.specs.OldAnswer.{is_plain, Plain, old_23, old_n, OldAnswer, DepthPath, Joined, same_21, same_22, same_23, depth_23, same_n, OldAnswerStands}
 use Rattle.bound_calls.proofs.Shape.{few_kinds, flow-small, flow_widens}
 
 -- a place's kind in the outer routine

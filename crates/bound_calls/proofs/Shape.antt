@@ -1,5 +1,5 @@
 -- The flow rules with calls are finite, and to know SF only takes ways away.
-use mathlib.Core.Path.{◌≡◌, refl, ap}
+use mathlib.Core.Path.{◌≡◌, refl}
 use mathlib.Core.Logic.{◌⊎◌, inl, inr, ⊎_elim}
 use mathlib.Core.Bool.{Bool, true, false}
 use Prim.Native.Nat.{ℕ, ◌+◌, ◌*◌, ◌%◌, ◌<◌, ◌≤◌}
@@ -7,7 +7,7 @@ use native.Mathlib.Decide.{ℕ_discrete}
 use native.Mathlib.Omega.{arith}
 use borrow.Author.Tests.{eq-eqb, ne_eqb}
 use lib.Dec.{T, leb, leb→le, eqb}
-use Rattle.laws.specs.Choice.{pick, both}
+use Rattle.laws.specs.Choice.{pick}
 use Rattle.laws.proofs.Computed.{at, both_left, both_right}
 use Rattle.device.specs.declared.Device.{Device}
 use Rattle.sheet.specs.Operation.{Entry, Operation}
@@ -20,10 +20,8 @@ use Rattle.sheet.specs.declared.Read.{Read}
 use Rattle.reader.proofs.Rows.{read-in-fields}
 use Rattle.row.specs.Columns.{work_puts}
 use Rattle.row.proofs.RowsValid.{fits_operation, line_fits}
-use Rattle.routines.specs.Calling.{Flow}
 use Rattle.routines.specs.Shape.{Small, Narrower, Widens}
 use Rattle.bound_flow.specs.Flow.{place, address_of, is_known, Way, way_by, node_by}
-use Rattle.bound_flow.specs.Flow.{Node}
 use Rattle.bound_flow.proofs.Inside.{Good, cycles_of_lem, way-good, place_lt, nowhere-good}
 use Rattle.bound_calls.specs.declared.CallNode.{CallNode}
 use Rattle.bound_calls.specs.CallFlow.{is_sp, CallWay, call_way_by, call_node_by, no_node, call_node_read, call_node_of, call_flow}

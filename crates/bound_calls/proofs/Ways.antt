@@ -17,7 +17,7 @@ use Rattle.sheet.specs.Table.{Mark, lines, line_at}
 use Rattle.sheet.specs.Fields.{InFields}
 use Rattle.sheet.specs.declared.Insn.{Insn}
 use Rattle.row.specs.Columns.{work_puts, sets_ei, writes_port}
-use Rattle.bound_flow.specs.Flow.{Way, is_one}
+use Rattle.bound_flow.specs.Flow.{is_one}
 use Rattle.bound_flow.specs.Flow.Way.{nowhere, onward}
 use Rattle.bound_calls.specs.CallFlow.{is_sp, CallWay, call_way_by, call_way_of}
 use Rattle.bound_calls.specs.CallFlow.CallWay.{as_before}

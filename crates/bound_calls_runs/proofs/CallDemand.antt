@@ -29,7 +29,7 @@ use Rattle.bound_calls_runs.proofs.Levels.{kept_level}
 use Rattle.bound_calls_runs.proofs.CallSteps.{Shown, emulated, At, one_step}
 
 -- both places after a call are at one address, and the first has SF unknown
-standard : (d : Device) (rom : ℕ → ℕ) → ((at : ℕ) → rom at < 256) → (start : ℕ) → Standard (call_flow d rom start) 16384 (call_cycles d rom) address_of
+pub standard : (d : Device) (rom : ℕ → ℕ) → ((at : ℕ) → rom at < 256) → (start : ℕ) → Standard (call_flow d rom start) 16384 (call_cycles d rom) address_of
 unfolding call_flow call_cycles
 standard d rom bytes start = record { costs = λ v l a b. (call-node-good d rom bytes v l).pos a b; one_address = λ v k. one v (after_call d rom v k); unknown_after = λ v k. none v (after_call d rom v k) }
   where
@@ -40,23 +40,23 @@ standard d rom bytes start = record { costs = λ v l a b. (call-node-good d rom 
     none v a = rw a.next (unknown_of a.at)
 
 -- the frames, each with its range
-abbrev framed : (d : Device) (frames : List Pins) → AllInRange d frames → List (Shown d)
+abbrev pub framed : (d : Device) (frames : List Pins) → AllInRange d frames → List (Shown d)
 framed d [] shown = []
 framed d (pins ∷ others) shown = record { pins = pins; in_range = shown.0 } ∷ framed d others shown.1
 
-framed_length : (d : Device) (frames : List Pins) (shown : AllInRange d frames) → length (framed d frames shown) ≡ length frames
+pub framed_length : (d : Device) (frames : List Pins) (shown : AllInRange d frames) → length (framed d frames shown) ≡ length frames
 framed_length d [] shown = refl
 framed_length d (pins ∷ others) shown = ap suc (framed_length d others shown.1)
 
 module _ (rom : ℕ → ℕ → ℕ) (o : Options) where
-  spares : (start : ℕ) (m : Machine) (frames : List Pins) (shown : AllInRange o.device frames) → SparesStack rom o start m frames → runs.SparesStack (emulated rom o) start m (framed o.device frames shown)
+  pub spares : (start : ℕ) (m : Machine) (frames : List Pins) (shown : AllInRange o.device frames) → SparesStack rom o start m frames → runs.SparesStack (emulated rom o) start m (framed o.device frames shown)
   unfolding runs.SparesStack
   spares start m [] shown s = tt
   spares start m (pins ∷ others) shown s =
       λ goes. (λ none i a b. kept_level start m (step_of rom o m pins).machine ((s goes).0 none) i a b, spares start (step_of rom o m pins).machine others shown.1 (s goes).1)
 
 -- a run that ends, by its frames; at RTI with SP as at the start
-record EndsBy (rom : ℕ → ℕ → ℕ) (o : Options) (m : Machine) (sp : ℕ) (frames : List Pins) (steps spent : ℕ) : Type 0 where
+pub record EndsBy (rom : ℕ → ℕ → ℕ) (o : Options) (m : Machine) (sp : ℕ) (frames : List Pins) (steps spent : ℕ) : Type 0 where
   pub before : List Pins
   pub last : Pins
   pub after : List Pins
@@ -68,8 +68,9 @@ record EndsBy (rom : ℕ → ℕ → ℕ) (o : Options) (m : Machine) (sp : ℕ)
   pub cycles : (run_of rom o m before).cycles + (step_of rom o (run_of rom o m before).machine last).cycles ≡ spent
 
 module _ (rom : ℕ → ℕ → ℕ) (o : Options) where
-  ends_by : (frames : List Pins) (m : Machine) {sp : ℕ} (shown : AllInRange o.device frames) {k n : ℕ} → runs.EndsAt (emulated rom o) sp m (framed o.device frames shown) k n → EndsBy rom o m sp frames k n
+  unfoldable pub ends_by : (frames : List Pins) (m : Machine) {sp : ℕ} (shown : AllInRange o.device frames) {k n : ℕ} → runs.EndsAt (emulated rom o) sp m (framed o.device frames shown) k n → EndsBy rom o m sp frames k n
   unfolding run_of
+  ends_by [] m {sp = sp} shown {k = k} {n = n} e = elim e [ ]
   ends_by (pins ∷ others) m shown (runs.EndsAt.now e r) = record { before = []; last = pins; after = others; parts = refl; count = refl; completes = refl; ends = e; own = r; cycles = omega arith }
   ends_by (pins ∷ others) m shown (runs.EndsAt.later past e) =
       let q = ends_by others (step_of rom o m pins).machine shown.1 e in
@@ -87,7 +88,7 @@ module _ (rom : ℕ → ℕ → ℕ) (o : Options) where
       }
 
 -- "the start is known"
-enters_at : {d : Device} {m : Machine} {p3 start : ℕ} → Enters d m p3 start → At d p3 m (start_of start)
+pub enters_at : {d : Device} {m : Machine} {p3 start : ℕ} → Enters d m p3 start → At d p3 m (start_of start)
 enters_at {start = start} e = record { valid = e.valid; stands = record { at = e.at ∙ sym (address_place start true); running = e.running; ei = e.ei; bank = e.bank; sf = λ k. e.sf } }
 
 module _ (rom : ℕ → ℕ → ℕ) (bytes : (p3 at : ℕ) → rom p3 at < 256) (o : Options) (p3 start : ℕ) (start-lt : start < 8192) where

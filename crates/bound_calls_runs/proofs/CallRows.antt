@@ -11,7 +11,7 @@ use Rattle.sheet.specs.Operation.Operation.{return_flag}
 use Rattle.sheet.specs.Table.{Line}
 use Rattle.sheet.specs.Flow.{call_entry}
 use Rattle.ports.specs.declared.Mode.TheVariants.{Running}
-use Rattle.record.specs.Stack.{can_push, can_pop, CanPush, called, popped, kept_top, top_at, pc_at, level}
+use Rattle.record.specs.Stack.{can_push, can_pop, CanPush, called, popped, kept_top, top_at, pc_at}
 use Rattle.record.specs.Valid.{Nibbles}
 use Rattle.record.specs.declared.Machine.{Machine}
 use Rattle.record.proofs.Levels.{pc-back}
@@ -23,7 +23,6 @@ use Rattle.row.specs.Columns.{work_puts}
 use Rattle.row.proofs.RowStops.{Named}
 use Rattle.row.proofs.RowsValid.{fits_operation}
 use Rattle.bound_flow.specs.Flow.{place, address_of, is_known, Way, way_by, node_by}
-use Rattle.bound_flow.specs.Flow.{Node}
 use Rattle.bound_runs.proofs.Lines.{sets_branching}
 use Rattle.bound_runs.proofs.Standing.{Standing, address_place, known_place}
 use Rattle.bound_runs.proofs.Rows.{RowFollows, stops_named, returns, goes, Allowed, row-follows}

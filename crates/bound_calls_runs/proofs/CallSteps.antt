@@ -79,7 +79,7 @@ module _ (rom : ℕ → ℕ → ℕ) (bytes : (p3 at : ℕ) → rom p3 at < 256)
   abbrev after : Done
   after = step_of rom o m x.pins
 
-  node-is : (i : Insn) → read_at (rom p3) m.core.pc ≡ Read.Row i → node ≡ call_node_row o.device m.core.pc (is_known v) i (line_at i.row)
+  pub node-is : (i : Insn) → read_at (rom p3) m.core.pc ≡ Read.Row i → node ≡ call_node_row o.device m.core.pc (is_known v) i (line_at i.row)
   unfolding call_node_of
   node-is i read = rw (← at.stands.at, read)
 
@@ -87,7 +87,7 @@ module _ (rom : ℕ → ℕ → ℕ) (bytes : (p3 at : ℕ) → rom p3 at < 256)
   rti-kind : Returns rom o m x.pins → node.kind ≡ 2
   rti-kind r = ap (λ (n : CallNode). n.kind) (node-is r.insn (rw at.stands.bank at r.read)) ∙ rw r.is_rti
 
-  call-kind : ExecutesCall rom o m x.pins → node.kind ≡ 3
+  pub call-kind : ExecutesCall rom o m x.pins → node.kind ≡ 3
   call-kind r = ap (λ (n : CallNode). n.kind) (node-is r.insn (rw at.stands.bank at r.read)) ∙ rw r.is_call
 
   not-ended : (node.kind ≡ 2 → ⊥) → after.stop ≡ 0 → Ends rom o m x.pins → ⊥

@@ -45,15 +45,19 @@ module _ (d : Device) (image : List ℕ) (p3 start N depth : ℕ) (path path' de
       → HasBound (call_flow d (rom_of image p3) start) (call_cycles d (rom_of image p3)) K N depth l k
   bounds-same same b = rw (sym (ap (λ (q : Paper). get_or q.values 0 0) same), sym (ap (λ (q : Paper). get_or q.values 1 0) same)) b
 
+  -- a path that is found goes with the values of its answer
+  of-path : {n e : ℕ} {l k : List ℕ} {x : Found} → PathAnswer address_of path path' deep deep' n e l k x → N-is (paper_of_found x) → answered (n ∷ e ∷ []) ≡ answered (N ∷ depth ∷ [])
+  of-path (PathAnswer.gives_25 l k) same = absurd (not_0 same tt refl)
+  of-path (PathAnswer.gives_23 l s k) same = absurd (not_0 same tt refl)
+  of-path (PathAnswer.gives_23_depth l r s k) same = absurd (not_0 same tt refl)
+  of-path (PathAnswer.gives_n h r s x y) same = same
+
   by_answer : length image ≡ image_size d → start < 8192 → {x : Found} → Answer (call_flow d (rom_of image p3) start) (call_cycles d (rom_of image p3)) address_of path path' deep deep' x → N-is (paper_of_found x) → Bounds d image p3 start N depth
   by_answer len lt (Answer.gives_24 l k) same = absurd (not_0 same tt refl)
   by_answer len lt (Answer.judged j (FlowAnswer.gives_21 l k)) same = absurd (not_0 same tt refl)
   by_answer len lt (Answer.judged j (FlowAnswer.gives_22 n l k)) same = absurd (not_0 same tt refl)
-  by_answer len lt (Answer.judged j (FlowAnswer.bounded b (PathAnswer.gives_25 l k))) same = absurd (not_0 same tt refl)
-  by_answer len lt (Answer.judged j (FlowAnswer.bounded b (PathAnswer.gives_23 l s k))) same = absurd (not_0 same tt refl)
-  by_answer len lt (Answer.judged j (FlowAnswer.bounded b (PathAnswer.gives_23_depth l r s k))) same = absurd (not_0 same tt refl)
-  by_answer len lt (Answer.judged {K = K} j (FlowAnswer.bounded {path = l} {deep = k} b (PathAnswer.gives_n h r s x y))) same =
-      record { size = len; inside = lt; K = K; path = l; deep = k; judged = j; bound = bounds-same same b }
+  by_answer len lt (Answer.judged {K = K} j (FlowAnswer.bounded {path = l} {deep = k} b answer)) same =
+      record { size = len; inside = lt; K = K; path = l; deep = k; judged = j; bound = bounds-same (of-path answer same) b }
 
   bounds-by : {p : Paper} → CallAnswer d image p3 start path path' deep deep' p → N-is p → Bounds d image p3 start N depth
   bounds-by (gives_1 n k) same = absurd (not_0 same tt refl)

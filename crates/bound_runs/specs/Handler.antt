@@ -8,7 +8,7 @@ use Rattle.sheet.specs.Table.{line_at}
 use Rattle.sheet.specs.Reading.{read_at}
 use Rattle.sheet.specs.declared.Insn.{Insn}
 use Rattle.sheet.specs.declared.Read.{Read}
-use Rattle.frame.specs.Frame.{frame_at, are_frames, frames_of, PinsInRange}
+use Rattle.frame.specs.Frame.{frame_at, PinsInRange}
 use Rattle.frame.specs.declared.Pins.{Pins}
 use Rattle.frame.specs.declared.Frame.TheVariants.{Seen}
 use Rattle.ports.specs.declared.Mode.TheVariants.{Running}
@@ -18,7 +18,7 @@ use Rattle.step_act.specs.Act.{shown}
 use Rattle.step.specs.Step.{step_of}
 use Rattle.device.specs.declared.Options.{Options}
 use Rattle.run.specs.Run.{run_of}
-use Rattle.run.specs.Answers.{RunOf, most_frames}
+use Rattle.run.specs.Answers.{RunOf}
 use Rattle.run.specs.declared.Ran.{Ran}
 use Rattle.bound_flow.specs.Bound.{HasBound}
 

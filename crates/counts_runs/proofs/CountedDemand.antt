@@ -114,7 +114,7 @@ module _ (rom : ℕ → ℕ → ℕ) (bytes : (p3 at : ℕ) → rom p3 at < 256)
       }
 
   -- a run keeps the counts as the theory says it
-  keeps-to : (C : List Count) {us : List Numbers} {u : Numbers} {m : Machine} (frames : List Pins) (shown : AllInRange o.device frames) → Keeps rom o C us u m frames
+  keeps-to : (C : List Count) (frames : List Pins) {us : List Numbers} {u : Numbers} {m : Machine} (shown : AllInRange o.device frames) → Keeps rom o C us u m frames
       → counted.Keeps (emulated rom o) (watched rom o) C us u m (framed o.device frames shown)
   keeps-to C [] shown Keeps.no_frame = counted.Keeps.no_frame
   keeps-to C (pins ∷ others) shown (Keeps.ends e) = counted.Keeps.ends e
@@ -148,6 +148,7 @@ module _ (rom : ℕ → ℕ → ℕ) (bytes : (p3 at : ℕ) → rom p3 at < 256)
   ends-returning : (frames : List Pins) (m : Machine) {sp : ℕ} (shown : AllInRange o.device frames) {k n : ℕ} (e : runs.EndsAt (emulated rom o) sp m (framed o.device frames shown) k n)
       → Returns rom o (run_of rom o m (ends_by rom o frames m shown e).before).machine (ends_by rom o frames m shown e).last → counted.ReturnsAt (emulated rom o) m (framed o.device frames shown) k n
   unfolding ends_by run_of
+  ends-returning [] m {sp = sp} shown {k = k} {n = n} e ret = elim e [ ]
   ends-returning (pins ∷ others) m shown (runs.EndsAt.now e r) ret = counted.ReturnsAt.now e ret
   ends-returning (pins ∷ others) m shown (runs.EndsAt.later past e) ret =
       let q = ends_by rom o others (step_of rom o m pins).machine shown.1 e in
@@ -183,7 +184,7 @@ module _ (rom : ℕ → ℕ → ℕ) (bytes : (p3 at : ℕ) → rom p3 at < 256)
           returns = λ m enters before last shown spared keeps none z r.
               let q = returns_by before m last shown none z r in
               omega (arith, q.cycles, most m enters (before ++ (last ∷ [])) shown spared keeps q.returns);
-          most_steps_lem = enough;
+          most_steps = enough;
           ends = λ m enters frames shown spared keeps many.
               let e = ends-soon m enters frames shown spared keeps many in
               let q = ends_by rom o frames m shown e.ends in

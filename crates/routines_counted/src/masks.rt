@@ -87,7 +87,7 @@ pub fn weigh_at(
     link: &mut [u32],
     masks: &mut [u16],
 )
-    requires { Sized words.now (length ahead.old) × Searches reached.now ahead.old queue.old behind.old × (0 < length ahead.old) × (length ahead.old ≤ length seeded.old)
+    requires { Sized words.now (length ahead.old) × Searches reached.now ahead.old queue.old behind.old × (0 < length ahead.old) × (length seeded.old ≡ 16384)
         × (length first.old ≤ 16384) × (length ahead.old ≤ length masks.old) × Halves masks.old }
     ensures { BitsTo (WeighsIn words.now reached.now at) masks.old (length ahead.old) masks.new }
 {

@@ -1,5 +1,5 @@
 // From which places a place at an address is reached: the words with those places as ends, so that what loses SF there reaches one of them.
-ghost use Rattle.std.specs.Prelude.{◌<◌, ◌≤◌, length};
+ghost use Rattle.std.specs.Prelude.{◌≡◌, ◌<◌, ◌≤◌, length};
 ghost use Rattle.routines_known.specs.Marking.{Sized};
 ghost use Rattle.routines_counted.specs.Seeds.{SeededIs, SeededTo, AheadIs};
 
@@ -58,7 +58,7 @@ pub fn mark_ahead(
     stack: &mut [u16],
     ahead: &mut [u8],
 )
-    requires { Sized words.now (length ahead.old) × (length ahead.old ≤ length seeded.old) × (0 < length ahead.old) }
+    requires { Sized words.now (length ahead.old) × (length seeded.old ≡ 16384) × (0 < length ahead.old) }
     ensures { AheadIs words.now at (length ahead.old) ahead.new }
 {
     lay_seeded(words, ahead.len(), at, seeded);

@@ -19,7 +19,7 @@ flow_on x = record {
 }
 
 pub record Sized (x : List ℕ) (n : ℕ) : Type 0 where
-  pub words : n ≤ length x
+  pub words : length x ≡ 16384
   pub few : n ≤ 16384
   pub links : (v : ℕ) → v < n → LinksLt x n v
 

@@ -1,6 +1,6 @@
 -- The answers of the calls by what is found, in the order of refusal; and two that conform are one.
 use mathlib.Core.Path.{◌≡◌, refl, sym, ap, subst, ◌∙◌}
-use mathlib.Core.Bool.{Bool, true, false, not}
+use mathlib.Core.Bool.{Bool, true, false}
 use mathlib.Core.List.{List}
 use Prim.Native.Nat.{ℕ}
 use native.Mathlib.Decide.{ℕ_discrete}
@@ -26,13 +26,11 @@ use Rattle.row.specs.declared.Turn.{Turn}
 use Rattle.step.specs.declared.Stepped.{Stepped}
 
 -- a test that is denied, and one that is not
-pub denied : (b : Bool) → not b ≡ true → T b → ⊥
-denied true e t = true→T e
-denied false e t = t
+pub denied : (b : Bool) → b ≡ false → T b → ⊥
+denied b e t = subst T e t
 
-pub passes : (b : Bool) → not b ≡ false → T b
-passes true e = tt
-passes false e = true→T (sym e)
+pub passes : (b : Bool) → b ≡ true → T b
+passes b e = true→T e
 
 -- a frame is seen or not, and shows one set of pins
 abbrev is_seen : Frame → Bool

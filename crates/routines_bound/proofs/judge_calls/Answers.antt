@@ -1,5 +1,4 @@
 -- `routines_bound::judge_calls` meets its contract.
-use native.Mathlib.Omega.{arith}
 use Rattle.routines_bound.proofs.Calls.{plain-calls, chosen-calls, recursive_calls}
 use Rattle.routines_bound.proofs.judge_calls.Goals as goal
 
@@ -24,7 +23,7 @@ returns-then-lowest-lt-ENTRIES c =
 pub choose_calls-requires : goal.choose_calls-requires
 choose_calls-requires c =
     let pre = c.requires in
-    let laid = pre.words.laid in record { words = omega (arith, laid.words, laid.few); few = laid.few; links = laid.links }
+    let laid = pre.words.laid in record { words = laid.words; few = laid.few; links = laid.links }
 
 pub returns : goal.returns
 returns c =

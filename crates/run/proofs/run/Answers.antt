@@ -1,6 +1,5 @@
 -- `run::run` meets its contract.
 use mathlib.Core.Path.{sym, ◌∙◌}
-use borrow.Author.Tests.{not-true, not-false}
 use Rattle.step.proofs.Answering.{denied, passes}
 use Rattle.run.proofs.Answering.{refused_1, refused_2, refused_3, refused_4, ran}
 use Rattle.run.proofs.Going.{most_in_a_word}
@@ -19,10 +18,10 @@ pub returns-then-frame_size-frames : goal.returns-then-frame_size-frames
 returns-then-frame_size-frames c = refused_4 _ _ _ _ _ (c.if-image-image_size.false ∙ c.image_size.ensures) (c.is_valid.ensures.sound (passes c.is_valid.result c.if-not-is_valid.false)) (rw (← c.frame_size.ensures) c.if-frame_size-frames.true) c.run_refused-then-frame_size-frames.ensures
 
 pub returns-then-not-are_frames : goal.returns-then-not-are_frames
-returns-then-not-are_frames c = refused_3 _ _ _ _ _ (c.if-image-image_size.false ∙ c.image_size.ensures) (c.is_valid.ensures.sound (passes c.is_valid.result c.if-not-is_valid.false)) (rw (← c.frame_size.ensures) c.if-frame_size-frames.false) (sym c.are_frames.ensures ∙ not-true _ c.if-not-are_frames.true) c.run_refused-then-not-are_frames.ensures
+returns-then-not-are_frames c = refused_3 _ _ _ _ _ (c.if-image-image_size.false ∙ c.image_size.ensures) (c.is_valid.ensures.sound (passes c.is_valid.result c.if-not-is_valid.false)) (rw (← c.frame_size.ensures) c.if-frame_size-frames.false) (sym c.are_frames.ensures ∙ c.if-not-are_frames.true) c.run_refused-then-not-are_frames.ensures
 
 pub run_frames-requires : goal.run_frames-requires
-run_frames-requires c = (c.is_valid.ensures.sound (passes c.is_valid.result c.if-not-is_valid.false), c.if-image-image_size.false ∙ c.image_size.ensures, rw (← c.frame_size.ensures) c.if-frame_size-frames.false, sym c.are_frames.ensures ∙ not-false _ c.if-not-are_frames.false)
+run_frames-requires c = (c.is_valid.ensures.sound (passes c.is_valid.result c.if-not-is_valid.false), c.if-image-image_size.false ∙ c.image_size.ensures, rw (← c.frame_size.ensures) c.if-frame_size-frames.false, sym c.are_frames.ensures ∙ c.if-not-are_frames.false)
 
 pub returns : goal.returns
-returns c = ran _ _ _ _ _ (c.if-image-image_size.false ∙ c.image_size.ensures) (c.is_valid.ensures.sound (passes c.is_valid.result c.if-not-is_valid.false)) (rw (← c.frame_size.ensures) c.if-frame_size-frames.false) (sym c.are_frames.ensures ∙ not-false _ c.if-not-are_frames.false) c.run_frames.ensures
+returns c = ran _ _ _ _ _ (c.if-image-image_size.false ∙ c.image_size.ensures) (c.is_valid.ensures.sound (passes c.is_valid.result c.if-not-is_valid.false)) (rw (← c.frame_size.ensures) c.if-frame_size-frames.false) (sym c.are_frames.ensures ∙ c.if-not-are_frames.false) c.run_frames.ensures

@@ -1,5 +1,4 @@
 -- `run::run_frames` meets its contract.
-use Prim.Native.Nat.{◌-◌}
 use native.Mathlib.Omega.{arith}
 use Rattle.device.specs.Device.{in_image}
 use Rattle.run.proofs.Going.{few_steps, fewer_steps, in_a_word, nearer, starts, room, is-frame, shows, ended, goes_on, ends-early}

@@ -22,7 +22,7 @@ use Rattle.step_look.proofs.LookValid.{running_is}
 use Rattle.step_act.specs.Act.{act_of}
 use Rattle.step_act.specs.Runs.{Runs}
 use Rattle.step.specs.Step.{look_step, act_step, step_of}
-use Rattle.step.specs.Answers.{step_refused, stepped, StepOf}
+use Rattle.step.specs.Answers.{step_refused, stepped}
 use Rattle.device.specs.declared.Device.{Device}
 use Rattle.device.specs.declared.Options.{Options}
 use Rattle.step.specs.declared.Stepped.{Stepped}

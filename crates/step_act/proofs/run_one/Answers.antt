@@ -13,7 +13,7 @@ read_at-read-requires c =
     (rw pre.2 (window_fits args.options.device args.m.ports.p3 pre.0.ports.also.p3), pre.0.pc)
 
 pub returns-in_default : goal.returns-in_default
-returns-in_default c = rw (c.stopped.ensures, c.stop_of.ensures) (none_read _ _ _ _ _ c.read_at-read.ensures c.in-Row.keys2)
+returns-in_default c = rw (c.stopped.ensures, c.stop_of.ensures) (none_read _ _ _ _ _ c.read_at-read.ensures c.in_default.not-Row)
 
 pub perform-requires : goal.perform-requires
 perform-requires c =

@@ -17,7 +17,7 @@ pub returns-then-due-eq0 : goal.returns-then-due-eq0
 returns-then-due-eq0 c = masked c.args.m (not-false _ c.if-not-m.false) c.if-il-eq0.false _ c.due_set-due.ensures c.if-due-eq0.true
 
 pub returns-then-not-can_push : goal.returns-then-not-can_push
-returns-then-not-can_push c = refuses c.args.m (not-false _ c.if-not-m.false) c.if-il-eq0.false _ c.due_set-due.ensures c.if-due-eq0.false (sym c.can_push.ensures ∙ not-true _ c.if-not-can_push.true)
+returns-then-not-can_push c = refuses c.args.m (not-false _ c.if-not-m.false) c.if-il-eq0.false _ c.due_set-due.ensures c.if-due-eq0.false (sym c.can_push.ensures ∙ c.if-not-can_push.true)
 
 pub weight-requires : goal.weight-requires
 weight-requires c =
@@ -31,4 +31,4 @@ without_bit-requires c = rw c.weight.ensures (pow_pos _)
 pub returns : goal.returns
 returns c =
     taken_by _ _ _ _ _ _ c.due_set-due.ensures c.due_source-source.ensures c.weight.ensures c.without_bit.ensures
-    ∙ takes c.args.m (not-false _ c.if-not-m.false) c.if-il-eq0.false _ c.due_set-due.ensures c.if-due-eq0.false (sym c.can_push.ensures ∙ not-false _ c.if-not-can_push.false)
+    ∙ takes c.args.m (not-false _ c.if-not-m.false) c.if-il-eq0.false _ c.due_set-due.ensures c.if-due-eq0.false (sym c.can_push.ensures ∙ c.if-not-can_push.false)

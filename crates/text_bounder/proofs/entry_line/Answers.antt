@@ -11,4 +11,4 @@ returns c =
     let blank = c.put-from.ensures in
     let answer = c.answer_text-end.ensures in
     let end = c.put.ensures in
-    (wrote_then address.0 (wrote_then gap (wrote_then name.0 (wrote_then blank (wrote_then answer.0 end)))), omega (arith, address.1, gap.end, name.1, blank.end, answer.1, end.end))
+    record { wrote = wrote_then address.wrote (wrote_then gap (wrote_then name.wrote (wrote_then blank (wrote_then answer.wrote end)))); upper_bound = omega (arith, address.value, gap.end, name.upper_bound, blank.end, answer.upper_bound, end.end) }

@@ -15,4 +15,4 @@ pub put-requires : goal.put-requires
 put-requires c = omega (arith, c.decimal-last.ensures.value, c.decimal-last.ensures.wrote.size, c.blanks-start.ensures.value, c.blanks-start.ensures.wrote.size, c.put_text-gap.ensures.end, c.put_text-gap.ensures.size, c.columns-end.ensures.upper_bound, c.columns-end.ensures.wrote.size, c.places.ensures, places_up_to 4 c.args.counted c.requires.2, c.requires.3)
 
 pub returns : goal.returns
-returns c = (wrote_then c.columns-end.ensures.wrote (wrote_then c.put_text-gap.ensures (wrote_then (wrote_aligned c.args.counted (rw c.places.ensures at c.blanks-start.ensures.wrote) c.decimal-last.ensures.wrote) c.put.ensures)), omega (arith, c.put.ensures.end, c.decimal-last.ensures.value, c.blanks-start.ensures.value, c.put_text-gap.ensures.end, c.columns-end.ensures.upper_bound, c.places.ensures, places_up_to 4 c.args.counted c.requires.2))
+returns c = record { wrote = wrote_then c.columns-end.ensures.wrote (wrote_then c.put_text-gap.ensures (wrote_then (wrote_aligned c.args.counted (rw c.places.ensures at c.blanks-start.ensures.wrote) c.decimal-last.ensures.wrote) c.put.ensures)); upper_bound = omega (arith, c.put.ensures.end, c.decimal-last.ensures.value, c.blanks-start.ensures.value, c.put_text-gap.ensures.end, c.columns-end.ensures.upper_bound, c.places.ensures, places_up_to 4 c.args.counted c.requires.2) }

@@ -10,4 +10,4 @@ returns c =
     let margin = c.put_text-margin.ensures in
     let sheet = c.sheet_text-end.ensures in
     let end = c.put.ensures in
-    (wrote_then line.0 (wrote_then margin (wrote_then (rw c.row_at-row.ensures at sheet.0) end)), omega (arith, line.1, margin.end, sheet.1, end.end))
+    record { wrote = wrote_then line.wrote (wrote_then margin (wrote_then (rw c.row_at-row.ensures at sheet.wrote) end)); upper_bound = omega (arith, line.upper_bound, margin.end, sheet.upper_bound, end.end) }

@@ -47,4 +47,4 @@ unfolding digest_text
 returns c =
     let at = c.loop-i in
     let bytes = c.args.bytes.now in
-    (writing_none (rw (drop_of_length-le bytes {i = at.i} (omega arith)) at at.invariant.0), omega arith)
+    record { wrote = writing_none (rw (drop_of_length-le bytes {i = at.i} (omega arith)) at at.invariant.0); value = omega arith }

@@ -7,7 +7,7 @@ use Rattle.text_certificate.proofs.row_at.Goals as goal
 
 pub returns-in_default : goal.returns-in_default
 unfolding row_at
-returns-in_default c = no_row_lem c.read_at.result (λ (r : Read). 0 ≡ row_read r) c.in-Row.keys2 refl refl ∙ ap row_read c.read_at.ensures
+returns-in_default c = no_row_lem c.read_at.result (λ (r : Read). 0 ≡ row_read r) c.in_default.not-Row refl refl ∙ ap row_read c.read_at.ensures
 
 pub returns : goal.returns
 unfolding row_at

@@ -12,7 +12,7 @@ pub mark_ahead-requires : goal.mark_ahead-requires
 mark_ahead-requires c =
     let pre = c.requires in
     let behind = c.reach_behind.auto in
-    (sized_at behind.found pre.0, omega (arith, behind.found, pre.3), omega (arith, behind.found, pre.2))
+    (sized_at behind.found pre.0, pre.3, omega (arith, behind.found, pre.2))
 
 pub weigh_count-requires : goal.weigh_count-requires
 weigh_count-requires c =
