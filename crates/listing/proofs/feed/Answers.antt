@@ -1,5 +1,4 @@
 -- `listing::feed` meets its contract: the lines before `used` are told.
-use Prim.Native.Nat.{◌-◌}
 use native.Mathlib.Omega.{arith}
 use lib.ListN.{length-drop}
 use Rattle.listing.proofs.Feeding.{feeding-none, feeding-pauses, feeding-next, feeding-ends}

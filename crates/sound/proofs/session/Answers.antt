@@ -19,12 +19,6 @@ returns-then-n-eq0 c = tt
 pub slice_bounds-feed-end-in-loop-turns : goal.slice_bounds-feed-end-in-loop-turns
 slice_bounds-feed-end-in-loop-turns c = sym (length-take-le _ _ (omega arith))
 
-pub feed-told-requires : goal.feed-told-requires
-feed-told-requires c =
-    let got = c.read_behind-got in
-    let size = length-take-le got.result.count got.new.part.0 (omega (arith, got.ensures, c.part-1.given)) in
-    (c.loop-turns.invariant.0, omega arith)
-
 pub returns-then-not-show_part : goal.returns-then-not-show_part
 returns-then-not-show_part c = tt
 

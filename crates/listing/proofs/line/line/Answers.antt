@@ -6,4 +6,4 @@ use Rattle.listing.proofs.line.line.Goals as goal
 
 pub returns : goal.returns
 unfolding step_line
-returns c = (wrote_then c.registers-end.ensures.wrote (wrote_then c.flags-end.ensures.wrote (wrote_last c.spent.ensures.wrote)), omega arith)
+returns c = record { wrote = wrote_then c.registers-end.ensures.wrote (wrote_then c.flags-end.ensures.wrote (wrote_last c.spent.ensures.wrote)); upper_bound = omega arith }

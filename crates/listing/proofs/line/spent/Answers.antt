@@ -14,4 +14,4 @@ pub put-requires : goal.put-requires
 put-requires c = omega (arith, places_up_to 4 c.args.cycles (omega arith))
 
 pub returns : goal.returns
-returns c = (wrote_then (rw c.places-places.ensures at c.column-end.ensures.wrote) (wrote_then c.number-end.ensures.wrote (wrote_last c.put.ensures)), omega (arith, places_up_to 4 c.args.cycles (omega arith)))
+returns c = record { wrote = wrote_then (rw c.places-places.ensures at c.column-end.ensures.wrote) (wrote_then c.number-end.ensures.wrote (wrote_last c.put.ensures)); upper_bound = omega (arith, places_up_to 4 c.args.cycles (omega arith)) }
