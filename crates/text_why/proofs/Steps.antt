@@ -3,7 +3,7 @@ use mathlib.Core.Path.{◌≡◌}
 use mathlib.Core.List.{◌++◌}
 use Prim.Native.Nat.{ℕ, ◌/◌, ◌%◌, ◌<◌, ◌≤◌}
 use native.Mathlib.Nat.{mod-mod}
-use Rattle.text.specs.Digits.{digit, in_base, decimal}
+use Rattle.text.specs.Digits.{in_base, decimal}
 use Rattle.text.proofs.digits.Numbers.{places_one, places_more}
 
 pub one_digit : (v : ℕ) → v < 10 → in_base 10 1 v ≡ decimal v

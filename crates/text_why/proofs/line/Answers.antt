@@ -6,4 +6,4 @@ use Rattle.text_why.proofs.line.Goals as goal
 
 pub returns : goal.returns
 unfolding why_line
-returns c = (wrote_then c.opening-end.ensures.wrote (wrote_then c.reason_text-end.ensures.wrote c.put.ensures), omega arith)
+returns c = record { wrote = wrote_then c.opening-end.ensures.wrote (wrote_then c.reason_text-end.ensures.wrote c.put.ensures); upper_bound = omega arith }

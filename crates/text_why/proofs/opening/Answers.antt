@@ -17,4 +17,4 @@ pub put-requires : goal.put-requires
 put-requires c = omega (arith, places_up_to 19 c.args.step (omega arith))
 
 pub returns : goal.returns
-returns c = (wrote_then c.step_number-end.ensures.wrote (wrote_then c.put-end.ensures (wrote_then c.number-end.ensures.wrote (wrote_last c.put.ensures))), omega (arith, places_up_to 19 c.args.step (omega arith)))
+returns c = record { wrote = wrote_then c.step_number-end.ensures.wrote (wrote_then c.put-end.ensures (wrote_then c.number-end.ensures.wrote (wrote_last c.put.ensures))); upper_bound = omega (arith, places_up_to 19 c.args.step (omega arith)) }
