@@ -1,6 +1,6 @@
 -- For every cutting of script and listing into parts the answer is that of the definition on the whole texts.
 use mathlib.Core.Path.{◌≡◌, sym, ◌∙◌}
-use mathlib.Core.List.{List, [], ◌++◌}
+use mathlib.Core.List.{List, []}
 use Prim.Native.Nat.{ℕ}
 use Rattle.device.specs.declared.Device.{Device}
 use Rattle.text.specs.Script.{lines_of}

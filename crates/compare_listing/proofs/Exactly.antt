@@ -1,6 +1,6 @@
 -- The whole answer: accepted exactly where the listing is ours, and what is named differs.
-use mathlib.Core.Path.{◌≡◌, refl, sym, ap, ◌∙◌}
-use mathlib.Core.Bool.{Bool, true, false, not}
+use mathlib.Core.Path.{◌≡◌, refl, sym, ◌∙◌}
+use mathlib.Core.Bool.{Bool, true, false}
 use mathlib.Core.List.{List, [], ◌∷◌, ◌++◌, append_assoc}
 use Prim.Native.Nat.{ℕ}
 use native.Mathlib.Omega.{arith}
@@ -18,17 +18,17 @@ use Rattle.record.specs.declared.Core.{Core}
 use Rattle.record.specs.declared.Machine.{Machine}
 use Rattle.record.specs.Start.{fresh_machine}
 use Rattle.text.specs.Digits.{characters}
-use Rattle.listing.specs.Lines.{header, step_line}
+use Rattle.listing.specs.Lines.{step_line}
 use Rattle.text.specs.Script.{lines_of}
 use Rattle.listing.specs.Listing.{Answer, frame_answer, answer_of, told_over, listing_of}
-use Rattle.compare_lines.specs.Lines.{whole, cut, spaced, difference_of}
+use Rattle.compare_lines.specs.Lines.{whole, cut, difference_of}
 use Rattle.compare_lines.specs.Named.{Named}
 use Rattle.compare_lines.specs.declared.Compared.{Compared}
 use Rattle.compare_lines.specs.declared.Compared.TheVariants.{ImageOfAnotherSize, NotAFrame, Same, Differs}
 use Rattle.compare_lines.proofs.Cutting.{cut_whole}
 use Rattle.compare_lines.proofs.Naming.{difference_tells}
 use Rattle.compare_listing.specs.Compared.{is_no_frame, reads_no_frame, compared_of}
-use Rattle.compare_listing.specs.Exactly.{AllSpaced, StepLines, ComparesExactly, AllCompareExactly}
+use Rattle.compare_listing.specs.Exactly.{AllSpaced, StepLines, AllCompareExactly}
 use Rattle.compare_listing.proofs.OurLines.{step_body, step_ended, step_alone}
 use Rattle.compare_listing.proofs.Fields.{step_fields}
 

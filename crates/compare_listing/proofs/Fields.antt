@@ -1,11 +1,11 @@
 -- What the runner prints for a step has eight fields with single blanks between.
-use mathlib.Core.Path.{◌≡◌, refl, sym}
+use mathlib.Core.Path.{◌≡◌, refl}
 use mathlib.Core.Bool.{Bool, true, false}
 use mathlib.Core.List.{List, [], ◌∷◌, ◌++◌, append_assoc, append-nil}
 use Prim.Native.Nat.{ℕ, zero, suc, ◌/◌, ◌%◌}
 use lib.Dec.{ltb}
 use lib.ListN.{get_or}
-use Rattle.laws.specs.Choice.{pick, both}
+use Rattle.laws.specs.Choice.{pick}
 use Rattle.laws.proofs.Computed.{true→T}
 use Rattle.bits.specs.Bits.{bit_of}
 use Rattle.record.specs.declared.Core.{Core}

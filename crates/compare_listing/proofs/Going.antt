@@ -1,5 +1,5 @@
 -- Script and listing in parts: each law is a way on or an end of the loop over the lines.
-use mathlib.Core.Path.{◌≡◌, refl, sym, ap, ◌∙◌}
+use mathlib.Core.Path.{◌≡◌, refl, ◌∙◌}
 use mathlib.Core.Bool.{Bool, true, false}
 use mathlib.Core.List.{List, [], ◌∷◌, ◌++◌}
 use Prim.Native.Nat.{ℕ, suc, ◌+◌, ◌-◌, ◌<◌, ◌≤◌}
@@ -7,22 +7,16 @@ use native.Mathlib.Omega.{arith}
 use lib.ListN.{length, take, drop, length-drop}
 use lib.Seq.{drop-drop, length-take-le}
 use Rattle.laws.specs.Choice.{pick}
-use Rattle.laws.proofs.Computed.{true→T}
 use Rattle.device.specs.declared.Device.{Device}
-use Rattle.record.specs.declared.Core.{Core}
 use Rattle.record.specs.With.{assembled}
 use Rattle.text.specs.Script.{lines_of, up_to}
 use Rattle.text.proofs.script.Ends.{lines_first, lines_last}
 use Rattle.listing.specs.Listing.{told_over}
-use Rattle.compare_lines.specs.Left.{left_of, settled, Placed, Heeds}
-use Rattle.compare_lines.specs.declared.Compared.{Compared}
-use Rattle.compare_lines.specs.declared.Compared.TheVariants.{NotAFrame}
+use Rattle.compare_lines.specs.Left.{settled, Heeds}
 use Rattle.compare_lines.specs.declared.Heard.{Heard}
 use Rattle.compare_lines.proofs.Hearing.{rest_of}
-use Rattle.compare_listing.specs.Compared.{reads_no_frame}
 use Rattle.compare_listing.specs.Progress.{answer_from, with_phase, Sound, Nexts, Lasts, Goes}
 use Rattle.compare_listing.specs.declared.Progress.{Progress}
-use Rattle.compare_listing.specs.declared.Gone.{Gone}
 
 -- so many characters of both are used
 pub record Going (d : Device) (rom : ℕ → ℕ → ℕ) (p : Progress) (ram ours script listing : List ℕ) (last : Bool) (now : Progress) (ram' ours' : List ℕ) (read heard : ℕ) : Type 0 where

@@ -1,13 +1,12 @@
 -- A line of the script used: the answer stays.
-use mathlib.Core.Path.{◌≡◌, refl, sym, ap, ◌∙◌}
+use mathlib.Core.Path.{◌≡◌, refl, sym, ◌∙◌}
 use mathlib.Core.Bool.{Bool, true, false}
-use mathlib.Core.List.{List, [], ◌∷◌, ◌++◌}
-use Prim.Native.Nat.{ℕ, suc, ◌+◌, ◌<◌, ◌≤◌}
+use mathlib.Core.List.{List, [], ◌∷◌}
+use Prim.Native.Nat.{ℕ, ◌<◌}
 use native.Mathlib.Omega.{arith}
 use lib.ListN.{length, take}
 use lib.Seq.{length-take-le}
-use Rattle.laws.specs.Choice.{pick, either}
-use Rattle.laws.specs.Writing.{Wrote}
+use Rattle.laws.specs.Choice.{pick}
 use Rattle.laws.proofs.Writing.{wrote_front}
 use Rattle.laws.proofs.Computed.{true→T}
 use Rattle.device.specs.Device.{digits_of}
@@ -22,11 +21,11 @@ use Rattle.record.specs.With.{assembled}
 use Rattle.listing.specs.Listing.{Answer, answer_of, told_over}
 use Rattle.listing.specs.Tells.{Tells}
 use Rattle.listing.specs.declared.Told.{Told}
-use Rattle.compare_lines.specs.Left.{left_of, OneLine, Onward, Placed}
+use Rattle.compare_lines.specs.Left.{OneLine, Onward, Placed}
 use Rattle.compare_lines.specs.declared.Turned.{Turned}
 use Rattle.compare_lines.specs.declared.Phase.{Phase}
 use Rattle.compare_lines.specs.declared.Phase.TheVariants.{Found}
-use Rattle.compare_listing.specs.Compared.{is_no_frame, reads_no_frame}
+use Rattle.compare_listing.specs.Compared.{is_no_frame}
 use Rattle.compare_listing.specs.Progress.{answer_from, Sound, Nexts}
 use Rattle.compare_listing.specs.declared.Progress.{Progress}
 use Rattle.compare_listing.proofs.OurLines.{answer-line}

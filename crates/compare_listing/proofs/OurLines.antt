@@ -1,6 +1,6 @@
 -- What the runner prints for a line of the script is one line: it has an LF at its end and nowhere else.
-use mathlib.Core.Path.{◌≡◌, refl, sym, ap, ◌∙◌}
-use mathlib.Core.Bool.{Bool, true, false}
+use mathlib.Core.Path.{◌≡◌, refl}
+use mathlib.Core.Bool.{true, false}
 use mathlib.Core.List.{List, [], ◌∷◌, ◌++◌, append_assoc, append-nil}
 use Prim.Native.Nat.{ℕ, zero, suc, ◌/◌, ◌%◌, ◌≤◌}
 use native.Mathlib.Omega.{arith}
@@ -13,10 +13,10 @@ use Rattle.frame.specs.declared.Frame.TheVariants.{Seen, NoFrame}
 use Rattle.record.specs.declared.Core.{Core}
 use Rattle.record.specs.declared.Registers.{Registers}
 use Rattle.record.specs.declared.Machine.{Machine}
-use Rattle.text.specs.Digits.{characters, digit, in_base, hex, binary, decimal, places_of}
+use Rattle.text.specs.Digits.{characters, digit, in_base, hex, decimal, places_of}
 use Rattle.text.specs.Script.{is_lf}
 use Rattle.text.specs.Refusal.{refused_line}
-use Rattle.listing.specs.Lines.{header, column, flag_text, flags_text, registers_text, end_text, step_line}
+use Rattle.listing.specs.Lines.{header, column, flag_text, flags_text, registers_text, step_line}
 use Rattle.listing.specs.Listing.{answer_of}
 use Rattle.compare_lines.specs.Left.{plain, OneLine}
 use Rattle.compare_lines.proofs.Cutting.{plain_first}

@@ -1,13 +1,11 @@
 -- Script and listing whole: from the header to the answer.
-use mathlib.Core.Path.{◌≡◌, refl, sym, ap, ◌∙◌}
+use mathlib.Core.Path.{◌≡◌, refl, sym, ◌∙◌}
 use mathlib.Core.Bool.{Bool, true, false}
-use mathlib.Core.List.{List, [], ◌∷◌, ◌++◌, append-nil}
-use Prim.Native.Nat.{ℕ, ◌+◌, ◌-◌, ◌<◌, ◌≤◌}
+use mathlib.Core.List.{List, [], append-nil}
+use Prim.Native.Nat.{ℕ, ◌+◌, ◌-◌, ◌<◌}
 use native.Mathlib.Omega.{arith}
 use borrow.Author.Tests.{eq-eqb, ne_eqb}
 use lib.ListN.{length, take, drop, length-drop}
-use lib.Seq.{length-take-le}
-use Rattle.laws.specs.Choice.{pick}
 use Rattle.laws.specs.Writing.{Wrote}
 use Rattle.laws.proofs.Writing.{wrote_front}
 use Rattle.laws.proofs.Computed.{true→T}
@@ -19,8 +17,7 @@ use Rattle.listing.specs.Lines.{header}
 use Rattle.text.specs.Script.{lines_of, up_to}
 use Rattle.listing.specs.Listing.{listing_of}
 use Rattle.compare_lines.specs.Lines.{difference_of}
-use Rattle.compare_lines.specs.Left.{left_of, OneLine, settled, Placed}
-use Rattle.compare_lines.specs.declared.Compared.{Compared}
+use Rattle.compare_lines.specs.Left.{left_of, settled}
 use Rattle.compare_lines.specs.declared.Compared.TheVariants.{ImageOfAnotherSize, NotAFrame}
 use Rattle.compare_listing.specs.Compared.{compared_of}
 use Rattle.compare_listing.specs.Progress.{answer_from, begun, Sound, Lasts, Goes}
