@@ -6,6 +6,3 @@ use Rattle.why.proofs.tell_first.Goals as goal
 
 pub slice_bounds-tell-end : goal.slice_bounds-tell-end
 slice_bounds-tell-end c = sym (length-take-le _ _ (omega arith))
-
-pub overflow_add-result : goal.overflow_add-result
-overflow_add-result c = omega (arith, c.line_end-end.ensures.upper_bound, c.if-end-part.false, c.well_formed.1.1.1.1.1.1.0.0)
