@@ -1,17 +1,17 @@
 -- The words of an image are its flow under other names: what is answered of them is answered of the image.
-use mathlib.Core.Path.{◌≡◌, refl, sym, ap, ◌∙◌}
+use mathlib.Core.Path.{◌≡◌, ap, ◌∙◌}
 use mathlib.Core.List.{List}
-use Prim.Native.Nat.{ℕ, ◌+◌, ◌-◌, ◌*◌, ◌/◌, ◌%◌, ◌≤◌, ◌<◌}
+use Prim.Native.Nat.{ℕ, ◌-◌, ◌*◌, ◌≤◌, ◌<◌}
 use native.Mathlib.Omega.{arith}
 use native.Mathlib.Decide.{dec_lt}
-use lib.ListN.{length, get_or}
+use lib.ListN.{length}
 use borrow.Author.Tests.{eq-eqb}
 use Rattle.device.specs.declared.Device.{Device}
 use Rattle.routines.specs.Calling.{Flow}
 use Rattle.routines.specs.Answer.{Found, Answer}
 use Rattle.routines.specs.Shape.{Widens}
 use Rattle.routines.specs.Losing.{Region, KnownAfter}
-use Rattle.routines.specs.Numbered.{Names, Numbered}
+use Rattle.routines.specs.Numbered.{Numbered}
 use Rattle.routines.proofs.Exploring.{entry-is, number_of_lem}
 use Rattle.routines.proofs.Renamed.{renamed_by}
 use Rattle.routines.proofs.Shape as shape

@@ -1,24 +1,23 @@
 -- The steps of exploring an image, on lists.
-use mathlib.Core.Path.{◌≡◌, refl, sym, ap, subst, ◌∙◌}
-use mathlib.Core.Logic.{◌⊎◌, inl, inr, ⊎_elim}
+use mathlib.Core.Path.{◌≡◌, refl, sym, ap, ◌∙◌}
+use mathlib.Core.Logic.{◌⊎◌, inl, inr}
 use mathlib.Core.List.{List}
-use Prim.Native.Nat.{ℕ, suc, ◌+◌, ◌-◌, ◌*◌, ◌/◌, ◌%◌, ◌≤◌, ◌<◌}
+use Prim.Native.Nat.{ℕ, suc, ◌+◌, ◌-◌, ◌*◌, ◌≤◌, ◌<◌}
 use native.Mathlib.Omega.{arith}
 use native.Mathlib.Decide.{ℕ_discrete}
-use lib.Dec.{eqb}
 use lib.ListN.{length, get_or, set}
 use lib.Seq.{get_or-set_same, get_or-set_other}
 use Rattle.device.specs.declared.Device.{Device}
 use Rattle.graph_search.specs.Marks.{Blank}
 use Rattle.routines.specs.Numbered.{Names}
-use Rattle.routines.specs.Exploring.{Node, Told, Grows, NodeOf, Explored}
-use Rattle.routines.proofs.Exploring.{none_told, grows_trans, names-on, read-on}
-use Rattle.routines_numbered.specs.Packed.{place_in, node_in, packed, Fits, name_in, map_in, nodes_in}
+use Rattle.routines.specs.Exploring.{Told, NodeOf, Explored}
+use Rattle.routines.proofs.Exploring.{read-on}
+use Rattle.routines_numbered.specs.Packed.{node_in, packed, Fits, name_in, map_in, nodes_in}
 use Rattle.routines_numbered.specs.Numbering.{Numbers, LinksLt}
 use Rattle.routines_numbered.specs.declared.Links.{Links}
 use Rattle.routines_numbered.proofs.Packed.{place_of, next_of, other-of, into-of, kind_of, cost-of, address_of_lem, known_of, lays_in}
 use Rattle.routines_numbered.proofs.Numbering.{name_lt, count_le, numbers_then, numbers_none, numbers_of_lem}
-use Rattle.bound_flow.specs.Flow.{address_of, is_known, start_of}
+use Rattle.bound_flow.specs.Flow.{address_of}
 use Rattle.bound_calls.specs.CallFlow.{call_node_of, call_flow, call_cycles}
 use Rattle.bound_calls.specs.declared.CallNode.{CallNode}
 use Rattle.bound_calls.proofs.Shape.{call-node-good}

@@ -15,7 +15,7 @@ use compare_lines::{Compared, hear, is_settled, verdict};
 use compare_listing::{Progress, begin, go, last_line};
 use device::{Device, frame_size, image_size};
 use listing::line::header;
-use program::arguments::{arg, open_read};
+use program::arguments::{arg, is_given, open_read};
 use program::image::{chosen_device, open_image};
 use program::part::{read_behind, to_front};
 use program::streams::{Ending, Got, STDERR_FILENO, STDOUT_FILENO, ending_of, say, show};
@@ -393,8 +393,9 @@ fn run_chosen(rt: &HostRuntime, c: Chosen) -> Ending {
     if size != image_size(d) {
         return ending_of(false, file.written);
     }
+    let opened = open_word(rt, word + 1);
     let mut listing = open_word(rt, word + 2);
-    let Some(script) = open_word(rt, word + 1) else {
+    let Some(script) = opened else {
         return end_with(Found::Told(Compared::NotAFrame));
     };
     end_with(run(d, &image[..size], script, &mut listing))

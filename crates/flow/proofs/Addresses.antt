@@ -10,7 +10,6 @@ use borrow.Author.Tests.{ltb-true}
 use Rattle.numbers.specs.Sizes.{addresses}
 use Rattle.laws.specs.Choice.{pick, both}
 use Rattle.text.specs.Words.{is_number, word_value, word_address}
-use Rattle.text.specs.declared.words.Address.{Address}
 use Rattle.text.specs.declared.words.Address.TheVariants.{At, Refused}
 use Rattle.program.specs.Words.{bare_of, address_word}
 

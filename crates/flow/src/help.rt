@@ -11,8 +11,7 @@ usage: flow [--device NAME [--p3 N]] IMAGE ADDRESS
 
   --device NAME  EM73862 (the default) or EM73P982
   --p3 N         P3, decimal, with --device EM73P982 (the default is 0)
-  IMAGE          a file of 8,192 bytes, of the EM73P982 of 16,384; or Intel HEX,
-                 where its name ends in .hex
+  IMAGE          a file of 8,192 bytes, of the EM73P982 of 16,384
   ADDRESS        one to four hexadecimal digits
   --help, -h     this text; --version the version. Each as the first word.
 
@@ -25,7 +24,6 @@ answers:
                  nothing goes on, and the address that 21, 22 or 24 names.
                  dot -Tsvg makes the picture
   refused 01     the image cannot be read, or it has another size
-  refused 4x     a fault of a .hex image, with its line, as fromhex tells it
   refused 02     --p3 is over 15, or its bits 1..0 are 3
   refused 20     ADDRESS is no address, or it is over 1FFF
 

@@ -15,11 +15,10 @@ use crate::help::is_asked;
 use bound::{Bounded, bound};
 use bound_calls::node_at;
 use bound_numbered::explore;
-use device::Device;
+use device::{Device, image_size, is_banked};
 use graph::PLACES;
 use program::arguments::{arg, is_given};
-use program::image::{chosen_window, open_window};
-use program::refusals::refuse_address;
+use program::image::{chosen_window, open_image, refuse_window};
 use program::streams::{STDERR_FILENO, ending_of, say, show, show_part};
 use program::words::{Choice, Chosen, address_word};
 use text::digits::put_text;
@@ -31,6 +30,16 @@ const USAGE: [u8; 51] = *b"usage: flow [--device NAME [--p3 N]] IMAGE ADDRESS\n"
 
 fn usage() {
     io::write_all(STDERR_FILENO, &USAGE);
+}
+
+// Refuses a word that is no address of an image, and says what one is.
+fn refuse_address() -> bool {
+    let written = show(b"refused 20\n");
+    io::write_all(
+        STDERR_FILENO,
+        b"ADDRESS is one to four hexadecimal digits up to 1FFF, with 0x before them or h behind if you like\n",
+    );
+    written
 }
 
 // The longest path there can be has 65,535 places: N is at most that, and each of them takes a cycle or more.
@@ -264,12 +273,15 @@ fn draw_word(rt: &HostRuntime, d: Device, image: &[u8], p3: u8, word: usize) -> 
 fn draw_chosen(rt: &HostRuntime, c: Chosen) -> bool {
     let d = c.device;
     let mut image = [0u8; 16385];
-    let file = open_window(c, &mut image, &USAGE);
+    let file = open_image(rt, d, c.before as usize + 1, &mut image, &USAGE);
     let size = file.size;
-    if size == 0 {
+    if size != image_size(d) {
         return file.written;
     }
-    draw_word(rt, d, &image[..size], file.p3, c.before as usize + 2)
+    if !is_banked(d, c.p3) {
+        return refuse_window();
+    }
+    draw_word(rt, d, &image[..size], c.p3 as u8, c.before as usize + 2)
 }
 
 fn main(rt: HostRuntime) {

@@ -1,4 +1,4 @@
-// SHA-256 after FIPS 180-4, of a message of bytes: specs/Sha256.antt quotes the standard. A call for C: include/em73862_sha256.h declares it.
+// SHA-256 after FIPS 180-4, of a message of bytes: specs/Sha256.antt quotes the standard. The call for C is of crates/sha256_c: include/em73862_sha256.h declares it.
 #![tactic(auto)]
 
 pub mod message;
@@ -192,8 +192,8 @@ pub fn digest_of(message: &[u8], digest: &mut [u8])
     write_words(hash(message), digest);
 }
 
-#[unsafe(no_mangle)]
-pub extern "C" fn em73862_sha256(message: &[u8], digest: &mut [u8]) -> u8
+// What a call for C answers: crates/sha256_c hands it on.
+pub fn em73862_sha256(message: &[u8], digest: &mut [u8]) -> u8
     ensures { HashCall message.now digest.old result digest.new }
 {
     if message.len() >= MESSAGE_BYTES {

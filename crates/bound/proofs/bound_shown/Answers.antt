@@ -1,7 +1,6 @@
 -- `bound::bound_shown` meets its contract.
 use mathlib.Core.Path.{sym, ◌∙◌}
 use native.Mathlib.Omega.{arith}
-use borrow.Author.Tests.{not-true, not-false}
 use Rattle.laws.proofs.Computed.{true→T}
 use Rattle.device.proofs.Laws.{also_nibble, banked, window_fits}
 use Rattle.bound_calls.specs.CallAnswer.{gives_1, gives_2, gives_20}

@@ -1,6 +1,5 @@
 -- `bound_numbered::explore` meets its contract.
 use native.Mathlib.Omega.{arith}
-use Prim.Native.Nat.{◌-◌}
 use Rattle.device.specs.Device.{rom_of}
 use Rattle.routines.proofs.Exploring.{none_told}
 use Rattle.routines_numbered.specs.Packed.{map_in}

@@ -10,9 +10,6 @@ use Rattle.compare.proofs.rest_of_listing.Goals as goal
 pub loop-turns-init : goal.loop-turns-init
 loop-turns-init c = (c.requires.2, c.requires.4, c.requires.5, refl)
 
-pub slice_bounds-hear-end : goal.slice_bounds-hear-end
-slice_bounds-hear-end c = sym (length-take-le _ _ c.requires.0)
-
 pub slice_bounds-hear-count : goal.slice_bounds-hear-count
 slice_bounds-hear-count c = omega (arith, c.loop-turns.invariant.1)
 
@@ -20,7 +17,7 @@ pub slice_bounds-hear-start : goal.slice_bounds-hear-start
 slice_bounds-hear-start c = omega (arith, c.loop-turns.invariant.1, c.loop-turns.invariant.2)
 
 pub slice_bounds-hear-end : goal.slice_bounds-hear-end
-slice_bounds-hear-end c = omega (arith, c.loop-turns.invariant.2)
+slice_bounds-hear-end c = sym (length-take-le _ _ c.requires.0)
 
 pub hear-heard-requires : goal.hear-heard-requires
 hear-heard-requires c =

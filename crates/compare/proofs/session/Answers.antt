@@ -38,13 +38,6 @@ conclude-requires c =
     let settled = sym c.is_settled-ready.ensures ∙ c.if-ready.true in
     (pre.0, turned.sound, settled, turned.line, turned.within, omega (arith, inv.2, pre.2))
 
-pub shape_of-ours-then-is_over : goal.shape_of-ours-then-is_over
-shape_of-ours-then-is_over c =
-    let the-ours2 = c.ours-then-is_over-1 in
-    let the-turn = c.turn-t in
-    let loop = c.loop-turns in
-    omega (arith, the-ours2.given, the-turn.ensures.size, loop.invariant.4)
-
 pub shape_of-script-then-is_over : goal.shape_of-script-then-is_over
 shape_of-script-then-is_over c = c.loop-turns.invariant.2
 

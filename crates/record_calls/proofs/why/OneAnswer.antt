@@ -1,5 +1,5 @@
 -- em73862_why and em73p982_why have one answer: the numbers of two that conform are equal.
-use mathlib.Core.Path.{◌≡◌, ap}
+use mathlib.Core.Path.{◌≡◌}
 use mathlib.Core.List.{List}
 use Prim.Native.Nat.{ℕ}
 use Rattle.numbers.specs.ComesBack.{Paper, value_at}

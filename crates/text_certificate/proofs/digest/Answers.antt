@@ -1,5 +1,4 @@
 -- `text_certificate::digest` meets its contract: from i on the digest is left to be written.
-use Prim.Native.Nat.{◌-◌}
 use native.Mathlib.Omega.{arith}
 use lib.ListN.{drop_of_length-le}
 use Rattle.laws.proofs.Writing.{writing_all, writing_more, writing_none}
