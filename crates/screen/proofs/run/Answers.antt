@@ -14,9 +14,7 @@ small-frames Em73P982 = search rules
 
 pub session-requires : goal.session-requires
 session-requires c =
-    let start = c.before.before.before.before.before.before.before in
-    let d = start.args.d in
+    let d = c.args.d in
     let valid = fresh_valid d in
-    let made = c.before.before.before.before in
-    let room = made.before.large-buffer.ensures in
-    (start.requires, rw made.fresh.ensures valid.core, rw made.fresh.ensures valid.ram, omega (arith, small-frames d, room))
+    let new = c.fresh-m.ensures in
+    (c.requires, rw new valid.core, rw new valid.ram, omega (arith, small-frames d, c.large_buffer-part.ensures))
