@@ -6,7 +6,7 @@ use native.Mathlib.Decide.{dec_lt}
 use native.Mathlib.Omega.{arith}
 use lib.ListN.{length}
 use Rattle.numbers.specs.ComesBack.{Paper}
-use Rattle.device.specs.Device.{image_size, rom_of}
+use Rattle.device.specs.Device.{image_size}
 use Rattle.device.specs.declared.Device.{Device}
 use Rattle.device.specs.declared.Options.{Options}
 use Rattle.frame.specs.Frame.{frame_of}
@@ -22,7 +22,7 @@ use Rattle.step.specs.declared.Stepped.{Stepped}
 use Rattle.run.proofs.StaysValid.{stays_valid}
 use Rattle.display.specs.Display.{DisplayOf}
 use Rattle.writer.proofs.RoundTrip.{read_then_written, written_then_read, cut_code}
-use Rattle.routines.specs.Answer.{Kept, Found, Answer, gives_24, judged, gives_21, gives_22, bounded, gives_25, gives_23, gives_23_depth, gives_n}
+use Rattle.routines.specs.Answer.{Kept, Found, PathAnswer, Answer, gives_24, judged, gives_21, gives_22, bounded, gives_25, gives_23, gives_23_depth, gives_n}
 use Rattle.routines.specs.Calling.{Flow}
 use Rattle.bound_calls.specs.CallAnswer.{CallAnswer, gives_1, gives_2, gives_20, by_flow, paper_of_found}
 use Rattle.bound_calls.proofs.CallUnique.{one_answer_with_calls}
@@ -53,14 +53,17 @@ display_kept (no_record n a) nz = a.kept
 display_kept {d} {dots = dots} (record_of m h a) nz = display_by a nz (valid? d m) (dec_lt (length dots) 40)
 
 module _ {p p' q q' : List ℕ} where
+  path-kept : {address : ℕ → ℕ} {N d : ℕ} {path deep : List ℕ} {x : Found} → PathAnswer address p p' q q' N d path deep x → ((paper_of_found x).number ≡ 0 → ⊥) → Kept p p' q q'
+  path-kept (gives_25 n k) nz = k
+  path-kept (gives_23 n s k) nz = k
+  path-kept (gives_23_depth n s t k) nz = k
+  path-kept (gives_n n s t e g) nz = absurd (nz refl)
+
   answer-kept : {f : Flow} {cycles address : ℕ → ℕ} {x : Found} → Answer f cycles address p p' q q' x → ((paper_of_found x).number ≡ 0 → ⊥) → Kept p p' q q'
   answer-kept (gives_24 l k) nz = k
   answer-kept (judged j (gives_21 l k)) nz = k
   answer-kept (judged j (gives_22 n l k)) nz = k
-  answer-kept (judged j (bounded h (gives_25 n k))) nz = k
-  answer-kept (judged j (bounded h (gives_23 n s k))) nz = k
-  answer-kept (judged j (bounded h (gives_23_depth n s t k))) nz = k
-  answer-kept (judged j (bounded h (gives_n n s t e g))) nz = absurd (nz refl)
+  answer-kept (judged j (bounded h a)) nz = path-kept a nz
 
   call_kept : {d : Device} {image : List ℕ} {p3 start : ℕ} {paper : Paper} → CallAnswer d image p3 start p p' q q' paper → (paper.number ≡ 0 → ⊥) → Kept p p' q q'
   call_kept (gives_1 n k) nz = k
