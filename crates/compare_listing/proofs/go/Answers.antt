@@ -24,7 +24,7 @@ pub listen-got-requires : goal.listen-got-requires
 listen-got-requires c = (c.loop-present.invariant.sound.size, c.loop-present.invariant.sound.line, c.loop-present.invariant.sound.placed)
 
 pub overflow_add-heard : goal.overflow_add-heard
-overflow_add-heard c = omega (arith, going-used c.loop-present.invariant c.listen-got.ensures, c.well_formed.1.1.1.1.1.1.0.0)
+overflow_add-heard c = omega (arith, going-used c.loop-present.invariant c.listen-got.ensures)
 
 pub shape_of-ours-then-present : goal.shape_of-ours-then-present
 shape_of-ours-then-present c = c.loop-present.invariant.size
@@ -57,7 +57,7 @@ next-present-requires c =
     (c.requires.0, rw c.with_phase-present.ensures (going-heeds c.loop-present.invariant c.listen-got.ensures).sound, rw c.with_phase-present.ensures f, c.if-present.false, rw c.with_phase-present.ensures (c.loop-present.invariant.sound.fair e), rw c.with_phase-present.ensures (omega (arith, c.loop-present.invariant.count, c.requires.2)))
 
 pub overflow_add-read : goal.overflow_add-read
-overflow_add-read c = omega (arith, c.line_end-end.ensures.upper_bound, c.if-end-script.false, c.well_formed.1.1.1.1.1.0.0)
+overflow_add-read c = omega (arith, c.line_end-end.ensures.upper_bound, c.if-end-script.false)
 
 pub loop-present-smaller : goal.loop-present-smaller
 loop-present-smaller c = omega (arith, c.line_end-end.ensures.value, c.line_end-end.ensures.upper_bound, c.if-end-script.false)
