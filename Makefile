@@ -6,8 +6,7 @@ PROGRAMS = $(patsubst crates/%/src/main.rt,%,$(wildcard crates/*/src/main.rt))
 
 .PHONY: all install uninstall test edits bench help
 
-all: ## prove everything, and build all programs (target/bin) and both archives for C (target/lib)
-	@rt all check
+all: ## build all programs (target/bin) and both archives for C (target/lib), each proved with all that it is built on
 	@tools/build $(PROGRAMS)
 	@tools/archive em73862 em73p982
 
