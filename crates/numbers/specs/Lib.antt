@@ -1,2 +1,3 @@
 pub mod ComesBack
+pub mod Numbered
 pub mod Sizes
