@@ -4,9 +4,8 @@ ghost use Rattle.laws.specs.Writing.{Wrote};
 ghost use Rattle.text.specs.Digits.{in_base, places_of};
 ghost use Rattle.text.specs.Digits.{decimal as decimalOf, blanks as blanksOf};
 
-pub use crate::text::places;
-
 use crate::text::digit;
+pub use crate::text::places;
 
 pub fn put(out: &mut [u8], from: usize, c: u8) -> usize
     requires { from < length out.old }
