@@ -8,8 +8,6 @@ use lib.Dec.{T, eqb, ltb, eqb→eq, lt→ltb}
 use lib.ListN.{length, get_or}
 use Rattle.laws.proofs.Computed.{below, at, implies, modus}
 use Rattle.sheet.specs.Table.{line_at}
-use Rattle.std.specs.Borrow.{Bor}
-use Rattle.std.specs.Prelude.{map}
 use Rattle.text.specs.Same.{same_text}
 use Rattle.text.proofs.words.Same.{text_equal}
 use Rattle.notation.specs.Notation.{mnemonic_of}
@@ -23,15 +21,6 @@ has_mnemonics table = below 108 (agrees table)
 
 pub mnemonic_at : (table : List (List ℕ)) → T (has_mnemonics table) → (row : ℕ) → row ≤ 107 → get_or table row [] ≡ mnemonic_of row
 mnemonic_at table t row h = text_equal (get_or table row []) (mnemonic_of row) (at (agrees table) 108 t row (omega arith))
-
--- what is lent of a table
-abbrev pub lent : Bor (List ℕ) → List ℕ
-lent b = b.now
-
-pub lent_at : (table : List (Bor (List ℕ))) (row : ℕ) (d : Bor (List ℕ)) → (get_or table row d).now ≡ get_or (map lent table) row d.now
-lent_at [] row d = refl
-lent_at (b ∷ table) zero d = refl
-lent_at (b ∷ table) (suc row) d = lent_at table row d
 
 -- a number that is no row's has no mnemonic
 abbrev rowless : ℕ → Bool

@@ -3,7 +3,8 @@ use borrow.Author.Rules.{rules}
 use Rattle.sheet.specs.Table.{line_at}
 use Rattle.std.specs.Prelude.{map}
 use Rattle.notation.specs.declared.TheConstants.{MNEMONICS}
-use Rattle.notation.proofs.Mnemonics.{lent_at, mnemonic_at, no_mnemonic}
+use Rattle.text.proofs.Lent.{lent_at}
+use Rattle.notation.proofs.Mnemonics.{mnemonic_at, no_mnemonic}
 use Rattle.notation.proofs.mnemonic.Goals as goal
 
 pub returns-then-row-le107 : goal.returns-then-row-le107
