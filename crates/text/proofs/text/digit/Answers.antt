@@ -1,7 +1,7 @@
--- `text::digits::digit` meets its contract.
+-- `text::text::digit` meets its contract.
 use mathlib.Core.Path.{refl}
 use Rattle.text.specs.Digits.{digit}
-use Rattle.text.proofs.digits.digit.Goals as goal
+use Rattle.text.proofs.text.digit.Goals as goal
 
 pub returns : goal.returns
 unfolding digit
