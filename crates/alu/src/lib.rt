@@ -5,10 +5,8 @@ ghost use Rattle.std.specs.Prelude.{◌≡◌, ◌<◌};
 ghost use Rattle.sheet.specs.Operation.Op.{Plus, PlusCF, Minus, MinusCF', And, Or, Xor, RotateLeft, RotateRight};
 ghost use Rattle.alu.specs.Making.{made, nibble_of};
 
-use bits::bit_of;
-
 // A nibble, and the carry of the operation that made it.
-#[derive(Clone, Copy)]
+#[derive(Clone, Copy, PartialEq, Eq)]
 pub struct Made {
     pub value: u8,
     pub carry: bool,
@@ -34,7 +32,7 @@ pub fn plus_cf(a: u8, b: u8, cf: bool) -> Made
     requires { (a < 16) × (b < 16) }
     ensures { result ≡ made PlusCF a b cf }
 {
-    nibble(a + b + bit_of(cf))
+    nibble(a + b + u8::from(cf))
 }
 
 // No borrow is carry.
@@ -49,7 +47,7 @@ pub fn minus_cf(a: u8, b: u8, cf: bool) -> Made
     requires { (a < 16) × (b < 16) }
     ensures { result ≡ made MinusCF' a b cf }
 {
-    nibble(a + 15 + bit_of(cf) - b)
+    nibble(a + 15 + u8::from(cf) - b)
 }
 
 pub fn and(a: u8, b: u8, cf: bool) -> Made
@@ -85,7 +83,7 @@ pub fn rotate_left(a: u8, cf: bool) -> Made
     ensures { result ≡ made RotateLeft a 0 cf }
 {
     Made {
-        value: (a * 2 + bit_of(cf)) % 16,
+        value: (a * 2 + u8::from(cf)) % 16,
         carry: 8 <= a,
     }
 }
@@ -96,7 +94,7 @@ pub fn rotate_right(a: u8, cf: bool) -> Made
     ensures { result ≡ made RotateRight a 0 cf }
 {
     Made {
-        value: a / 2 + 8 * bit_of(cf),
+        value: a / 2 + 8 * u8::from(cf),
         carry: a % 2 == 1,
     }
 }
