@@ -6,7 +6,7 @@ ghost use Rattle.sheet.specs.Operation.Op.{Plus, PlusCF, Minus, MinusCF', And, O
 ghost use Rattle.alu.specs.Making.{made, nibble_of};
 
 // A nibble, and the carry of the operation that made it.
-#[derive(Clone, Copy, PartialEq, Eq)]
+#[derive(Clone, Copy)]
 pub struct Made {
     pub value: u8,
     pub carry: bool,
@@ -21,6 +21,7 @@ fn nibble(total: u8) -> Made
     }
 }
 
+#[tactic(auto, unfolding(crate::specs::Making::made))]
 pub fn plus(a: u8, b: u8, cf: bool) -> Made
     requires { (a < 16) × (b < 16) }
     ensures { result ≡ made Plus a b cf }
@@ -28,6 +29,7 @@ pub fn plus(a: u8, b: u8, cf: bool) -> Made
     nibble(a + b)
 }
 
+#[tactic(auto, unfolding(crate::specs::Making::made))]
 pub fn plus_cf(a: u8, b: u8, cf: bool) -> Made
     requires { (a < 16) × (b < 16) }
     ensures { result ≡ made PlusCF a b cf }
@@ -36,6 +38,7 @@ pub fn plus_cf(a: u8, b: u8, cf: bool) -> Made
 }
 
 // No borrow is carry.
+#[tactic(auto, unfolding(crate::specs::Making::made))]
 pub fn minus(a: u8, b: u8, cf: bool) -> Made
     requires { (a < 16) × (b < 16) }
     ensures { result ≡ made Minus a b cf }
@@ -43,6 +46,7 @@ pub fn minus(a: u8, b: u8, cf: bool) -> Made
     nibble(a + 16 - b)
 }
 
+#[tactic(auto, unfolding(crate::specs::Making::made))]
 pub fn minus_cf(a: u8, b: u8, cf: bool) -> Made
     requires { (a < 16) × (b < 16) }
     ensures { result ≡ made MinusCF' a b cf }
@@ -50,6 +54,7 @@ pub fn minus_cf(a: u8, b: u8, cf: bool) -> Made
     nibble(a + 15 + u8::from(cf) - b)
 }
 
+#[tactic(auto, unfolding(crate::specs::Making::made))]
 pub fn and(a: u8, b: u8, cf: bool) -> Made
     ensures { result ≡ made And a b cf }
 {
@@ -59,6 +64,7 @@ pub fn and(a: u8, b: u8, cf: bool) -> Made
     }
 }
 
+#[tactic(auto, unfolding(crate::specs::Making::made))]
 pub fn or(a: u8, b: u8, cf: bool) -> Made
     ensures { result ≡ made Or a b cf }
 {
@@ -68,6 +74,7 @@ pub fn or(a: u8, b: u8, cf: bool) -> Made
     }
 }
 
+#[tactic(auto, unfolding(crate::specs::Making::made))]
 pub fn xor(a: u8, b: u8, cf: bool) -> Made
     ensures { result ≡ made Xor a b cf }
 {
@@ -78,6 +85,7 @@ pub fn xor(a: u8, b: u8, cf: bool) -> Made
 }
 
 // The carry comes in at bit 0, and bit 3 leaves.
+#[tactic(auto, unfolding(crate::specs::Making::made))]
 pub fn rotate_left(a: u8, cf: bool) -> Made
     requires { a < 16 }
     ensures { result ≡ made RotateLeft a 0 cf }
@@ -89,6 +97,7 @@ pub fn rotate_left(a: u8, cf: bool) -> Made
 }
 
 // The carry comes in at bit 3, and bit 0 leaves.
+#[tactic(auto, unfolding(crate::specs::Making::made))]
 pub fn rotate_right(a: u8, cf: bool) -> Made
     requires { a < 16 }
     ensures { result ≡ made RotateRight a 0 cf }

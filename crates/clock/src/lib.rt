@@ -5,7 +5,7 @@ ghost use Rattle.std.specs.Prelude.{◌≡◌, ◌+◌, ◌<◌};
 ghost use Rattle.clock.specs.Clock.{is_multiple, runs, counts, tbi_sets, latched, counted, count, met, tick, passed, event_count, InRange};
 
 // Time base, timers, and the latches IL5 to IL0 as bits 5 to 0.
-#[derive(Clone, Copy, PartialEq, Eq)]
+#[derive(Clone, Copy)]
 pub struct Time {
     pub base: u32,
     pub ta: u16,
