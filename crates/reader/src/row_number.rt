@@ -137,9 +137,11 @@ fn row_6f(b1: u8) -> Option<u8>
     ensures { Begins2 6 15 b1 (numbered result 0 (b1 % 32)) }
 {
     match b1 / 16 {
-        0 | 1 => Some(rows::OUTA),
+        0 => Some(rows::OUTA),
+        1 => Some(rows::OUTA),
         4 => Some(rows::INA),
-        8 | 9 => Some(rows::OUTM),
+        8 => Some(rows::OUTM),
+        9 => Some(rows::OUTM),
         12 => Some(rows::INM),
         _ => None,
     }

@@ -6,9 +6,9 @@ use mathlib.Core.Logic.{◌⊎◌, inl, inr}
 use Prim.Native.Nat.{ℕ, ◌+◌, ◌*◌, ◌/◌, ◌%◌, ◌<◌, ◌≤◌}
 use native.Mathlib.Omega.{arith}
 use lib.Dec.{T, eqb, eqb→eq, ltb, leb, le→leb}
-use borrow.Author.Tests.{eq-eqb, not-true}
+use borrow.Author.Tests.{eq-eqb}
 use Rattle.laws.specs.Choice.{pick}
-use Rattle.laws.proofs.Computed.{below, where_at, rest_at, implies, modus, out, NoKey, true→T, T→true}
+use Rattle.laws.proofs.Computed.{below, where_at, rest_at, implies, modus, out, NoKey, true→T}
 use Rattle.sheet.specs.Reading.{Read, insn, row_number, row_with, read_digits}
 use Rattle.sheet.specs.declared.Insn.{Insn}
 use Rattle.std.specs.Prelude.{Option, Some, None, Ok, Err}
