@@ -13,6 +13,7 @@ ghost use Rattle.row_dispatch.specs.Performs.{Ready, Performs, turn_of, turn_by}
 use device::Options;
 use keeps::{from_pointer, quiet};
 use lends::{read, turn, write};
+use numbers::Stop;
 use record::{Core, Ram};
 use row::Turn;
 use row_ends::Act;
@@ -55,55 +56,47 @@ fn group_of(i: Insn) -> u8
 fn with_act(m: Core, x: Act) -> Turn
     ensures { result ≡ turn_of m x }
 {
-    let regs = x.regs;
-    let mut core = m;
-    core.regs = regs;
-    core.pc = x.pc;
     Turn {
-        stop: x.stop,
         cycles: x.cycles,
-        core: core,
+        core: Core {
+            regs: x.regs,
+            pc: x.pc,
+            ..m
+        },
     }
 }
 
 fn with_pointed(m: Core, x: Pointed) -> Turn
     ensures { result ≡ turn_by m x }
 {
-    let regs = x.act.regs;
-    let ptrs = x.ptrs;
-    let timers = x.timers;
-    let mut core = m;
-    core.regs = regs;
-    core.pc = x.act.pc;
-    core.ptrs = ptrs;
-    core.timers = timers;
     Turn {
-        stop: x.act.stop,
         cycles: x.act.cycles,
-        core: core,
+        core: Core {
+            regs: x.act.regs,
+            pc: x.act.pc,
+            ptrs: x.ptrs,
+            timers: x.timers,
+            ..m
+        },
     }
 }
 
-pub fn perform(image: &[u8], options: Options, m: Core, ram: &mut Ram, i: Insn) -> Turn
+#[tactic(auto, using(crate::proofs::Arms::acted, crate::proofs::Arms::stopped, crate::proofs::Arms::settled_acted, crate::proofs::Arms::settled_stopped))]
+pub fn perform(
+    image: &[u8],
+    options: Options,
+    m: Core,
+    ram: &mut Ram,
+    i: Insn,
+) -> Result<Turn, Stop>
     requires { (Ready options.device m ram.old i) × (length image.now ≡ image_size options.device) }
     ensures { Performs (rom_of image.now m.ports.p3) options m i ram.old ram.new result }
 {
-    let group = group_of(i);
-    if group < 6 {
-        let act = quiet(m, i, group);
-        return with_act(m, act);
+    match group_of(i) {
+        group @ 0..6 => Ok(with_act(m, quiet(m, i, group)?)),
+        group @ 6..10 => Ok(with_act(m, read(m, ram, i, group)?)),
+        group @ 10..14 => Ok(with_act(m, write(m, ram, i, group)?)),
+        group @ 14..18 => Ok(with_pointed(m, from_pointer(image, m, i, group)?)),
+        group => turn(options, m, ram, i, group),
     }
-    if group < 10 {
-        let act = read(m, ram, i, group);
-        return with_act(m, act);
-    }
-    if group < 14 {
-        let act = write(m, ram, i, group);
-        return with_act(m, act);
-    }
-    if group < 18 {
-        let pointed = from_pointer(image, m, i, group);
-        return with_pointed(m, pointed);
-    }
-    turn(options, m, ram, i, group)
 }
