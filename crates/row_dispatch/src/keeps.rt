@@ -1,10 +1,10 @@
 // The groups that leave RAM as it was and do not read it.
-ghost use Rattle.std.specs.Prelude.{◌≡◌, ◌+◌, ◌*◌, ◌%◌, ◌<◌, ◌≤◌, length};
-ghost use Rattle.device.specs.Device.{rom_of, window_end};
+ghost use Rattle.std.specs.Prelude.{◌≡◌, ◌+◌, ◌<◌, ◌≤◌};
+ghost use Rattle.device.specs.Device.{rom_of};
 ghost use Rattle.row_dispatch.specs.Groups.{InGroup};
 ghost use Rattle.row_dispatch.specs.Performs.{InRanges, Settles, Points};
 
-use device::in_image;
+use device::image::Window;
 use numbers::Stop;
 use record::Core;
 use row_ends::Act;
@@ -33,24 +33,23 @@ pub fn quiet(m: Core, i: Insn, group: u8) -> Result<Act, Stop>
     }
 }
 
-// The byte at 1000h + DP, in the bank that P3 shows.
-fn rom_byte(image: &[u8], m: Core) -> u8
-    requires { (window_end m.ports.p3 ≤ length image.now) × (m.ptrs.dp < 4096) }
-    ensures { result ≡ rom_of image.now m.ports.p3 (0x1000 + m.ptrs.dp) }
+// The byte at 1000h + DP.
+fn rom_byte(window: Window, m: Core) -> u8
+    requires { m.ptrs.dp < 4096 }
+    ensures { result ≡ rom_of window.entry.bytes.now window.entry.p3 (0x1000 + m.ptrs.dp) }
 {
-    let at = in_image(m.ports.p3, 0x1000 + m.ptrs.dp);
-    image[at]
+    window.byte(0x1000 + m.ptrs.dp)
 }
 
 // The rows that leave another pointer or timer.
-pub fn from_pointer(image: &[u8], m: Core, i: Insn, group: u8) -> Result<Pointed, Stop>
-    requires { (InRanges m) × (InGroup group i) × (window_end m.ports.p3 ≤ length image.now) × (14 ≤ group) × (group < 18) }
-    ensures { Points (rom_of image.now m.ports.p3) m i result }
+pub fn from_pointer(window: Window, m: Core, i: Insn, group: u8) -> Result<Pointed, Stop>
+    requires { (InRanges m) × (InGroup group i) × (14 ≤ group) × (group < 18) }
+    ensures { Points (rom_of window.entry.bytes.now window.entry.p3) m i result }
 {
     match group {
         14 => store_pointer(m, i.row),
         15 => store_timer(m, i.row),
-        16 => Ok(load_low(m, rom_byte(image, m))),
-        _ => Ok(load_high(m, rom_byte(image, m))),
+        16 => Ok(load_low(m, rom_byte(window, m))),
+        _ => Ok(load_high(m, rom_byte(window, m))),
     }
 }

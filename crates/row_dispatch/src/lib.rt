@@ -4,13 +4,14 @@
 mod keeps;
 mod lends;
 
-ghost use Rattle.std.specs.Prelude.{◌≡◌, length, ◌<◌};
+ghost use Rattle.std.specs.Prelude.{◌≡◌, ◌<◌};
 ghost use Rattle.sheet.specs.Fields.{InFields};
-ghost use Rattle.device.specs.Device.{image_size, rom_of};
+ghost use Rattle.device.specs.Device.{rom_of};
 ghost use Rattle.row_dispatch.specs.Groups.{InGroup, Packs};
 ghost use Rattle.row_dispatch.specs.Performs.{Ready, Performs, turn_of, turn_by};
 
 use device::Options;
+use device::image::Window;
 use keeps::{from_pointer, quiet};
 use lends::{read, turn, write};
 use numbers::Stop;
@@ -83,20 +84,20 @@ fn with_pointed(m: Core, x: Pointed) -> Turn
 
 #[tactic(auto, using(crate::proofs::Arms::acted, crate::proofs::Arms::stopped, crate::proofs::Arms::settled_acted, crate::proofs::Arms::settled_stopped))]
 pub fn perform(
-    image: &[u8],
+    window: Window,
     options: Options,
     m: Core,
     ram: &mut Ram,
     i: Insn,
 ) -> Result<Turn, Stop>
-    requires { (Ready options.device m ram.old i) × (length image.now ≡ image_size options.device) }
-    ensures { Performs (rom_of image.now m.ports.p3) options m i ram.old ram.new result }
+    requires { Ready options.device m ram.old i }
+    ensures { Performs (rom_of window.entry.bytes.now window.entry.p3) options m i ram.old ram.new result }
 {
     match group_of(i) {
         group @ 0..6 => Ok(with_act(m, quiet(m, i, group)?)),
         group @ 6..10 => Ok(with_act(m, read(m, ram, i, group)?)),
         group @ 10..14 => Ok(with_act(m, write(m, ram, i, group)?)),
-        group @ 14..18 => Ok(with_pointed(m, from_pointer(image, m, i, group)?)),
+        group @ 14..18 => Ok(with_pointed(m, from_pointer(window, m, i, group)?)),
         group => turn(options, m, ram, i, group),
     }
 }
