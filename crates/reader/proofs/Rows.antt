@@ -12,7 +12,7 @@ use Rattle.sheet.specs.Fields.{InFields}
 use Rattle.sheet.specs.Reading.{read_bytes, read_left, left, read_at, bytes_of}
 use Rattle.sheet.specs.Timing.{Timed, TimedFrom}
 use Rattle.sheet.specs.declared.Insn.{Insn}
-use Rattle.sheet.specs.declared.Read.TheVariants.{Row}
+use Rattle.std.specs.Prelude.{Ok}
 use Rattle.sheet.proofs.Operands.{AreDigits, in-fields}
 use Rattle.sheet.proofs.ReadAs.{row_of, has_row, nothing_read}
 use Rattle.sheet.proofs.Lengths.{row_enough}
@@ -25,19 +25,19 @@ are_digits (suc zero) a b c h i j = (omega arith, (omega arith, tt))
 are_digits (suc (suc zero)) a b c h i j = (omega arith, (omega arith, (omega arith, (omega arith, tt))))
 are_digits (suc (suc (suc k))) a b c h i j = rw (take-nil {A = ℕ} k) (omega arith, (omega arith, (omega arith, (omega arith, (omega arith, (omega arith, tt))))))
 
-timed_left : (k b : ℕ) (more : List ℕ) (i : Insn) → read_bytes (take k (b ∷ more)) ≡ Row i → (n t : ℕ) → TimedFrom b n t → Timed i.row n t
+timed_left : (k b : ℕ) (more : List ℕ) (i : Insn) → read_bytes (take k (b ∷ more)) ≡ Ok i → (n t : ℕ) → TimedFrom b n t → Timed i.row n t
 timed_left zero b more i e n t timed = absurd (nothing_read i e)
 timed_left (suc k) b more i e n t timed = rw (row_of (digits (b ∷ take k more)) i e) (timed (digits (take k more)) (has_row (digits (b ∷ take k more)) i e))
 
-enough_left : (k b : ℕ) (more : List ℕ) (i : Insn) → b < 256 → read_bytes (take k (b ∷ more)) ≡ Row i → bytes_of i.row ≤ k
+enough_left : (k b : ℕ) (more : List ℕ) (i : Insn) → b < 256 → read_bytes (take k (b ∷ more)) ≡ Ok i → bytes_of i.row ≤ k
 enough_left zero b more i h e = absurd (nothing_read i e)
 enough_left (suc k) b more i h e =
     let n : bytes_of i.row ≤ length (b ∷ take k more) = row_enough b (take k more) i h e in
     let l : length (take k more) ≡ min k (length more) = length-take k more in
     omega arith
 
-module _ (rom : ℕ → ℕ) (at : ℕ) (i : Insn) (e : read_at rom at ≡ Row i) where
-  row : read_bytes (left rom at) ≡ Row i
+module _ (rom : ℕ → ℕ) (at : ℕ) (i : Insn) (e : read_at rom at ≡ Ok i) where
+  row : read_bytes (left rom at) ≡ Ok i
   row = left_row (left rom at) i e
 
   pub read-in-fields : ((k : ℕ) → rom k < 256) → InFields i
