@@ -10,7 +10,8 @@ ghost use Rattle.sheet.specs.Reading.{read_bytes, read_left, read_at};
 ghost use Rattle.reader.specs.Answer.{paper_of, p3_given, read_paper};
 
 use crate::row_number::found;
-use device::{Device, image_size, in_image, is_banked};
+use device::Device;
+use device::image::{Image, Window};
 use numbers::{LAST_ADDRESS, Refusal};
 use sheet::{Insn, NoRow};
 
@@ -39,9 +40,10 @@ fn last_one(b0: u8) -> Result<Insn, NoRow>
 {
     let cost = sheet::timing(b0);
     if cost.bytes < 2 {
-        return decode(b0, 0, 0);
+        decode(b0, 0, 0)
+    } else {
+        Err(NoRow::PastEnd) // it begins a longer row
     }
-    Err(NoRow::PastEnd) // it begins a longer row
 }
 
 // What the two bytes are that are left at the address before it; of three bytes is SLBR alone, whose second is 1100 aaaa.
@@ -50,72 +52,39 @@ fn last_two(b0: u8, b1: u8) -> Result<Insn, NoRow>
 {
     let cost = sheet::timing(b0);
     if cost.bytes < 3 {
-        return decode(b0, b1, 0);
+        decode(b0, b1, 0)
+    } else if b1 / 16 == 12 {
+        Err(NoRow::PastEnd) // SLBR goes on
+    } else {
+        Err(NoRow::Unassigned)
     }
-    if b1 / 16 == 12 {
-        return Err(NoRow::PastEnd);
-    }
-    Err(NoRow::Unassigned)
 }
 
-// What stands at an address that has two behind it, wherever the window begins: a code may begin in bank 0 and go on in it.
-fn across(image: &[u8], p3: u8, at: u16) -> Result<Insn, NoRow>
-    requires { (window_end p3 ≤ length image.now) × (at < 8190) }
-    ensures { result ≡ read_at (rom_of image.now p3) at }
+// What stands at an address of the window.
+pub fn read_at(window: Window, at: u16) -> Result<Insn, NoRow>
+    requires { at < addresses }
+    ensures { result ≡ read_at (rom_of window.entry.bytes.now window.entry.p3) at }
 {
-    let i = in_image(p3, at);
-    let j = in_image(p3, at + 1);
-    let k = in_image(p3, at + 2);
-    decode(image[i], image[j], image[k])
-}
-
-// What stands at an address of the window; before the last two there are always three bytes.
-fn in_window(image: &[u8], p3: u8, at: u16) -> Result<Insn, NoRow>
-    requires { (window_end p3 ≤ length image.now) × (4096 ≤ at) × (at < addresses) }
-    ensures { result ≡ read_at (rom_of image.now p3) at }
-{
-    let i = in_image(p3, at);
     if at < 8190 {
-        return decode(image[i], image[i + 1], image[i + 2]);
+        decode(window.byte(at), window.byte(at + 1), window.byte(at + 2))
+    } else if at == 8190 {
+        last_two(window.byte(at), window.byte(at + 1))
+    } else {
+        last_one(window.byte(at))
     }
-    if at == 8190 {
-        return last_two(image[i], image[i + 1]);
-    }
-    last_one(image[i])
-}
-
-// What stands at an address of an image, seen through the window of P3.
-pub fn read_at(image: &[u8], p3: u8, at: u16) -> Result<Insn, NoRow>
-    requires { (window_end p3 ≤ length image.now) × (at < addresses) }
-    ensures { result ≡ read_at (rom_of image.now p3) at }
-{
-    if at < 4094 {
-        let i = at as usize;
-        return decode(image[i], image[i + 1], image[i + 2]);
-    }
-    if at < 4096 {
-        return across(image, p3, at);
-    }
-    in_window(image, p3, at)
 }
 
 // The reader in the window of a P3 that the device has.
 fn read_shown(d: Device, image: &[u8], p3: u32, address: u32) -> Result<Decoded, Refusal>
     ensures { paper_of result ≡ read_paper d image.now p3 address }
 {
-    if image.len() != image_size(d) {
-        return Err(Refusal::ImageOfAnotherSize);
-    }
-    if !is_banked(d, p3) {
-        return Err(Refusal::RecordOutsideTheRanges);
-    }
+    let window = Image::of(d, image)?.shown(p3)?;
     if LAST_ADDRESS < address {
         return Err(Refusal::AddressOver8191);
     }
     let at = address as u16;
-    let bank = p3 as u8;
-    let insn = read_at(image, bank, at)?;
-    let cost = sheet::timing(image[in_image(bank, at)]);
+    let insn = read_at(window, at)?;
+    let cost = sheet::timing(window.byte(at));
     Ok(Decoded {
         insn,
         bytes: cost.bytes,
