@@ -13,6 +13,7 @@ ghost use Rattle.row.specs.Turns.{Gives};
 use bits::has_bit;
 use clock::Rates;
 use device::Options;
+use device::image::Window;
 use due::latch_of;
 use numbers::Stop;
 use ports::Mode;
@@ -40,7 +41,11 @@ fn run_one(image: &[u8], options: Options, m: Core, ram: &mut Ram) -> Result<Tur
     requires { (ValidCore options.device m) × (Nibbles ram.old) × (length image.now ≡ image_size options.device) }
     ensures { Gives (run_one (rom_of image.now) options (record { core = m; ram = ram.old })) m ram.new result }
 {
-    let insn = read_at(image, m.ports.p3, m.pc)?;
+    let window = Window {
+        bytes: image,
+        p3: m.ports.p3,
+    };
+    let insn = read_at(window, m.pc)?;
     perform(image, options, m, ram, insn)
 }
 
