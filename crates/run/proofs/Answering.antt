@@ -27,7 +27,7 @@ no_both e n = true→T (sym (sym e ∙ n))
 module _ (image : List ℕ) (o : Options) (m : Machine) (frames : List ℕ) where
   pub run-refused : (refusal : Refusal) → Refuses image o.device m refusal → RunOf image o m frames (run_refused (refusal_number refusal) m)
   run-refused refusal (inl (e, n)) = rw e (record { refused_1 = λ _. refl; refused_2 = λ s. absurd (n s); refused_4 = λ s. absurd (n s); refused_3 = λ s. absurd (n s); runs = λ s. absurd (n s) })
-  run-refused refusal (inr (e, (s, n))) = rw e (record { refused_1 = λ q. absurd (q s); refused_2 = λ _ _. refl; refused_4 = λ _ v. absurd (n v); refused_3 = λ _ v. absurd (n v); runs = λ _ v. absurd (n v) })
+  run-refused refusal (inr (e, s, n)) = rw e (record { refused_1 = λ q. absurd (q s); refused_2 = λ _ _. refl; refused_4 = λ _ v. absurd (n v); refused_3 = λ _ v. absurd (n v); runs = λ _ v. absurd (n v) })
 
   module _ (s : length image ≡ image_size o.device) (v : Valid o.device m) where
     pub run-over : 65536 * frame_size o.device < length frames → RunOf image o m frames (run_refused more_than_65536_frames m)

@@ -6,10 +6,11 @@ use Prim.Native.Nat.{ℕ, ◌+◌, ◌*◌, ◌^◌, ◌<◌, ◌≤◌}
 use native.Mathlib.Omega.{arith}
 use native.Mathlib.Nat.{zero-add}
 use lib.ListN.{length, take, drop}
-use lib.Seq.{take-append_seam, drop-append_seam}
+use lib.Seq.{take-length, take-append_seam, drop-append_seam}
 use borrow.Author.Tests.{eq-eqb, ne_eqb, eqb-true}
 use Rattle.std.specs.Prelude.{Option, Some, None}
 use Rattle.std.proofs.Common.{length-append}
+use Rattle.std.specs.Option.{is_some}
 use Rattle.laws.specs.Choice.{both}
 use Rattle.numbers.specs.Numbered.{stop_number}
 use Rattle.numbers.specs.declared.Stop.{Stop}
@@ -49,6 +50,24 @@ one_more Em73P982 piece others steps n p e = omega arith
 pub fewer_steps : (d : Device) (left steps n : ℕ) → frame_size d ≤ left → left + frame_size d * steps ≡ n → n ≤ 65536 * frame_size d → steps < 65536
 fewer_steps Em73862 left steps n l e h = omega arith
 fewer_steps Em73P982 left steps n l e h = omega arith
+
+-- a stop is no 0, and none is
+pub stopped : (s : Option Stop) → is_some s ≡ true → stop_or_0 s ≡ 0 → ⊥
+stopped None e z = absurd (cc)
+stopped (Some Stop.UnassignedCode) e z = omega arith
+stopped (Some Stop.AbsentRamAddress) e z = omega arith
+stopped (Some Stop.StackLevel) e z = omega arith
+stopped (Some Stop.AbsentPort) e z = omega arith
+stopped (Some Stop.ReservedValue) e z = omega arith
+stopped (Some Stop.PastEnd) e z = omega arith
+
+pub completed : (s : Option Stop) → is_some s ≡ false → stop_or_0 s ≡ 0
+completed None e = refl
+completed (Some s) e = absurd (cc)
+
+-- the pins of a piece that was cut off
+pub whole-piece : (n : ℕ) (piece : List ℕ) → length piece ≡ n → chars_at n piece 0 ≡ piece
+whole-piece n piece l = rw (← l) (take-length piece)
 
 -- of the characters that are left, the first piece is a frame, and the others come after it
 module _ (d : Device) (piece others : List ℕ) (l : length piece ≡ frame_size d) where

@@ -7,7 +7,8 @@ use Prim.Native.Nat.{ℕ}
 use native.Mathlib.Decide.{ℕ_discrete}
 use lib.Dec.{T}
 use lib.ListN.{length}
-use Rattle.std.specs.Prelude.{Option, Some, None}
+use Rattle.std.specs.Prelude.{Option, Some, None, Ok}
+use Rattle.std.specs.Option.{ok_or}
 use Rattle.laws.specs.Choice.{pick}
 use Rattle.numbers.specs.ComesBack.{no_frame}
 use Rattle.numbers.specs.Numbered.{refusal_number}
@@ -38,6 +39,10 @@ passes b e = true→T e
 pub not_both : {f : Option Pins} {p : Pins} → f ≡ Some p → f ≡ None → ⊥
 not_both e n = cc
 
+pub seen-by : {f : Option Pins} (refusal : Refusal) {p : Pins} → ok_or f refusal ≡ Ok p → f ≡ Some p
+seen-by {f = Some q} refusal e = cc
+seen-by {f = None} refusal e = absurd (cc)
+
 pub same_pins : {f : Option Pins} {p q : Pins} → f ≡ Some p → f ≡ Some q → p ≡ q
 same_pins e n = cc
 
@@ -52,7 +57,7 @@ seen_in_range d cs p e = range_of d cs p (is_frame (digits_of d) cs) refl e
 module _ (image : List ℕ) (o : Options) (m : Machine) (frame : List ℕ) where
   pub step-refused : (refusal : Refusal) → Refuses image o.device m refusal → StepOf image o m frame (step_refused (refusal_number refusal) m)
   step-refused refusal (inl (e, n)) = rw e (record { refused_1 = λ _. refl; refused_2 = λ s. absurd (n s); refused_3 = λ s. absurd (n s); steps = λ s. absurd (n s) })
-  step-refused refusal (inr (e, (s, n))) = rw e (record { refused_1 = λ q. absurd (q s); refused_2 = λ _ _. refl; refused_3 = λ _ v. absurd (n v); steps = λ _ v. absurd (n v) })
+  step-refused refusal (inr (e, s, n)) = rw e (record { refused_1 = λ q. absurd (q s); refused_2 = λ _ _. refl; refused_3 = λ _ v. absurd (n v); steps = λ _ v. absurd (n v) })
 
   module _ (s : length image ≡ image_size o.device) (v : Valid o.device m) where
     pub step-unseen : frame_of o.device frame ≡ None → StepOf image o m frame (step_refused no_frame m)

@@ -40,10 +40,11 @@ pub fn look(options: Options, m: Machine, frame: &[u8]) -> Result<Stepped, Refus
     }
     let pins = frame_of(options.device, frame).ok_or(Refusal::NoFrame)?;
     let Looked { core, cycles } = step_look::look(options, m.core, pins);
+    let ram = m.ram;
     Ok(Stepped {
         stop: None,
         cycles,
-        machine: Machine { core, ram: m.ram },
+        machine: Machine { core, ram },
     })
 }
 

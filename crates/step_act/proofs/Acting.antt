@@ -33,7 +33,7 @@ module _ (m : Core) (l : List ℕ) (source : ℕ) where
   unfolding accept_of
   accepts k x h e = record { same = e ∙ rw h }
 
-module _ (rom : ℕ → ℕ → ℕ) (options : Options) (m : Core) (l k : List ℕ) where
+module _ (rom : ℕ → ℕ → ℕ) (options : Options) (m : Core) (l : List ℕ) where
   stops_of : (why : NoRow) → Gives (run_read (rom m.ports.p3) options (assembled m l) (Err why)) m l (Err (stop_of why))
   stops_of NoRow.Unassigned = record { same = refl }
   stops_of NoRow.PastEnd = record { same = refl }
@@ -42,6 +42,7 @@ module _ (rom : ℕ → ℕ → ℕ) (options : Options) (m : Core) (l k : List 
   unfolding run_one
   none_read why e = rw e (stops_of why)
 
+module _ (rom : ℕ → ℕ → ℕ) (options : Options) (m : Core) (l k : List ℕ) where
   pub row_read : (i : Insn) (x : Result Turn Stop) → read_at (rom m.ports.p3) m.pc ≡ Ok i → Performs (rom m.ports.p3) options m i l k x → Gives (run_one rom options (assembled m l)) m k x
   unfolding run_one
   row_read i x e p = record { same = rw e p.same }
@@ -66,7 +67,3 @@ module _ (rom : ℕ → ℕ → ℕ) (options : Options) (m : Core) (l k : List 
 -- a valid answer's scalars and RAM are valid
 pub given_valid : {d : Device} (y : Done) (m : Core) (k : List ℕ) (x : Turn) → Gives y m k (Ok x) → Valid d y.machine → Valid d (assembled x.core k)
 given_valid {d} y m k x g v = subst (λ (y : Done). Valid d y.machine) (sym g.same) v
-
-pub after_in : (mode : Mode) (n : ℕ) (m : Core) → m.mode ≡ mode → core_in mode n m ≡ core_after n m
-unfolding core_after
-after_in mode n m e = ap (λ (k : Mode). core_in k n m) (sym e)

@@ -87,6 +87,7 @@ fn pass(m: Core, n: u16) -> Core
 }
 
 // "phase 3 is left out" on entering sleep or hold.
+#[tactic(auto, unfolding(crate::specs::Act::core_after))]
 fn after(m: Core, n: u16) -> Core
     requires { (ValidInterrupts m.ints) × (ValidTimers m.timers) × (m.ports.p25 < 16) }
     ensures { result ≡ core_after n m }

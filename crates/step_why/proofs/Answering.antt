@@ -27,7 +27,7 @@ use Rattle.step_why.specs.Answers.{values_of, paper_of, WhyAnswer}
 module _ (image : List ℕ) (o : Options) (m : Machine) (frame : List ℕ) where
   pub refused_by : (refusal : Refusal) → Refuses image o.device m refusal → WhyAnswer image o m frame (paper_of (Err refusal))
   refused_by refusal (inl (e, n)) = rw e (record { refused_1 = λ _. refl; refused_2 = λ s. absurd (n s); refused_3 = λ s. absurd (n s); says = λ s. absurd (n s) })
-  refused_by refusal (inr (e, (s, n))) = rw e (record { refused_1 = λ q. absurd (q s); refused_2 = λ _ _. refl; refused_3 = λ _ v. absurd (n v); says = λ _ v. absurd (n v) })
+  refused_by refusal (inr (e, s, n)) = rw e (record { refused_1 = λ q. absurd (q s); refused_2 = λ _ _. refl; refused_3 = λ _ v. absurd (n v); says = λ _ v. absurd (n v) })
 
   module _ (s : length image ≡ image_size o.device) (v : Valid o.device m) where
     pub unseen : frame_of o.device frame ≡ None → WhyAnswer image o m frame (paper_of (Err Refusal.NoFrame))

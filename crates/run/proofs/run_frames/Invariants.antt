@@ -1,5 +1,6 @@
 -- `run::run_frames` meets its contract.
-use Rattle.core.specs.Slice.Iter.{chunks_exact_rest, chunks_exact_size}
+use mathlib.Core.Path.{◌≡◌}
+use Rattle.std.specs.Slice.Iter.{chunks_exact_rest, chunks_exact_size}
 use Rattle.device.specs.Device.{rom_of, frame_size}
 use Rattle.frame.specs.Frame.{frames_of}
 use Rattle.record.specs.With.{assembled}

@@ -72,7 +72,7 @@ module _ (o : Options) (m : Machine) (frame : List ℕ) where
 module _ (image : List ℕ) (o : Options) (m : Machine) where
   pub act-refused : (refusal : Refusal) → Refuses image o.device m refusal → ActOf image o m (step_refused (refusal_number refusal) m)
   act-refused refusal (inl (e, n)) = rw e (record { refused_1 = λ _. refl; refused_2 = λ s. absurd (n s); acts = λ s. absurd (n s) })
-  act-refused refusal (inr (e, (s, n))) = rw e (record { refused_1 = λ q. absurd (q s); refused_2 = λ _ _. refl; acts = λ _ v. absurd (n v) })
+  act-refused refusal (inr (e, s, n)) = rw e (record { refused_1 = λ q. absurd (q s); refused_2 = λ _ _. refl; acts = λ _ v. absurd (n v) })
 
   pub act-made : (k : List ℕ) (x : Advanced) → length image ≡ image_size o.device → Valid o.device m → Advances (act_step (rom_of image) o m) k x → ActOf image o m (stepped (done_by x k))
   act-made k x s v g =
