@@ -1,5 +1,5 @@
 // Characters, at most N of them, to which more are added at the end: numbers, words and blanks.
-ghost use Rattle.std.specs.Prelude.{◌≡◌, [], ◌∷◌, ◌++◌, ◌+◌, ◌<◌, ◌≤◌, length};
+ghost use Rattle.std.specs.Prelude.{◌≡◌, [], ◌∷◌, ◌++◌, ◌+◌, ◌-◌, ◌<◌, ◌≤◌, length};
 ghost use Rattle.text.specs.Digits.{in_base, places_of};
 ghost use Rattle.text.specs.Digits.{digit as digit_of, decimal as decimalOf, blanks as blanksOf};
 
@@ -76,7 +76,8 @@ impl<const N: usize> Text<N> {
 
     pub fn put(&mut self, c: u8)
         requires { length self.old < N }
-        ensures { self.new ≡ self.old ++ c ∷ [] }
+        ensures text { self.new ≡ self.old ++ c ∷ [] }
+        ensures size { length self.new ≡ length self.old + 1 }
     {
         self.chars[self.len] = c;
         self.len += 1;
@@ -84,7 +85,8 @@ impl<const N: usize> Text<N> {
 
     pub fn put_text(&mut self, text: &[u8])
         requires { length self.old + length text.now ≤ N }
-        ensures { self.new ≡ self.old ++ text.now }
+        ensures text { self.new ≡ self.old ++ text.now }
+        ensures size { length self.new ≡ length self.old + length text.now }
     {
         let end = self.len + text.len();
         let room = &mut self.chars[..];
@@ -94,12 +96,22 @@ impl<const N: usize> Text<N> {
 
     pub fn blanks(&mut self, n: usize)
         requires { length self.old + n ≤ N }
-        ensures { self.new ≡ self.old ++ blanksOf n }
+        ensures text { self.new ≡ self.old ++ blanksOf n }
+        ensures size { length self.new ≡ length self.old + n }
     {
         let end = self.len + n;
         let room = &mut self.chars[..];
         room[self.len..end].fill(b' ');
         self.len = end;
+    }
+
+    // Blanks up to a length.
+    pub fn fill_to(&mut self, len: usize)
+        requires { (length self.old ≤ len) × (len ≤ N) }
+        ensures text { self.new ≡ self.old ++ blanksOf (len - length self.old) }
+        ensures size { length self.new ≡ len }
+    {
+        self.blanks(len - self.len);
     }
 
     // The last places digits of v.
