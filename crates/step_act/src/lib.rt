@@ -46,7 +46,7 @@ fn run_one(image: &[u8], options: Options, m: Core, ram: &mut Ram) -> Result<Tur
         p3: m.ports.p3,
     };
     let insn = read_at(window, m.pc)?;
-    perform(image, options, m, ram, insn)
+    perform(window, options, m, ram, insn)
 }
 
 // The latch of the source that is due, where EI is set.

@@ -5,10 +5,12 @@ use mathlib.Core.Logic.{inl, inr}
 use Prim.Native.Nat.{ℕ}
 use native.Mathlib.Decide.{ℕ_discrete}
 use lib.Dec.{eqb}
+use borrow.Author.Tests.{eqb-false}
 use lib.ListN.{length, get_or}
 use Rattle.std.specs.Prelude.{Option, Some, None, Result, Ok, Err}
 use Rattle.laws.specs.Choice.{pick}
 use Rattle.numbers.specs.declared.Refusal.{Refusal}
+use Rattle.numbers.specs.Numbered.{refusal_number}
 use Rattle.numbers.proofs.OneNumber.{one_refusal, refusal_some}
 use Rattle.numbers.specs.ComesBack.{Paper, answered, value_at}
 use Rattle.device.specs.Device.{image_size}
@@ -76,8 +78,8 @@ from_paper p = from_values (value_at p 0) (value_at p 1) (value_at p 2)
 same-answer : (r s : Result Reason Refusal) → paper_of r ≡ paper_of s → r ≡ s
 same-answer (Ok a) (Ok b) e = ap Ok (sym (back a) ∙ (ap from_paper e ∙ back b))
 same-answer (Err a) (Err b) e = ap Err (one_refusal a b (ap (λ (p : Paper). p.number) e))
-same-answer (Ok a) (Err b) e = absurd (refusal_some b (sym (ap (λ (p : Paper). p.number) e)))
-same-answer (Err a) (Ok b) e = absurd (refusal_some a (ap (λ (p : Paper). p.number) e))
+same-answer (Ok a) (Err b) e = absurd (eqb-false (refusal_number b) 0 (refusal_some b) (sym (ap (λ (p : Paper). p.number) e)))
+same-answer (Err a) (Ok b) e = absurd (eqb-false (refusal_number a) 0 (refusal_some a) (ap (λ (p : Paper). p.number) e))
 
 pub one_answer : (image : List ℕ) (o : Options) (m : Machine) (frame : List ℕ) (r s : Result Reason Refusal) → WhyAnswer image o m frame (paper_of r) → WhyAnswer image o m frame (paper_of s) → r ≡ s
 one_answer image o m frame r s a b = same-answer r s (one_paper image o m frame (paper_of r) (paper_of s) a b)

@@ -16,7 +16,7 @@ perform-requires c =
     let pre = c.requires in
     let args = c.args in
     let rom = rom_of args.image.now args.m.ports.p3 in
-    (record { core = pre.0; ram = pre.1; insn = read-in-fields rom args.m.pc _ (sym c.read_at.ensures ∙ c.in_ok-insn.was) (λ at. (c.type_inv.image (in_image args.m.ports.p3 at)).fits) }, pre.2)
+    record { core = pre.0; ram = pre.1; insn = read-in-fields rom args.m.pc _ (sym c.read_at.ensures ∙ c.in_ok-insn.was) (λ at. (c.type_inv.image (in_image args.m.ports.p3 at)).fits) }
 
 pub returns : goal.returns
 returns c = row_read _ _ _ _ _ _ _ (sym c.read_at.ensures ∙ c.in_ok-insn.was) c.perform.ensures
