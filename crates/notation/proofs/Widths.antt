@@ -10,7 +10,7 @@ use Rattle.laws.proofs.Computed.{below, at as at_row}
 use Rattle.sheet.specs.Table.{line_at}
 use Rattle.sheet.specs.declared.Insn.{Insn}
 use Rattle.text.specs.Digits.{in_base, places_of}
-use Rattle.std.specs.Option.{unwrap_or}
+use Rattle.std.specs.Prelude.{unwrap_or}
 use Rattle.sheet.specs.Flow.{goes_to}
 use Rattle.notation.specs.Notation.{is, sign, spelled, mnemonic_of, row_text}
 use Rattle.text.proofs.digits.Numbers.{digits_length, places_up_to}

@@ -1,6 +1,5 @@
 -- A row in the notation of sheet 000: its mnemonic, with each operand in the place of its letter. Sentences in quotation marks are of docs/PROGRAMS.md.
-use Rattle.std.specs.Prelude.{ℕ, Bool, List, [], ◌∷◌, ◌++◌, eqb}
-use Rattle.std.specs.Option.{unwrap_or}
+use Rattle.std.specs.Prelude.{ℕ, Bool, List, [], ◌∷◌, ◌++◌, eqb, unwrap_or}
 use Prim.Native.Char.{Char, code}
 use Rattle.laws.specs.Choice.{pick}
 use Rattle.sheet.specs.Flow.{goes_to}
