@@ -41,12 +41,11 @@ pub record Grown (P : ℕ → Type 0) (m q : List ℕ) (count : ℕ) (m' q' : Li
   pub new : (v : ℕ) → Marked m' v → Marked m v ⊎ OnQ q' count' v
   pub has : (i : ℕ) → count ≤ i → i < count' → P (get_or q' i 0)
 
--- the queue holds places below n, count of them
-pub record Queue (q : List ℕ) (count n : ℕ) : Type 0 where
-  pub len : length q ≡ n
+-- the queue holds places below n, so many at most
+pub record Places (q : List ℕ) (n : ℕ) : Type 0 where
   pub small : n ≤ most_nodes
-  pub le : count ≤ n
-  pub below : (i : ℕ) → i < count → get_or q i 0 < n
+  pub le : length q ≤ n
+  pub below : (i : ℕ) → i < length q → get_or q i 0 < n
 
 -- the queue holds just what is marked
 pub record Listed (m q : List ℕ) (count : ℕ) : Type 0 where
