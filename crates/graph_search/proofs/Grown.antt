@@ -68,17 +68,22 @@ pub room_grown : {P : ℕ → Type 0} {m q m' q' : List ℕ} {t t' : ℕ} → Ro
 room_grown r gr a b = record { len = omega (arith, r.len); small = omega (arith, r.small); room = omega (arith, r.room, gr.total) }
 
 -- the part of a queue that is listed
-module _ {m q : List ℕ} {t : ℕ} (li : Listed m q t) where
+module _ {m q : List ℕ} {t : ℕ} (li : Listed m q t) (len : length q ≡ length m) where
   pub part-length : length (take t q) ≡ t
-  part-length = length-take-le t q (omega (arith, li.le, li.len))
+  part-length = length-take-le t q (omega (arith, li.le, len))
+
+  pub part-listed : Listed m (take t q) (length (take t q))
+  part-listed =
+      record {
+        listed = λ v h. let o = li.listed v h in (o.0, omega (arith, o.1, part-length), get_or-take t q o.0 0 o.1 ∙ o.2);
+        marked = λ i l. rw (get_or-take t q i 0 (omega (arith, l, part-length))) (li.marked i (omega (arith, l, part-length)));
+        le = omega (arith, part-length, li.le);
+      }
 
   pub part-places : {n : ℕ} → length m ≡ n → n ≤ most_nodes → Places (take t q) n
   part-places e small =
       record {
         small = small;
         le = omega (arith, part-length, li.le, e);
-        below = λ i l. rw (get_or-take t q i 0 (omega (arith, l, part-length))) (omega (arith, marked_lt m (get_or q i 0) (li.marked i (omega (arith, l, part-length))), e));
+        below = λ i l. omega (arith, marked_lt m (get_or (take t q) i 0) (part-listed.marked i l), e);
       }
-
-  pub part-on : {v : ℕ} → OnQ (take t q) (length (take t q)) v → OnQ q t v
-  part-on (i, l, e) = (i, omega (arith, l, part-length), rw (get_or-take t q i 0 (omega (arith, l, part-length))) at e)

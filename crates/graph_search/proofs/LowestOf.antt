@@ -1,12 +1,11 @@
 -- The lowest place of a queue, found place by place.
-use Rattle.std.proofs.Common.{◌≡◌, List, ℕ, ◌+◌, ◌≤◌, ◌<◌, ◌⊎◌, inl, inr, ⊎_elim, get_or, sym, refl, ◌∙◌, Option, None, Some, arith}
+use Rattle.std.proofs.Common.{◌≡◌, List, ℕ, ◌+◌, ◌≤◌, ◌<◌, ◌⊎◌, inl, inr, get_or, sym, refl, Option, None, Some, arith}
 use native.Mathlib.Decide.{dec_lt}
 use Rattle.graph.specs.Graph.{Bad, Least}
 use Rattle.graph.specs.Laid.{graph_of}
 use Rattle.graph_search.specs.Marks.{OnQ, Listed}
 use Rattle.graph_search.specs.Search.{Reached}
 use Rattle.graph_search.specs.Lowest.{Outside, Lower, Lowest}
-use Rattle.graph_search.proofs.Zeros.{marked_lt}
 
 none_some : {x : ℕ} → ◌≡◌ {A = Option ℕ} None (Some x) → ⊥
 none_some e = cc

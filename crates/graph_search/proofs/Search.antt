@@ -7,8 +7,7 @@ use native.Mathlib.Omega.{arith}
 use native.Mathlib.Decide.{dec_lt}
 use lib.ListN.{length, get_or}
 use Rattle.graph.specs.Graph.{Graph, GoesOn, Edge, Reach, here}
-use Rattle.graph.specs.Laid.{Inside}
-use Rattle.graph.proofs.Reach.{reach_snoc, reach_in, reach_inside}
+use Rattle.graph.proofs.Reach.{reach_snoc, reach_in}
 use Rattle.graph_search.specs.Marks.{Marked, Blank, Room, Grown, Listed}
 use Rattle.graph_search.specs.Search.{Visited, Search, Reached}
 use Rattle.graph_search.proofs.Zeros.{marked_lt}
@@ -74,7 +73,7 @@ module _ {g : Graph} {s : ℕ} where
 
   pub search-listed : {m q : List ℕ} {t h : ℕ} → Room m q t → Search g s m q t h → t ≤ h → Listed m q t
   search-listed {m} {q} room se le =
-      record { listed = se.onq; marked = se.marked; len = room.len; le = omega (arith, room.room) }
+      record { listed = se.onq; marked = se.marked; le = omega (arith, room.room) }
 
 -- the place at the queue's head is one of the places
 pub head_lt : {g : Graph} {m q : List ℕ} {s t h : ℕ} → Search g s m q t h → h < t → get_or q h 0 < length m

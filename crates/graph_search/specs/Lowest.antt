@@ -1,5 +1,5 @@
 -- The lowest place of a queue that has a property.
-use Rattle.std.specs.Prelude.{◌≡◌, List, ℕ, ◌≤◌, ◌<◌, ◌⊎◌, get_or, Option, None, Some}
+use Rattle.std.specs.Prelude.{◌≡◌, List, ℕ, ◌≤◌, ◌<◌, ◌⊎◌, get_or, Option, Some}
 use Rattle.graph_search.specs.Marks.{OnQ}
 
 -- by its kind the place neither goes on nor ends

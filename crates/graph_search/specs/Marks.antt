@@ -15,12 +15,9 @@ Marked m v = 0 < get_or m v 0
 abbrev pub OnQ : List ℕ → ℕ → ℕ → Type 0
 OnQ q count v = (i : ℕ) × (i < count) × (get_or q i 0 ≡ v)
 
--- every element is 0; the first n are
+-- every element is 0
 pub record Blank (m : List ℕ) : Type 0 where
   pub at : (i : ℕ) → get_or m i 0 ≡ 0
-
-pub record BlankTo (m : List ℕ) (n : ℕ) : Type 0 where
-  pub below : (i : ℕ) → i < n → get_or m i 0 ≡ 0
 
 -- every element is below n
 pub record Within (l : List ℕ) (n : ℕ) : Type 0 where
@@ -51,5 +48,4 @@ pub record Places (q : List ℕ) (n : ℕ) : Type 0 where
 pub record Listed (m q : List ℕ) (count : ℕ) : Type 0 where
   pub listed : (v : ℕ) → Marked m v → OnQ q count v
   pub marked : (i : ℕ) → i < count → Marked m (get_or q i 0)
-  pub len : length q ≡ length m
   pub le : count ≤ length m

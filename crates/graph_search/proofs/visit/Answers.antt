@@ -1,7 +1,5 @@
 -- `graph_search::visit` meets its contract: the successors are marked, next before other.
-use Rattle.std.proofs.Common.{sym, arith}
-use Rattle.graph_search.proofs.Grown.{room_grown}
-use Rattle.graph_search.proofs.Search.{visited-none, visited-both}
+use Rattle.graph_search.proofs.Search.{visited-both}
 use Rattle.graph_search.proofs.visit.Goals as goal
 
 pub returns : goal.returns
