@@ -1,19 +1,19 @@
 -- Digits in pairs: the byte at a place, the bytes from a place on and up to one.
-use mathlib.Core.Path.{◌≡◌, refl, ap, ◌∙◌}
+use mathlib.Core.Path.{◌≡◌, refl, ap}
 use mathlib.Core.List.{List, [], ◌∷◌}
 use Prim.Native.Nat.{ℕ, zero, suc, ◌+◌, ◌-◌, ◌*◌, ◌<◌, ◌≤◌}
 use Prim.Native.Char.{Char, code}
 use native.Mathlib.Nat.{not-suc-le-zero}
 use native.Mathlib.Omega.{arith}
-use lib.Dec.{leb, leb→le}
-use lib.ListN.{length, get_or, take, drop, length-take, length-drop}
-use lib.Seq.{get_or-take, get_or-drop}
+use mathlib.Core.Bool.{true}
+use lib.Dec.{T, ltb, ltb→lt, leb, leb→le}
+use lib.ListN.{length, get_or, take, drop}
 use Rattle.laws.specs.Choice.{pick}
-use Rattle.laws.proofs.Computed.{both_right}
+use Rattle.laws.proofs.Computed.{true→T, both_left, both_right}
 use Rattle.laws.proofs.Choices.{picked_by}
+use Rattle.text.specs.Words.{all_digits}
 use Rattle.text.specs.Hexadecimal.{between, digit_of}
 use Rattle.hex_reader.specs.Record.{byte_of, bytes_of}
-use Rattle.hex_reader.specs.Reads.{bytes_at}
 
 -- a choice of values, each at most 16
 up_to_16 : (first last : Char) (c v w : ℕ) → (c ≤ code last → v ≤ 16) → w ≤ 16 → pick (between first last c) v w ≤ 16
@@ -29,6 +29,12 @@ value_up_to_16 c =
 
 pub byte_up_to_272 : (high low : ℕ) → byte_of high low ≤ 272
 byte_up_to_272 high low = omega (arith, value_up_to_16 high, value_up_to_16 low)
+
+-- each character of digits is one
+pub digit_in : (l : List ℕ) (k : ℕ) → T (all_digits 16 l) → k < length l → digit_of (get_or l k 0) < 16
+digit_in [] k t h = absurd (not-suc-le-zero h)
+digit_in (c ∷ l) zero t h = ltb→lt (digit_of c) 16 (both_left (ltb (digit_of c) 16) (all_digits 16 l) t)
+digit_in (c ∷ l) (suc k) t h = digit_in l k (both_right (ltb (digit_of c) 16) (all_digits 16 l) t) (omega arith)
 
 -- the byte of pair k
 pub byte_of_pair : (k : ℕ) (digits : List ℕ) → 2 * k + 1 < length digits → get_or (bytes_of digits) k 0 ≡ byte_of (get_or digits (2 * k) 0) (get_or digits (2 * k + 1) 0)
@@ -55,25 +61,17 @@ bytes_take (suc k) (c ∷ d ∷ digits) =
     let e : 2 * suc k ≡ suc (suc (2 * k)) = omega arith in
     rw e (ap (λ (l : List ℕ). byte_of c d ∷ l) (bytes_take k digits))
 
--- the bytes at a place of a text: how many, and each of them
-bytes_length : (n : ℕ) (digits : List ℕ) → length digits ≡ 2 * n → length (bytes_of digits) ≡ n
+-- how many bytes digits in pairs write
+pub bytes_length : (n : ℕ) (digits : List ℕ) → length digits ≡ 2 * n → length (bytes_of digits) ≡ n
 bytes_length zero [] h = refl
 bytes_length zero (c ∷ digits) h = absurd (let z : ⊥ = omega arith in z)
 bytes_length (suc n) [] h = absurd (let z : ⊥ = omega arith in z)
 bytes_length (suc n) (c ∷ []) h = absurd (let z : ⊥ = omega arith in z)
 bytes_length (suc n) (c ∷ d ∷ digits) h = ap suc (bytes_length n digits (omega arith))
 
-module _ (text : List ℕ) (first n : ℕ) (h : first + 2 * n ≤ length text) where
-  digits_length : length (take (2 * n) (drop first text)) ≡ 2 * n
-  digits_length = omega (arith, length-take (2 * n) (drop first text), length-drop first text)
+-- two digits write a byte
+pub digit-in : (l : List ℕ) (k : ℕ) → all_digits 16 l ≡ true → k < length l → digit_of (get_or l k 0) < 16
+digit-in l k e h = digit_in l k (true→T e) h
 
-  pub bytes-at-length : length (bytes_at text first n) ≡ n
-  bytes-at-length = bytes_length n (take (2 * n) (drop first text)) digits_length
-
-  digit-of : (i : ℕ) → i < 2 * n → get_or (take (2 * n) (drop first text)) i 0 ≡ get_or text (first + i) 0
-  digit-of i l = get_or-take (2 * n) (drop first text) i 0 l ∙ get_or-drop first text i 0
-
-  pub byte-of-text : (i : ℕ) → i < n → get_or (bytes_at text first n) i 0 ≡ byte_of (get_or text (first + 2 * i) 0) (get_or text (first + 2 * i + 1) 0)
-  byte-of-text i l =
-      let e : first + 2 * i + 1 ≡ first + (2 * i + 1) = omega arith in
-      rw (e, ← digit-of (2 * i) (omega arith), ← digit-of (2 * i + 1) (omega arith)) (byte_of_pair i (take (2 * n) (drop first text)) (omega (arith, digits_length)))
+pub digits_byte : (digits : List ℕ) (k : ℕ) → all_digits 16 digits ≡ true → 2 * k + 1 < length digits → byte_of (get_or digits (2 * k) 0) (get_or digits (2 * k + 1) 0) < 256
+digits_byte digits k e h = omega (arith, digit-in digits (2 * k) e (omega arith), digit-in digits (2 * k + 1) e h)
