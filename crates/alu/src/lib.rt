@@ -5,8 +5,6 @@ ghost use Rattle.std.specs.Prelude.{◌≡◌, ◌<◌};
 ghost use Rattle.sheet.specs.Operation.Op.{Plus, PlusCF, Minus, MinusCF', And, Or, Xor, RotateLeft, RotateRight};
 ghost use Rattle.alu.specs.Making.{made, nibble_of};
 
-use bits::bit_of;
-
 // A nibble, and the carry of the operation that made it.
 #[derive(Clone, Copy)]
 pub struct Made {
@@ -23,6 +21,7 @@ fn nibble(total: u8) -> Made
     }
 }
 
+#[tactic(auto, unfolding(crate::specs::Making::made))]
 pub fn plus(a: u8, b: u8, cf: bool) -> Made
     requires { (a < 16) × (b < 16) }
     ensures { result ≡ made Plus a b cf }
@@ -30,14 +29,16 @@ pub fn plus(a: u8, b: u8, cf: bool) -> Made
     nibble(a + b)
 }
 
+#[tactic(auto, unfolding(crate::specs::Making::made))]
 pub fn plus_cf(a: u8, b: u8, cf: bool) -> Made
     requires { (a < 16) × (b < 16) }
     ensures { result ≡ made PlusCF a b cf }
 {
-    nibble(a + b + bit_of(cf))
+    nibble(a + b + u8::from(cf))
 }
 
 // No borrow is carry.
+#[tactic(auto, unfolding(crate::specs::Making::made))]
 pub fn minus(a: u8, b: u8, cf: bool) -> Made
     requires { (a < 16) × (b < 16) }
     ensures { result ≡ made Minus a b cf }
@@ -45,13 +46,15 @@ pub fn minus(a: u8, b: u8, cf: bool) -> Made
     nibble(a + 16 - b)
 }
 
+#[tactic(auto, unfolding(crate::specs::Making::made))]
 pub fn minus_cf(a: u8, b: u8, cf: bool) -> Made
     requires { (a < 16) × (b < 16) }
     ensures { result ≡ made MinusCF' a b cf }
 {
-    nibble(a + 15 + bit_of(cf) - b)
+    nibble(a + 15 + u8::from(cf) - b)
 }
 
+#[tactic(auto, unfolding(crate::specs::Making::made))]
 pub fn and(a: u8, b: u8, cf: bool) -> Made
     ensures { result ≡ made And a b cf }
 {
@@ -61,6 +64,7 @@ pub fn and(a: u8, b: u8, cf: bool) -> Made
     }
 }
 
+#[tactic(auto, unfolding(crate::specs::Making::made))]
 pub fn or(a: u8, b: u8, cf: bool) -> Made
     ensures { result ≡ made Or a b cf }
 {
@@ -70,6 +74,7 @@ pub fn or(a: u8, b: u8, cf: bool) -> Made
     }
 }
 
+#[tactic(auto, unfolding(crate::specs::Making::made))]
 pub fn xor(a: u8, b: u8, cf: bool) -> Made
     ensures { result ≡ made Xor a b cf }
 {
@@ -80,23 +85,25 @@ pub fn xor(a: u8, b: u8, cf: bool) -> Made
 }
 
 // The carry comes in at bit 0, and bit 3 leaves.
+#[tactic(auto, unfolding(crate::specs::Making::made))]
 pub fn rotate_left(a: u8, cf: bool) -> Made
     requires { a < 16 }
     ensures { result ≡ made RotateLeft a 0 cf }
 {
     Made {
-        value: (a * 2 + bit_of(cf)) % 16,
+        value: (a * 2 + u8::from(cf)) % 16,
         carry: 8 <= a,
     }
 }
 
 // The carry comes in at bit 3, and bit 0 leaves.
+#[tactic(auto, unfolding(crate::specs::Making::made))]
 pub fn rotate_right(a: u8, cf: bool) -> Made
     requires { a < 16 }
     ensures { result ≡ made RotateRight a 0 cf }
 {
     Made {
-        value: a / 2 + 8 * bit_of(cf),
+        value: a / 2 + 8 * u8::from(cf),
         carry: a % 2 == 1,
     }
 }

@@ -1,5 +1,5 @@
 -- Bits of a small number. A bit is named by its weight: 1, 2, 4, 8, 16, 32.
-use Rattle.std.specs.Prelude.{ℕ, ◌+◌, ◌-◌, ◌/◌, ◌%◌, Bool, eqb}
+use Rattle.std.specs.Prelude.{ℕ, ◌+◌, ◌-◌, ◌/◌, ◌%◌, ◌<◌, ◌≡◌, Bool, Option, Some, None, eqb}
 use Rattle.laws.specs.Choice.{pick}
 
 abbrev pub has_bit : ℕ → ℕ → Bool
@@ -17,6 +17,11 @@ unfoldable pub highest_bit : ℕ → ℕ
 highest_bit n =
     pick (has_bit n 32) 5
     (pick (has_bit n 16) 4 (pick (has_bit n 8) 3 (pick (has_bit n 4) 2 (pick (has_bit n 2) 1 (pick (has_bit n 1) 0 6)))))
+
+-- one of six bits, by its number, as the code gives it: none in place of 6
+abbrev pub OneOfSix : Option ℕ → ℕ → Type 0
+OneOfSix (Some k) n = (k ≡ n) × (k < 6)
+OneOfSix None n = n ≡ 6
 
 -- a bit as a number
 abbrev pub bit_of : Bool → ℕ

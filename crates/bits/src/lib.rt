@@ -1,8 +1,8 @@
-// Bits of small numbers, each named by its weight, the highest of six by leading zeros, and shifts and masks that take bits out.
+// Bits of small numbers, each named by its weight, the highest of six, and shifts and masks that take bits out.
 #![tactic(auto)]
 
 ghost use Rattle.std.specs.Prelude.{◌≡◌, ◌+◌, ◌/◌, ◌%◌, ◌^◌, ◌<◌};
-ghost use Rattle.bits.specs.Bits.{has_bit, with_bit, without_bit, highest_bit, bit_of};
+ghost use Rattle.bits.specs.Bits.{has_bit, with_bit, without_bit, highest_bit, OneOfSix, bit_of};
 
 pub fn has_bit(n: u8, w: u8) -> bool
     requires { 0 < w }
@@ -15,32 +15,27 @@ pub fn with_bit(n: u8, w: u8) -> u8
     requires { (0 < w) × (n + w < 256) }
     ensures { result ≡ with_bit n w }
 {
-    if has_bit(n, w) {
-        return n;
-    }
-    n + w
+    if has_bit(n, w) { n } else { n + w }
 }
 
 pub fn without_bit(n: u8, w: u8) -> u8
     requires { 0 < w }
     ensures { result ≡ without_bit n w }
 {
-    if has_bit(n, w) {
-        return n - w;
-    }
-    n
+    if has_bit(n, w) { n - w } else { n }
 }
 
-// The number of the highest bit that is set of six, 5 to 0; 6 where none is.
-pub fn highest_bit(allowed: u8) -> u8
+// The number of the highest bit that is set of six, 5 to 0.
+#[tactic(auto, unfolding(crate::specs::Bits::highest_bit))]
+pub fn highest_bit(allowed: u8) -> Option<u8>
     requires { allowed < 64 }
-    ensures { result ≡ highest_bit allowed }
+    ensures { OneOfSix result (highest_bit allowed) }
 {
-    let zeros = u32::leading_zeros(allowed as u32);
-    if zeros == 32 {
-        return 6;
+    if allowed == 0 {
+        None
+    } else {
+        Some(allowed.ilog2() as u8)
     }
-    (31 - zeros) as u8
 }
 
 // The weight of bit k.
@@ -54,10 +49,7 @@ pub fn weight(k: u8) -> u8
 pub fn bit_of(b: bool) -> u8
     ensures { result ≡ bit_of b }
 {
-    if b {
-        return 1;
-    }
-    0
+    u8::from(b)
 }
 
 // Bit k.

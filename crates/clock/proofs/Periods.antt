@@ -1,12 +1,10 @@
 -- Laws of periods: their exponents as the code has them, and a test of multiples by shifts.
 use mathlib.Core.Path.{◌≡◌}
-use mathlib.Core.List.{List, [], ◌∷◌, map}
-use Prim.Native.Nat.{ℕ, suc, ◌+◌, ◌*◌, ◌/◌, ◌%◌, ◌^◌, ◌<◌, ◌≤◌}
+use Prim.Native.Nat.{ℕ, ◌+◌, ◌*◌, ◌/◌, ◌%◌, ◌^◌, ◌<◌, ◌≤◌}
 use native.Mathlib.Nat.{mod-eq_of_lt, div-mul-le_self}
 use native.Mathlib.Decide.{ℕ_discrete}
 use native.Mathlib.Omega.{arith}
 use lib.Dec.{eqb, eqb→eq, leb, leb→le, ltb, lt→ltb}
-use lib.ListN.{get_or}
 use lib.Pow.{split}
 use borrow.Author.Tests.{eq-eqb, ne_eqb}
 use Rattle.laws.proofs.Computed.{at, where_at}
@@ -28,18 +26,6 @@ shifted k n h = shifted? k n h (ℕ_discrete (n % 2 ^ k) 0)
 pub timer_exponent_lem : (b : ℕ) → b < 4 → timer_exponent b ≡ 10 + 4 * b
 unfolding timer_exponent
 timer_exponent_lem b h = eqb→eq (timer_exponent b) (10 + 4 * b) (at (λ b. eqb (timer_exponent b) (10 + 4 * b)) 4 tt b h)
-
-unfoldable pub tbi_table : List ℕ
-unfolding tbi_exponent
-tbi_table = map tbi_exponent (0 ∷ 1 ∷ 2 ∷ 3 ∷ 4 ∷ 5 ∷ 6 ∷ 7 ∷ 8 ∷ 9 ∷ 10 ∷ 11 ∷ 12 ∷ 13 ∷ 14 ∷ 15 ∷ [])
-
-pub tbi_exponent_lem : (p : ℕ) → p < 16 → get_or tbi_table p 0 ≡ tbi_exponent p
-unfolding tbi_table tbi_exponent
-tbi_exponent_lem p h = eqb→eq (get_or tbi_table p 0) (tbi_exponent p) (at (λ p. eqb (get_or tbi_table p 0) (tbi_exponent p)) 16 tt p h)
-
-pub tbi_fits : (p : ℕ) → p < 16 → get_or tbi_table p 0 < 32
-unfolding tbi_table tbi_exponent
-tbi_fits p h = leb→le (suc (get_or tbi_table p 0)) 32 (at (λ p. ltb (get_or tbi_table p 0) 32) 16 tt p h)
 
 -- a time base period is at least 256
 pub tbi_coarse : (p : ℕ) → p < 16 → 0 < tbi_exponent p → 8 ≤ tbi_exponent p

@@ -4,8 +4,6 @@
 ghost use Rattle.std.specs.Prelude.{◌≡◌, ◌+◌, ◌<◌};
 ghost use Rattle.clock.specs.Clock.{is_multiple, runs, counts, tbi_sets, latched, counted, count, met, tick, passed, event_count, InRange};
 
-use laws::both;
-
 // Time base, timers, and the latches IL5 to IL0 as bits 5 to 0.
 #[derive(Clone, Copy)]
 pub struct Time {
@@ -25,9 +23,6 @@ pub struct Rates {
     pub p81: bool,
 }
 
-// By the setting P25: the exponent of the time base period, 0 where it is off.
-const TBI: [u8; 16] = [0, 0, 0, 0, 10, 11, 12, 13, 0, 0, 0, 0, 9, 8, 15, 17];
-
 fn is_multiple(k: u8, base: u32) -> bool
     requires { k < 32 }
     ensures { result ≡ is_multiple k base }
@@ -38,28 +33,29 @@ fn is_multiple(k: u8, base: u32) -> bool
 fn runs(mode: u8, pin: bool) -> bool
     ensures { result ≡ runs mode pin }
 {
-    if mode == 2 {
-        return true;
-    }
-    both(mode == 3, pin)
+    mode == 2 || mode == 3 && pin
 }
 
+#[tactic(auto, using(crate::proofs::Periods::timer_exponent_lem))]
 fn counts(setting: u8, pin: bool, base: u32) -> bool
     ensures { result ≡ counts setting pin base }
 {
-    both(
-        runs(setting / 4, pin),
-        is_multiple(10 + 4 * (setting % 4), base),
-    )
+    runs(setting / 4, pin) && is_multiple(10 + 4 * (setting % 4), base)
 }
 
+// By the setting P25, which may be off.
+#[tactic(auto, unfolding(crate::specs::Clock::tbi_exponent))]
 fn tbi_sets(p25: u8, base: u32) -> bool
-    requires { p25 < 16 }
     ensures { result ≡ tbi_sets p25 base }
 {
-    let at = p25 as usize;
-    let k = TBI[at];
-    both(0 < k, is_multiple(k, base))
+    match p25 {
+        4..=7 => is_multiple(p25 + 6, base),
+        12 => is_multiple(9, base),
+        13 => is_multiple(8, base),
+        14 => is_multiple(15, base),
+        15 => is_multiple(17, base),
+        _ => false,
+    }
 }
 
 // A latch, by its weight, that is set where something happens.
@@ -67,23 +63,18 @@ pub fn latched(happens: bool, w: u8, il: u8) -> u8
     requires { (0 < w) × (il + w < 256) }
     ensures { result ≡ latched happens w il }
 {
-    if happens {
-        return bits::with_bit(il, w);
-    }
-    il
+    if happens { bits::with_bit(il, w) } else { il }
 }
 
 fn counted(counting: bool, n: u16) -> u16
     requires { n < 4096 }
     ensures { result ≡ counted counting n }
 {
-    if both(counting, n == 4095) {
-        return 0;
+    match counting {
+        true if n == 4095 => 0,
+        true => n + 1,
+        false => n,
     }
-    if counting {
-        return n + 1;
-    }
-    n
 }
 
 // Each timer counts or not.
@@ -91,49 +82,44 @@ fn count(t: Time, a: bool, b: bool) -> Time
     requires { InRange t }
     ensures { result ≡ count a b t }
 {
-    let il = latched(both(a, t.ta == 4095), 8, t.il);
+    let il = latched(a && t.ta == 4095, 8, t.il);
     Time {
-        base: t.base,
         ta: counted(a, t.ta),
         tb: counted(b, t.tb),
-        il: latched(both(b, t.tb == 4095), 4, il),
+        il: latched(b && t.tb == 4095, 4, il),
+        ..t
     }
 }
 
 // What happens at a value of the time base.
+#[tactic(auto, unfolding(crate::specs::Clock::met))]
 fn met(t: Time, r: Rates) -> Time
     requires { (InRange t) × (r.p25 < 16) }
     ensures { result ≡ met r t }
 {
     let a = counts(r.p28, r.p83, t.base);
     let b = counts(r.p29, r.p81, t.base);
-    let sets = tbi_sets(r.p25, t.base);
     let s = count(t, a, b);
     Time {
-        base: s.base,
-        ta: s.ta,
-        tb: s.tb,
-        il: latched(sets, 2, s.il),
+        il: latched(tbi_sets(r.p25, t.base), 2, s.il),
+        ..s
     }
 }
 
 // One cycle: nothing happens but at a multiple of 256.
+#[tactic(auto, using(crate::proofs::Quiet::tick_quiet), unfolding(crate::specs::Clock::tick))]
 fn tick(t: Time, r: Rates) -> Time
     requires { (InRange t) × (r.p25 < 16) }
     ensures { result ≡ tick r t }
 {
     let s = Time {
         base: (t.base + 8) % 4194304,
-        ta: t.ta,
-        tb: t.tb,
-        il: t.il,
+        ..t
     };
-    if s.base % 256 == 0 {
-        return met(s, r);
-    }
-    s
+    if s.base % 256 == 0 { met(s, r) } else { s }
 }
 
+#[tactic(auto, using(crate::proofs::Quiet::passed_less, crate::proofs::Quiet::passed_none, crate::proofs::Ranges::tick_in_range))]
 fn ticks(t: Time, r: Rates, n: u16) -> Time
     requires { (InRange t) × (r.p25 < 16) }
     ensures { result ≡ passed n r t }
@@ -146,28 +132,27 @@ fn ticks(t: Time, r: Rates, n: u16) -> Time
 }
 
 // n cycles, at once where no multiple of 256 is met.
+#[tactic(auto, using(crate::proofs::Quiet::passed_quiet))]
 pub fn pass(t: Time, r: Rates, n: u16) -> Time
     requires { (InRange t) × (r.p25 < 16) }
     ensures { result ≡ passed n r t }
 {
-    let gain = 8 * (n as u32);
+    let gain = 8 * u32::from(n);
     if t.base % 256 + gain < 256 {
-        return Time {
+        Time {
             base: t.base + gain,
-            ta: t.ta,
-            tb: t.tb,
-            il: t.il,
-        };
+            ..t
+        }
+    } else {
+        ticks(t, r, n)
     }
-    ticks(t, r, n)
 }
 
 // The event counts: rising edges on P8.3 and P8.1.
+#[tactic(auto, unfolding(crate::specs::Clock::event_count))]
 pub fn events(t: Time, p28: u8, p29: u8, rose_a: bool, rose_b: bool) -> Time
     requires { InRange t }
     ensures { result ≡ event_count p28 p29 rose_a rose_b t }
 {
-    let a = both(p28 / 4 == 1, rose_a);
-    let b = both(p29 / 4 == 1, rose_b);
-    count(t, a, b)
+    count(t, p28 / 4 == 1 && rose_a, p29 / 4 == 1 && rose_b)
 }

@@ -1,21 +1,22 @@
 // What differs between the devices, as code: each function gives what the page specs/Device.antt says.
 #![tactic(auto)]
 
+pub mod image;
+
 ghost use Rattle.std.specs.Prelude.{◌≡◌, ◌<◌, get_or};
 ghost use Rattle.laws.specs.Among.{among};
 ghost use Rattle.device.specs.Device.{image_size, frame_size, limit_of, fresh_frame, also_writable, also_below, reset_of, reserved, p4_pins, ends_speech, guarded, in_image, is_banked};
 
 use bits::with_bit;
-use laws::{both, either};
 
-#[derive(Clone, Copy)]
+#[derive(Clone, Copy, PartialEq, Eq)]
 pub enum Device {
     Em73862,
     Em73P982,
 }
 
 // wake has the enable bits of P0.0 to P0.3 and P8.0 to P8.3, from bit 0 up; sound is SOUND enabled at P4.0.
-#[derive(Clone, Copy)]
+#[derive(Clone, Copy, PartialEq, Eq)]
 pub struct Options {
     pub device: Device,
     pub wake: u8,
@@ -85,27 +86,25 @@ pub fn also_writable(d: Device, n: u8) -> bool
 {
     match d {
         Device::Em73862 => false,
-        Device::Em73P982 => either(n == 3, either(n == 5, either(n == 6, n == 17))),
+        Device::Em73P982 => matches!(n, 3 | 5 | 6 | 17),
     }
 }
 
 pub fn also_below(d: Device, n: u8) -> u8
     ensures { result ≡ also_below d n }
 {
-    if also_writable(d, n) {
-        return 16;
-    }
-    1
+    if also_writable(d, n) { 16 } else { 1 }
 }
 
 // What a port may not hold.
 pub fn reserved(d: Device, n: u8, v: u8) -> bool
     ensures { result ≡ reserved d n v }
 {
-    either(
-        both(either(n == 25, n == 27), v / 4 == 2),
-        both(also_writable(d, 3), both(n == 3, v % 4 == 3)),
-    )
+    match n {
+        25 | 27 => v / 4 == 2,
+        3 => also_writable(d, 3) && v % 4 == 3,
+        _ => false,
+    }
 }
 
 // What P4 reads.
@@ -114,28 +113,17 @@ pub fn p4_pins(d: Device, sound: bool, p4: u8) -> u8
     ensures { result ≡ p4_pins d sound p4 }
 {
     match d {
-        Device::Em73862 => {
-            if sound {
-                return 15;
-            }
-            14 + p4
-        }
-        Device::Em73P982 => {
-            if sound {
-                return with_bit(p4, 1);
-            }
-            p4
-        }
+        Device::Em73862 if sound => 15,
+        Device::Em73862 => 14 + p4,
+        Device::Em73P982 if sound => with_bit(p4, 1),
+        Device::Em73P982 => p4,
     }
 }
 
 pub fn ends_speech(d: Device) -> bool
     ensures { result ≡ ends_speech d }
 {
-    match d {
-        Device::Em73862 => false,
-        Device::Em73P982 => true,
-    }
+    matches!(d, Device::Em73P982)
 }
 
 // Whether the bound excludes writing the port.
@@ -144,7 +132,7 @@ pub fn is_guarded(d: Device, n: u8) -> bool
 {
     match d {
         Device::Em73862 => n == 16,
-        Device::Em73P982 => either(n == 16, n == 3),
+        Device::Em73P982 => matches!(n, 16 | 3),
     }
 }
 
@@ -155,14 +143,15 @@ pub fn in_image(p3: u8, at: u16) -> usize
 {
     let i = at as usize;
     if i < 4096 {
-        return i;
+        i
+    } else {
+        i + 4096 * (p3 % 4) as usize
     }
-    i + 4096 * (p3 % 4) as usize
 }
 
 // Whether a record or an input may have this P3.
 pub fn is_banked(d: Device, p3: u32) -> bool
     ensures { result ≡ is_banked d p3 }
 {
-    both(p3 < also_below(d, 3) as u32, p3 % 4 != 3)
+    p3 < also_below(d, 3) as u32 && p3 % 4 != 3
 }

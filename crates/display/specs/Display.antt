@@ -1,8 +1,8 @@
 -- Document 01, "Display": which dots are on, and the forty bytes that say so.
-use Rattle.std.specs.Prelude.{ℕ, ◌+◌, ◌*◌, ◌/◌, ◌%◌, ◌^◌, ◌<◌, ◌≤◌, Bool, List, ◌≡◌, eqb, length, get_or, drop}
+use Rattle.std.specs.Prelude.{ℕ, ◌+◌, ◌*◌, ◌/◌, ◌%◌, ◌^◌, ◌<◌, ◌≤◌, Bool, Result, Ok, Err, List, ◌≡◌, eqb, length, get_or, drop}
 use Rattle.laws.specs.Choice.{both}
 use Rattle.bits.specs.Bits.{has_bit}
-use Rattle.numbers.specs.ComesBack.{record_outside_the_ranges, display_buffer_under_40_bytes}
+use Rattle.numbers.specs.declared.Refusal.{Refusal}
 use Rattle.device.specs.declared.Device.{Device}
 use Rattle.record.specs.Valid.{Valid}
 use Rattle.record.specs.declared.Machine.{Machine}
@@ -27,12 +27,12 @@ pub record Shows (m : Machine) (before after : List ℕ) : Type 0 where
   pub size : length after ≡ length before
 
 -- "A refusal changes no buffer."
-pub record Refused (number : ℕ) (before after : List ℕ) (r : ℕ) : Type 0 where
-  pub answer : r ≡ number
+pub record Refused (why : Refusal) (before after : List ℕ) (r : Result Unit Refusal) : Type 0 where
+  pub answer : r ≡ Err why
   pub kept : after ≡ before
 
 -- what the call gives, in the table's order, and leaves in the buffer
-pub record DisplayOf (d : Device) (m : Machine) (before after : List ℕ) (r : ℕ) : Type 0 where
-  pub outside : (Valid d m → ⊥) → Refused record_outside_the_ranges before after r
-  pub short : Valid d m → length before < 40 → Refused display_buffer_under_40_bytes before after r
-  pub shown : Valid d m → 40 ≤ length before → (r ≡ 0) × Shows m before after
+pub record DisplayOf (d : Device) (m : Machine) (before after : List ℕ) (r : Result Unit Refusal) : Type 0 where
+  pub outside : (Valid d m → ⊥) → Refused Refusal.RecordOutsideTheRanges before after r
+  pub short : Valid d m → length before < 40 → Refused Refusal.DisplayBufferUnder40Bytes before after r
+  pub shown : Valid d m → 40 ≤ length before → (r ≡ Ok tt) × Shows m before after

@@ -7,7 +7,7 @@ ghost use Rattle.display.specs.Bytes.{pair_at, byte_in};
 ghost use Rattle.display.specs.Display.{Shows, DisplayOf};
 
 use device::Device;
-use numbers::{DISPLAY_BUFFER_UNDER_40_BYTES, RECORD_OUTSIDE_THE_RANGES};
+use numbers::Refusal;
 use record::ram::peek;
 use record::valid::is_valid;
 use record::{Machine, Ram};
@@ -30,34 +30,33 @@ fn byte(on: bool, ram: &Ram, j: usize) -> u8
     ensures { result ≡ byte_in on ram.now j }
 {
     if on {
-        return pair(ram, 0x20 + 16 * (j / 5) + 2 * (j % 5));
+        pair(ram, 0x20 + 16 * (j / 5) + 2 * (j % 5))
+    } else {
+        0
     }
-    0
 }
 
 fn show(m: Machine, out: &mut [u8])
     requires { (Nibbles m.ram) × (40 ≤ length out.old) }
     ensures { Shows m out.old out.new }
 {
-    let ram = m.ram;
     let on = m.core.ports.p27 / 4 == 3;
-    let mut j: usize = 0;
-    while j < DOT_BYTES {
-        out[j] = byte(on, &ram, j);
-        j += 1;
+    let dots = &mut out[..DOT_BYTES];
+    for (j, b) in dots.iter_mut().enumerate() {
+        *b = byte(on, &m.ram, j);
     }
 }
 
-// 0 and the dots in the first forty bytes of out, or a refusal's number and out as it was.
-pub fn display(d: Device, m: Machine, out: &mut [u8]) -> u8
+// The dots in the first forty bytes of out. Where the call refuses, out is as it was.
+pub fn display(d: Device, m: Machine, out: &mut [u8]) -> Result<(), Refusal>
     ensures { DisplayOf d m out.old out.new result }
 {
     if !is_valid(d, m) {
-        return RECORD_OUTSIDE_THE_RANGES;
+        return Err(Refusal::RecordOutsideTheRanges);
     }
     if out.len() < DOT_BYTES {
-        return DISPLAY_BUFFER_UNDER_40_BYTES;
+        return Err(Refusal::DisplayBufferUnder40Bytes);
     }
     show(m, out);
-    0
+    Ok(())
 }

@@ -1,5 +1,6 @@
 -- Document 01, "One step": "compare the frame with the last one". A pin is named by its port's digit and its weight there.
-use Rattle.std.specs.Prelude.{ℕ, ◌/◌, ◌%◌, Bool, false, not, List, [], ◌∷◌}
+use Rattle.std.specs.Prelude.{ℕ, ◌/◌, ◌%◌, Bool, not, [], ◌∷◌}
+use Rattle.std.specs.List.{list_any}
 use Rattle.laws.specs.Choice.{pick, both, either}
 use Rattle.bits.specs.Bits.{has_bit}
 use Rattle.frame.specs.declared.Pins.{Pins}
@@ -16,13 +17,9 @@ rose old new w = both (has_bit new w) (not (has_bit old w))
 abbrev pub pin_wakes : Bool → ℕ → ℕ → ℕ → ℕ → Bool
 pin_wakes byLevel enabled old new w = both (has_bit enabled w) (pick byLevel (not (has_bit new w)) (fell old new w))
 
-abbrev pub some : (ℕ → Bool) → List ℕ → Bool
-some f [] = false
-some f (w ∷ ws) = either (f w) (some f ws)
-
 -- of one port: enabled has the wake-enable bits of its four pins
 abbrev pub port_wakes : Bool → ℕ → ℕ → ℕ → Bool
-port_wakes byLevel enabled old new = some (pin_wakes byLevel enabled old new) (1 ∷ 2 ∷ 4 ∷ 8 ∷ [])
+port_wakes byLevel enabled old new = list_any (pin_wakes byLevel enabled old new) (1 ∷ 2 ∷ 4 ∷ 8 ∷ [])
 
 -- "eight wake-enable bits (P0.0 to P0.3, P8.0 to P8.3)", from bit 0 up
 unfoldable pub wakes : Bool → ℕ → Pins → Pins → Bool

@@ -18,7 +18,7 @@ use Rattle.device.specs.Device.{digits_of}
 use Rattle.device.specs.declared.Device.{Device}
 use Rattle.device.proofs.Laws.{p0_nibble, p8_nibble}
 use Rattle.frame.specs.Frame.{is_frame, digit_at, pins_of, frame_of, chars_at, PinsInRange}
-use Rattle.frame.specs.declared.Frame.TheVariants.{Seen, NoFrame}
+use Rattle.std.proofs.Common.{Some, None}
 
 -- the characters at a place are those that stand there
 pub chars_three : (s : List ℕ) (k : ℕ) → k + 3 ≤ length s → chars_at 3 s k ≡ get_or s k 0 ∷ get_or s (k + 1) 0 ∷ get_or s (k + 2) 0 ∷ []
@@ -68,10 +68,10 @@ module _ (d : Device) (cs : List ℕ) where
       }
 
   -- a frame is seen where the characters are one
-  pub seen : is_frame (digits_of d) cs ≡ true → frame_of d cs ≡ Seen (pins_of cs)
+  pub seen : is_frame (digits_of d) cs ≡ true → frame_of d cs ≡ Some (pins_of cs)
   unfolding frame_of
   seen e = rw e
 
-  pub not_seen : is_frame (digits_of d) cs ≡ false → frame_of d cs ≡ NoFrame
+  pub not_seen : is_frame (digits_of d) cs ≡ false → frame_of d cs ≡ None
   unfolding frame_of
   not_seen e = rw e

@@ -15,7 +15,7 @@ use Rattle.device.specs.Device.{digits_of, frame_size}
 use Rattle.device.specs.declared.Device.{Device}
 use Rattle.frame.specs.Frame.{is_frame, pins_of, is_frame_at, frame_at, chars_at, cut, pieces, every, are_frames, frames_of, PinsInRange}
 use Rattle.frame.specs.declared.Pins.{Pins}
-use Rattle.frame.specs.declared.Frame.TheVariants.{Seen}
+use Rattle.std.proofs.Common.{Some}
 use Rattle.frame.proofs.Characters.{both_first, both_second, no_frame, in_range, seen}
 use Rattle.frame.proofs.Sizes.{pieces_count, pieces_none, piece_start, last_start, last_short, whole_count}
 
@@ -116,7 +116,7 @@ module _ (d : Device) (s : List ℕ) (e : are_frames d s ≡ true) where
     number-good : is_frame_at d s (frame_size d * k) ≡ true
     number-good = piece-good k (piece_start d (length s) k h)
 
-    pub frame-number : frame_at d s (frame_size d * k) ≡ Seen (get_or (frames_of d s) k p)
+    pub frame-number : frame_at d s (frame_size d * k) ≡ Some (get_or (frames_of d s) k p)
     frame-number = seen d (chars_at (frame_size d) s (frame_size d * k)) number-good ∙ rw number_is
 
     pub number-in-range : PinsInRange d (get_or (frames_of d s) k p)

@@ -1,13 +1,11 @@
 -- Document 01, "The record": what the characters of a frame, and a buffer of them, say of the pins. How many digits a frame has, and what each stays below, is the device's.
-use Rattle.std.specs.Prelude.{ℕ, zero, suc, ◌+◌, ◌-◌, ◌/◌, ◌<◌, Bool, true, false, List, [], ◌∷◌, map, ltb, length, get_or, take, drop}
+use Rattle.std.specs.Prelude.{ℕ, zero, suc, ◌+◌, ◌-◌, ◌/◌, ◌<◌, Bool, true, false, Option, Some, None, List, [], ◌∷◌, map, ltb, length, get_or, take, drop}
 use Prim.Native.Char.{code}
 use Rattle.laws.specs.Choice.{pick, both}
 use Rattle.text.specs.Hexadecimal.{digit_of}
 use Rattle.device.specs.Device.{digits_of, frame_size, limit_of}
 use Rattle.device.specs.declared.Device.{Device}
 use Rattle.frame.specs.declared.Pins.{Pins}
-use Rattle.frame.specs.declared.Frame.{Frame}
-use Rattle.frame.specs.declared.Frame.TheVariants.{Seen, NoFrame}
 
 -- as many characters as limits, each a digit below its limit; so "an empty line is no frame"
 abbrev pub is_frame : List ℕ → List ℕ → Bool
@@ -23,8 +21,8 @@ digit_at cs i = digit_of (get_or cs i (code "0"))
 abbrev pub pins_of : List ℕ → Pins
 pins_of cs = record { p0 = digit_at cs 0; p8 = digit_at cs 1; p4 = digit_at cs 2; speech = digit_at cs 3 }
 
-unfoldable pub frame_of : Device → List ℕ → Frame
-frame_of d cs = pick (is_frame (digits_of d) cs) (Seen (pins_of cs)) NoFrame
+unfoldable pub frame_of : Device → List ℕ → Option Pins
+frame_of d cs = pick (is_frame (digits_of d) cs) (Some (pins_of cs)) None
 
 -- n characters of a sequence from at on; whether those of a frame's size are a frame, and which
 abbrev pub chars_at : ℕ → List ℕ → ℕ → List ℕ
@@ -33,7 +31,7 @@ chars_at n s at = take n (drop at s)
 abbrev pub is_frame_at : Device → List ℕ → ℕ → Bool
 is_frame_at d s at = is_frame (digits_of d) (chars_at (frame_size d) s at)
 
-abbrev pub frame_at : Device → List ℕ → ℕ → Frame
+abbrev pub frame_at : Device → List ℕ → ℕ → Option Pins
 frame_at d s at = frame_of d (chars_at (frame_size d) s at)
 
 -- the first k pieces of n characters each

@@ -5,24 +5,18 @@ ghost use Rattle.std.specs.Prelude.{◌≡◌, true, [], ◌∷◌, ◌+◌, ◌
 ghost use Rattle.text.specs.Hexadecimal.{digit_of};
 ghost use Rattle.device.specs.Device.{frame_size};
 ghost use Rattle.frame.specs.Judged.{Wide, Four, Again, AfterFrame, Between};
-ghost use Rattle.frame.specs.Frame.{is_frame, pins_of, chars_at, is_frame_at, frame_of, frame_at, are_frames};
+ghost use Rattle.frame.specs.Frame.{is_frame, pins_of, chars_at, is_frame_at, frame_of, are_frames};
 
 use device::{Device, frame_size};
 use laws::{both, either};
 
 // What a frame says of the pins: P0, P8, P4, and 1 where speech ends. A digit that the device's frames do not have is 0.
-#[derive(Clone, Copy)]
+#[derive(Clone, Copy, PartialEq, Eq)]
 pub struct Pins {
     pub p0: u8,
     pub p8: u8,
     pub p4: u8,
     pub speech: u8,
-}
-
-#[derive(Clone, Copy)]
-pub enum Frame {
-    Seen(Pins),
-    NoFrame,
 }
 
 fn is_digit(c: u8) -> bool
@@ -124,25 +118,15 @@ pub fn pins_at(d: Device, s: &[u8], at: usize) -> Pins
     }
 }
 
-// The frame at a place of a sequence.
-fn frame_at(d: Device, s: &[u8], at: usize) -> Frame
-    requires { at + frame_size d ≤ length s.now }
-    ensures { result ≡ frame_at d s.now at }
-{
-    if is_frame_at(d, s, at) {
-        return Frame::Seen(pins_at(d, s, at));
-    }
-    Frame::NoFrame
-}
-
-// The frame that the characters are.
-pub fn frame_of(d: Device, s: &[u8]) -> Frame
+// The pins of the frame that the characters are, and none where they are no frame.
+pub fn frame_of(d: Device, s: &[u8]) -> Option<Pins>
     ensures { result ≡ frame_of d s.now }
 {
-    if s.len() == frame_size(d) {
-        return frame_at(d, s, 0);
+    if s.len() == frame_size(d) && is_frame_at(d, s, 0) {
+        Some(pins_at(d, s, 0))
+    } else {
+        None
     }
-    Frame::NoFrame
 }
 
 fn wide(c: u8) -> u32

@@ -1,13 +1,13 @@
 -- What the reader's inner functions give: an instruction whose row is 0 where the code is unassigned.
 use Rattle.std.specs.Prelude.{ℕ, ◌+◌, ◌*◌, ◌/◌, ◌%◌, List, ◌∷◌, ◌≡◌, eqb, ltb}
 use Rattle.laws.specs.Choice.{pick}
-use Rattle.sheet.specs.Reading.{insn, read_digits}
+use Rattle.sheet.specs.Reading.{Read, insn, read_digits}
 use Rattle.sheet.specs.declared.Insn.{Insn}
-use Rattle.sheet.specs.declared.Read.{Read}
-use Rattle.sheet.specs.declared.Read.TheVariants.{Row, Unassigned}
+use Rattle.std.specs.Prelude.{Ok, Err}
+use Rattle.sheet.specs.declared.NoRow.{NoRow}
 
 abbrev pub as_read : Insn → Read
-as_read i = pick (eqb i.row 0) Unassigned (Row i)
+as_read i = pick (eqb i.row 0) (Err NoRow.Unassigned) (Ok i)
 
 abbrev pub no_row : Insn
 no_row = insn 0 0 0

@@ -1,10 +1,10 @@
 -- Document 01, "The record": the fresh record and reset.
-use Rattle.std.specs.Prelude.{◌≡◌, true, false, get_or, replicate}
+use Rattle.std.specs.Prelude.{◌≡◌, true, false, Result, Ok, Err, get_or, replicate}
 use Rattle.numbers.specs.Sizes.{ram_nibbles}
 use Rattle.device.specs.Device.{fresh_frame, reset_of}
 use Rattle.device.specs.declared.Device.{Device}
 use Rattle.frame.specs.declared.Pins.{Pins}
-use Rattle.numbers.specs.ComesBack.{record_outside_the_ranges}
+use Rattle.numbers.specs.declared.Refusal.{Refusal}
 use Rattle.record.specs.Valid.{Valid}
 use Rattle.record.specs.With.{interrupts_of}
 use Rattle.record.specs.declared.Registers.{Registers}
@@ -13,7 +13,6 @@ use Rattle.ports.specs.declared.Ports.{Ports}
 use Rattle.ports.specs.declared.Mode.{Mode}
 use Rattle.record.specs.declared.Core.{Core}
 use Rattle.record.specs.declared.Machine.{Machine}
-use Rattle.record.specs.declared.start.AfterReset.{AfterReset}
 
 -- "Fresh record: running, last frame FF1, SF 1, P23 and P24 at 15, P4 and P8 at 15, all else 0." Q-6: "fresh last frame FFF0"
 abbrev pub fresh_pins : Device → Pins
@@ -55,14 +54,14 @@ reset_core d m = fresh_core d (reset_registers m.regs) m.ptrs
 abbrev pub reset_machine : Device → Machine → Machine
 reset_machine d m = record { core = reset_core d m.core; ram = m.ram }
 
--- the answers by document 01's table: its number and the record. 2, "record outside the ranges above", gives back what came; 0 is no refusal
-abbrev pub reset_refused : Machine → AfterReset
-reset_refused m = record { refusal = record_outside_the_ranges; machine = m }
+-- the answers by document 01's table: 2, "record outside the ranges above", or the record
+abbrev pub reset_refused : Result Machine Refusal
+reset_refused = Err Refusal.RecordOutsideTheRanges
 
-abbrev pub reset_done : Device → Machine → AfterReset
-reset_done d m = record { refusal = 0; machine = reset_machine d m }
+abbrev pub reset_done : Device → Machine → Result Machine Refusal
+reset_done d m = Ok (reset_machine d m)
 
 -- which of them reset gives
-pub record ResetOf (d : Device) (m : Machine) (r : AfterReset) : Type 0 where
-  pub outside : (Valid d m → ⊥) → r ≡ reset_refused m
+pub record ResetOf (d : Device) (m : Machine) (r : Result Machine Refusal) : Type 0 where
+  pub outside : (Valid d m → ⊥) → r ≡ reset_refused
   pub inside : Valid d m → r ≡ reset_done d m

@@ -76,9 +76,9 @@ pub fn interrupts_of(ei: bool, il: u8, mask: u8) -> Interrupts
     ensures { result ≡ interrupts_of ei il mask }
 {
     Interrupts {
-        ei: ei,
-        il: il,
-        mask: mask,
+        ei,
+        il,
+        mask,
         due: due_number(il, mask),
     }
 }
@@ -89,7 +89,8 @@ pub fn with_latches(i: Interrupts, il: u8) -> Interrupts
     ensures { result ≡ interrupts_of i.ei il i.mask }
 {
     if il == i.il {
-        return i;
+        i
+    } else {
+        interrupts_of(i.ei, il, i.mask)
     }
-    interrupts_of(i.ei, il, i.mask)
 }

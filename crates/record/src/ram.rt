@@ -1,26 +1,22 @@
-// RAM: the place of an address, and the two functions that touch a nibble.
+// RAM: the place of an address, a stop where it has none, and the two functions that touch a nibble.
 ghost use Rattle.std.specs.Prelude.{◌≡◌, ◌*◌, ◌+◌, ◌<◌, ◌≤◌, set};
 ghost use Rattle.numbers.specs.Sizes.{ram_nibbles};
 ghost use Rattle.record.specs.Valid.{Nibbles};
-ghost use Rattle.record.specs.Ram.{place_of, bank_of, at_hl, at_x, at_y, Peeked};
+ghost use Rattle.record.specs.Ram.{place_of, bank_of, at_hl, at_x, at_y, Placed, Peeked};
 
 use crate::{Core, Ram};
-use numbers::RAM_NIBBLES;
+use numbers::Stop;
 
-fn place(address: u16) -> usize
-    ensures { result ≡ place_of address }
+#[tactic(auto, unfolding(crate::specs::Ram::place_of))]
+fn place(address: u16) -> Result<usize, Stop>
+    ensures { Placed result (place_of address) }
 {
     let at = address as usize;
-    if at <= 0x0F3 {
-        return at;
+    match at {
+        0x000..=0x0F3 => Ok(at),
+        0x100..=0x17F => Ok(0x0F4 + (at - 0x100)),
+        _ => Err(Stop::AbsentRamAddress),
     }
-    if at < 0x100 {
-        return RAM_NIBBLES;
-    }
-    if at <= 0x17F {
-        return 0x0F4 + (at - 0x100);
-    }
-    RAM_NIBBLES
 }
 
 // "bank P9.3"
@@ -36,22 +32,22 @@ fn bank(m: Core) -> u16
     0x100 * (bank_of(m) as u16)
 }
 
-pub fn at_hl(m: Core) -> usize
-    ensures { result ≡ at_hl m }
+pub fn at_hl(m: Core) -> Result<usize, Stop>
+    ensures { Placed result (at_hl m) }
 {
     place(bank(m) + 0x10 * (m.regs.hr as u16) + m.regs.lr as u16)
 }
 
 // x is a direct address, or the one beside it.
-pub fn at_x(m: Core, x: u16) -> usize
+pub fn at_x(m: Core, x: u16) -> Result<usize, Stop>
     requires { x ≤ 0x100 }
-    ensures { result ≡ at_x m x }
+    ensures { Placed result (at_x m x) }
 {
     place(bank(m) + x)
 }
 
-pub fn at_y(y: u8) -> usize
-    ensures { result ≡ at_y y }
+pub fn at_y(y: u8) -> Result<usize, Stop>
+    ensures { Placed result (at_y y) }
 {
     place(y as u16)
 }

@@ -7,7 +7,6 @@ ghost use Rattle.record.specs.Stack.{can_push, can_pop, CanPush, CanPop, pushed,
 use crate::pack::{kept_top, pc_at, store, top_at, top_of};
 use crate::{Core, Machine, interrupts_of};
 use bits::{bit_at, weight, without_bit};
-use laws::both;
 
 // Where an interrupt goes, by its latch's number from IL0 up.
 const ENTRIES: [u16; 6] = [0x00C, 0x00A, 0x008, 0x006, 0x004, 0x002];
@@ -16,15 +15,14 @@ fn entry_of(latch: u8) -> u16
     requires { latch < 6 }
     ensures { result ≡ interrupt_entry latch }
 {
-    let at = latch as usize;
-    ENTRIES[at]
+    ENTRIES[latch as usize]
 }
 
 // "SP must be 1 to 13" for a call or an acceptance.
 pub fn can_push(m: Core) -> bool
     ensures { result ≡ can_push m }
 {
-    both(1 <= m.ptrs.sp, m.ptrs.sp <= 13)
+    1 <= m.ptrs.sp && m.ptrs.sp <= 13
 }
 
 // For a return: "0 to 12".
@@ -40,10 +38,9 @@ impl Machine {
         requires { CanPush self.core }
         ensures { result ≡ pushed self ret top }
     {
-        let sp = self.core.ptrs.sp - 1;
         let mut n = self;
-        n.core.ptrs.sp = sp;
-        store(&mut n.ram, sp, ret, top);
+        n.core.ptrs.sp -= 1;
+        store(&mut n.ram, n.core.ptrs.sp, ret, top);
         n
     }
 
@@ -52,16 +49,14 @@ impl Machine {
         requires { (Nibbles self.ram) × (CanPop self.core) }
         ensures { result ≡ popped self }
     {
-        let sp = self.core.ptrs.sp;
-        let pc = pc_at(&self.ram, sp);
-        let raised = sp + 1;
         let mut n = self;
-        n.core.pc = pc;
-        n.core.ptrs.sp = raised;
+        n.core.pc = pc_at(&n.ram, n.core.ptrs.sp);
+        n.core.ptrs.sp += 1;
         n
     }
 
     // A call that returns to ret: the flag bits of its nibble stay.
+    #[tactic(auto, unfolding(crate::specs::Stack::called))]
     pub fn call(self, ret: u16, target: u16) -> Machine
         requires { (Nibbles self.ram) × (CanPush self.core) × (ret < addresses) }
         ensures { result ≡ called self ret target }
@@ -73,46 +68,33 @@ impl Machine {
     }
 
     // The interrupt of a latch, by its number.
+    #[tactic(auto, unfolding(crate::specs::Stack::accepted))]
     pub fn accept(self, latch: u8) -> Machine
         requires { (CanPush self.core) × (self.core.pc < addresses) × (latch < 6) }
         ensures { result ≡ accepted self latch }
     {
-        let pc = self.core.pc;
-        let entry = entry_of(latch);
-        let mask = self.core.ints.mask;
-        let ints = interrupts_of(false, without_bit(self.core.ints.il, weight(latch)), mask);
-        let n = self.push(pc, top_of(pc, self.core.regs));
-        let ram = n.ram;
-        let mut core = n.core;
-        core.pc = entry;
-        core.regs.sf = true;
-        core.ints = ints;
-        Machine {
-            core: core,
-            ram: ram,
-        }
+        let ints = self.core.ints;
+        let il = without_bit(ints.il, weight(latch));
+        let mut n = self.push(self.core.pc, top_of(self.core.pc, self.core.regs));
+        n.core.pc = entry_of(latch);
+        n.core.regs.sf = true;
+        n.core.ints = interrupts_of(false, il, ints.mask);
+        n
     }
 
     // RTI: PC, the flags and EI.
+    #[tactic(auto, unfolding(crate::specs::Stack::flags_returned))]
     pub fn return_flags(self) -> Machine
         requires { (Nibbles self.ram) × (CanPop self.core) }
         ensures { result ≡ flags_returned self }
     {
         let top = top_at(&self.ram, self.core.ptrs.sp);
-        let cf = bit_at(top, 1);
-        let zf = bit_at(top, 2);
-        let sf = bit_at(top, 3);
-        let ints = interrupts_of(true, self.core.ints.il, self.core.ints.mask);
-        let n = self.pop();
-        let ram = n.ram;
-        let mut core = n.core;
-        core.regs.cf = cf;
-        core.regs.zf = zf;
-        core.regs.sf = sf;
-        core.ints = ints;
-        Machine {
-            core: core,
-            ram: ram,
-        }
+        let ints = self.core.ints;
+        let mut n = self.pop();
+        n.core.regs.cf = bit_at(top, 1);
+        n.core.regs.zf = bit_at(top, 2);
+        n.core.regs.sf = bit_at(top, 3);
+        n.core.ints = interrupts_of(true, ints.il, ints.mask);
+        n
     }
 }

@@ -6,23 +6,16 @@ use crate::valid::is_valid;
 use crate::{Core, Machine, Pointers, Registers, Timers, interrupts_of};
 use device::{Device, fresh_p4, reset_p17};
 use frame::Pins;
-use numbers::{RAM_NIBBLES, RECORD_OUTSIDE_THE_RANGES};
+use numbers::{RAM_NIBBLES, Refusal};
 use ports::{Mode, Ports};
-
-// What reset answers: 0 and the record, or a refusal's number and the record as it was.
-#[derive(Clone, Copy)]
-pub struct AfterReset {
-    pub refusal: u8,
-    pub machine: Machine,
-}
 
 fn fresh_core(d: Device, regs: Registers, ptrs: Pointers) -> Core
     ensures { result ≡ fresh_core d regs ptrs }
 {
     Core {
-        regs: regs,
+        regs,
         pc: 0,
-        ptrs: ptrs,
+        ptrs,
         ints: interrupts_of(false, 0, 0),
         timers: Timers {
             base: 0,
@@ -69,37 +62,31 @@ pub fn fresh(d: Device) -> Machine
         sf: true,
     };
     let core = fresh_core(d, regs, Pointers { sp: 0, dp: 0 });
-    let ram = [0u8; RAM_NIBBLES];
     Machine {
-        core: core,
-        ram: ram,
+        core,
+        ram: [0; RAM_NIBBLES],
     }
 }
 
 fn reset_core(d: Device, m: Core) -> Core
     ensures { result ≡ reset_core d m }
 {
-    let mut regs = m.regs;
-    regs.sf = true;
-    let ptrs = m.ptrs;
-    fresh_core(d, regs, ptrs)
+    let regs = Registers {
+        sf: true,
+        ..m.regs
+    };
+    fresh_core(d, regs, m.ptrs)
 }
 
-// Reset, or refusal 2 and the record as it was.
-pub fn reset(d: Device, m: Machine) -> AfterReset
+// Reset; a record outside the ranges is refused.
+pub fn reset(d: Device, m: Machine) -> Result<Machine, Refusal>
     ensures { ResetOf d m result }
 {
-    if is_valid(d, m) {
-        let core = reset_core(d, m.core);
-        let mut machine = m;
-        machine.core = core;
-        return AfterReset {
-            refusal: 0,
-            machine: machine,
-        };
+    if !is_valid(d, m) {
+        return Err(Refusal::RecordOutsideTheRanges);
     }
-    AfterReset {
-        refusal: RECORD_OUTSIDE_THE_RANGES,
-        machine: m,
-    }
+    Ok(Machine {
+        core: reset_core(d, m.core),
+        ..m
+    })
 }

@@ -1,18 +1,12 @@
 -- What unpacking answers in each of its cases.
 use Prim.Native.Nat.{ℕ}
-use mathlib.Core.Bool.{true, false}
 use mathlib.Core.List.{List}
 use mathlib.Core.Path.{◌≡◌, sym}
 use lib.ListN.{length, take, drop, take-append-drop}
-use Rattle.laws.proofs.Computed.{true→T}
 use Rattle.record.specs.declared.Core.{Core}
-use Rattle.record_bytes.specs.Layout.{head_of, HoldsNone}
-use Rattle.record_bytes.specs.Unpacked.{FlagsFit, Unpacks}
-use Rattle.record_bytes.specs.declared.Unpacked.{Unpacked}
+use Rattle.record_bytes.specs.Layout.{head_of, Holds, HoldsNone}
+use Rattle.record_bytes.specs.Unpacked.{FlagsFit}
 use Rattle.record_bytes.proofs.Tells.{flags_of}
-
-pub no_record : (bytes : List ℕ) {u : Unpacked} → u.held ≡ false → HoldsNone bytes → Unpacks bytes u
-no_record bytes f n = record { some = λ e. absurd (rw f at (true→T e)); none = λ _. n }
 
 pub wrong_length : (bytes : List ℕ) → (length bytes ≡ 416 → ⊥) → HoldsNone bytes
 wrong_length bytes n m h = n h.size
@@ -20,6 +14,5 @@ wrong_length bytes n m h = n h.size
 pub wrong_flags : (bytes : List ℕ) {head : List ℕ} → head ≡ take 44 bytes → (FlagsFit head → ⊥) → HoldsNone bytes
 wrong_flags bytes e n m h = n (rw (e, h.same) (flags_of m))
 
-pub a_record : (bytes : List ℕ) {head ram : List ℕ} {core : Core} → length bytes ≡ 416 → head ≡ take 44 bytes → ram ≡ drop 44 bytes → head ≡ head_of core → Unpacks bytes (record { held = true; machine = record { core = core; ram = ram } })
-a_record bytes s e r h =
-    record { some = λ _. record { size = s; same = rw (← h, e, r) (sym (take-append-drop 44 bytes)) }; none = λ f. absurd (true→T (sym f)) }
+pub a_record : (bytes : List ℕ) {head ram : List ℕ} {core : Core} → length bytes ≡ 416 → head ≡ take 44 bytes → ram ≡ drop 44 bytes → head ≡ head_of core → Holds bytes (record { core = core; ram = ram })
+a_record bytes s e r h = record { size = s; same = rw (← h, e, r) (sym (take-append-drop 44 bytes)) }

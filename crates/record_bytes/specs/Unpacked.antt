@@ -1,12 +1,12 @@
 -- What unpacking a buffer answers, and what it asks of the head's bytes.
-use Rattle.std.specs.Prelude.{ℕ, ◌<◌, true, false, List, [], ◌∷◌, ◌≡◌, get_or, take, drop}
+use Rattle.std.specs.Prelude.{ℕ, ◌<◌, Option, MatchOption, List, [], ◌∷◌, ◌≡◌, get_or, take, drop}
 use Rattle.bits.specs.Bits.{bit_of}
 use Rattle.ports.specs.declared.Ports.{Ports}
 use Rattle.record.specs.declared.Registers.{Registers}
 use Rattle.record.specs.declared.Interrupts.{Interrupts}
 use Rattle.record.specs.declared.Timers.{Timers}
 use Rattle.record_bytes.specs.Layout.{two, four, latch_bytes, Holds, HoldsNone}
-use Rattle.record_bytes.specs.declared.Unpacked.{Unpacked}
+use Rattle.record.specs.declared.Machine.{Machine}
 
 -- the bytes that are flags, the mark among them, and the mode's: any other byte may have any value
 pub record FlagsFit (head : List ℕ) : Type 0 where
@@ -44,6 +44,6 @@ pub record PortsAt (head : List ℕ) (p : Ports) : Type 0 where
   pub p6 : p.p6 ≡ get_or head 41 0
   pub p17 : p.p17 ≡ get_or head 42 0
 
-pub record Unpacks (bytes : List ℕ) (u : Unpacked) : Type 0 where
-  pub some : u.held ≡ true → Holds bytes u.machine
-  pub none : u.held ≡ false → HoldsNone bytes
+-- the record that the buffer holds, and none exactly where it holds none
+abbrev pub Unpacks : List ℕ → Option Machine → Type 0
+Unpacks bytes r = MatchOption r (HoldsNone bytes) (Holds bytes)

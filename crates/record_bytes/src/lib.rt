@@ -1,7 +1,7 @@
 // The record as 416 bytes, and back. The layout loses nothing: proofs/Tells.antt, `one_record`.
 #![tactic(auto)]
 
-ghost use Rattle.std.specs.Prelude.{◌≡◌, false, [], ◌∷◌, ◌+◌, ◌/◌, ◌%◌, ◌<◌, ◌≤◌, length, take, drop};
+ghost use Rattle.std.specs.Prelude.{◌≡◌, [], ◌∷◌, ◌+◌, ◌/◌, ◌%◌, ◌<◌, ◌≤◌, length, take, drop};
 ghost use Rattle.laws.specs.Decides.{Decides};
 ghost use Rattle.laws.specs.Writing.{Wrote};
 ghost use Rattle.bits.specs.Bits.{bit_of};
@@ -9,12 +9,10 @@ ghost use Rattle.record_bytes.specs.Layout.{head_size, record_size, two, four, m
 ghost use Rattle.record_bytes.specs.Unpacked.{FlagsFit, RegistersAt, InterruptsAt, TimersAt, PortsAt, Unpacks};
 
 use bits::bit_of;
-use device::Device;
 use frame::Pins;
 use laws::both;
 use numbers::RAM_NIBBLES;
 use ports::{Mode, Ports};
-use record::start::fresh;
 use record::{Core, Interrupts, Machine, Pointers, Ram, Registers, Timers};
 
 // How many bytes a record takes.
@@ -22,13 +20,6 @@ pub const RECORD_BYTES: usize = 416;
 
 // How many of them come before RAM.
 const HEAD_BYTES: usize = 44;
-
-// Whether a buffer holds a record, and that record; where it holds none, the fresh one.
-#[derive(Clone, Copy)]
-pub struct Unpacked {
-    pub held: bool,
-    pub machine: Machine,
-}
 
 fn low(n: u16) -> u8
     ensures { result ≡ n % 256 }
@@ -262,15 +253,6 @@ fn core_of(head: &[u8; HEAD_BYTES]) -> Core
     }
 }
 
-fn no_record() -> Unpacked
-    ensures { result.held ≡ false }
-{
-    Unpacked {
-        held: false,
-        machine: fresh(Device::Em73862),
-    }
-}
-
 fn head_at(bytes: &[u8]) -> [u8; HEAD_BYTES]
     requires { length bytes.now ≡ record_size }
     ensures { result ≡ take head_size bytes.now }
@@ -289,24 +271,19 @@ fn ram_at(bytes: &[u8]) -> Ram
     ram
 }
 
-// A buffer of another length, a flag over 1 and a mode over 2 are no record.
-pub fn unpack(bytes: &[u8]) -> Unpacked
+// The record that a buffer holds. A buffer of another length, a flag over 1 and a mode over 2 are no record.
+pub fn unpack(bytes: &[u8]) -> Option<Machine>
     ensures { Unpacks bytes.now result }
 {
     if bytes.len() != RECORD_BYTES {
-        return no_record();
+        return None;
     }
     let head = head_at(bytes);
-    if flags_fit(&head) {
-        let core = core_of(&head);
-        let ram = ram_at(bytes);
-        return Unpacked {
-            held: true,
-            machine: Machine {
-                core: core,
-                ram: ram,
-            },
-        };
+    if !flags_fit(&head) {
+        return None;
     }
-    no_record()
+    Some(Machine {
+        core: core_of(&head),
+        ram: ram_at(bytes),
+    })
 }

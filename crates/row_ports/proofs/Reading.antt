@@ -9,7 +9,6 @@ use Rattle.device.specs.declared.Options.{Options}
 use Rattle.sheet.specs.Table.{lines, line_at}
 use Rattle.alu.specs.Making.{made}
 use Rattle.alu.specs.Flags.{flag_after}
-use Rattle.ports.specs.declared.PortRead.{PortRead}
 use Rattle.record.specs.declared.Core.{Core}
 use Rattle.row.specs.Places.{weight_of}
 use Rattle.row.specs.Steps.{first_of, put_step}
@@ -22,7 +21,7 @@ use Rattle.row_ports.specs.Ported.{Reads}
 use Rattle.row_ports.proofs.Stops.{got_stop_lem}
 
 -- what a port read leaves, or its stop
-read_done : (m : Core) (r : PortRead) (x : Act) (l : List ℕ) → done_as (after_read m r x) l ≡ pick (eqb (first_of (first_of r.stop 0) 0) 0) (done_as (left m x r.ports) l) (stops (first_of (first_of r.stop 0) 0) (assembled m l))
+read_done : (m : Core) (r : ReadDone) (x : Act) (l : List ℕ) → done_as (after_read m r x) l ≡ pick (eqb (first_of (first_of r.stop 0) 0) 0) (done_as (left m x r.ports) l) (stops (first_of (first_of r.stop 0) 0) (assembled m l))
 unfolding after_read
 read_done m r x l = got_stop_lem r.stop (left m x r.ports) m l
 

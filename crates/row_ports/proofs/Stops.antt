@@ -10,10 +10,8 @@ use Rattle.laws.specs.Choice.{pick, either}
 use Rattle.device.specs.Device.{reserved}
 use Rattle.device.specs.declared.Device.{Device}
 use Rattle.frame.specs.declared.Pins.{Pins}
-use Rattle.ports.specs.Ports.{with_latch, is_readable, read_port, is_writable, write_stop, write_port}
+use Rattle.ports.specs.Ports.{with_latch, is_readable, read_port, is_writable, write_stop, write_port, ReadDone, WriteDone}
 use Rattle.ports.specs.declared.Ports.{Ports}
-use Rattle.ports.specs.declared.PortRead.{PortRead}
-use Rattle.ports.specs.declared.PortWrite.{PortWrite}
 use Rattle.record.specs.declared.Core.{Core}
 use Rattle.row.specs.Steps.{first_of}
 use Rattle.row.specs.Rows.{stops}
@@ -52,7 +50,7 @@ unfolding write_stop
 write_stop_after d n v =
     either_way After31 (is_writable d n) _ 33 (either_way After31 (reserved d n v) 34 0 refl refl) refl
 
-written_after : (t : Bool) (s : ℕ) (p q : Ports) → After31 s → After31 (pick {A = PortWrite} t (record { stop = 0; ports = p }) (record { stop = s; ports = q })).stop
+written_after : (t : Bool) (s : ℕ) (p q : Ports) → After31 s → After31 (pick {A = WriteDone} t (record { stop = 0; ports = p }) (record { stop = s; ports = q })).stop
 written_after true s p q h = refl
 written_after false s p q h = h
 
@@ -61,7 +59,7 @@ pub write_after : (d : Device) (p : Ports) (n v : ℕ) → first_of 31 (write_po
 unfolding write_port
 write_after d p n v = written_after (eqb (write_stop d n v) 0) (write_stop d n v) _ _ (write_stop_after d n v)
 
-read_after_by : (t : Bool) (v : ℕ) (p q : Ports) → first_of (first_of (pick {A = PortRead} t (record { stop = 0; value = v; ports = p }) (record { stop = 33; value = 0; ports = q })).stop 0) 31 ≡ 31
+read_after_by : (t : Bool) (v : ℕ) (p q : Ports) → first_of (first_of (pick {A = ReadDone} t (record { stop = 0; value = v; ports = p }) (record { stop = 33; value = 0; ports = q })).stop 0) 31 ≡ 31
 read_after_by true v p q = refl
 read_after_by false v p q = refl
 
@@ -70,7 +68,7 @@ pub read_after : (d : Device) (sound : Bool) (pins : Pins) (p : Ports) (n : ℕ)
 unfolding read_port
 read_after d sound pins p n = read_after_by (is_readable n) _ _ _
 
-p9_by : (t u : Bool) (v w : ℕ) (p q : Ports) → q.p9 ≡ p.p9 → (pick {A = PortRead} t (record { stop = 0; value = v; ports = pick u q p }) (record { stop = 33; value = w; ports = p })).ports.p9 ≡ p.p9
+p9_by : (t u : Bool) (v w : ℕ) (p q : Ports) → q.p9 ≡ p.p9 → (pick {A = ReadDone} t (record { stop = 0; value = v; ports = pick u q p }) (record { stop = 33; value = w; ports = p })).ports.p9 ≡ p.p9
 p9_by true true v w p q h = h
 p9_by true false v w p q h = refl
 p9_by false u v w p q h = refl

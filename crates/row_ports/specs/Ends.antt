@@ -6,9 +6,8 @@ use Rattle.bits.specs.Bits.{has_bit, with_bit, without_bit}
 use Rattle.device.specs.declared.Device.{Device}
 use Rattle.device.specs.declared.Options.{Options}
 use Rattle.alu.specs.Making.{value_and_carry}
-use Rattle.ports.specs.Ports.{latch_of, read_port, write_port, mode_after}
+use Rattle.ports.specs.Ports.{latch_of, read_port, write_port, mode_after, ReadDone}
 use Rattle.ports.specs.declared.Ports.{Ports}
-use Rattle.ports.specs.declared.PortRead.{PortRead}
 use Rattle.record.specs.With.{core_with_regs, core_with_pc, core_with_timers, core_with_ports, core_with_mode}
 use Rattle.record.specs.declared.Registers.{Registers}
 use Rattle.record.specs.declared.Core.{Core}
@@ -41,7 +40,7 @@ bit_set d m n w bytes = written d m n (with_bit (latch_of m.ports n) w) bytes
 abbrev pub bit_cleared : Device → Core → ℕ → ℕ → ℕ → Turn
 bit_cleared d m n w bytes = written d m n (without_bit (latch_of m.ports n) w) bytes
 
-abbrev pub port_read : Options → Core → ℕ → PortRead
+abbrev pub port_read : Options → Core → ℕ → ReadDone
 port_read options m n = read_port options.device options.sound m.pins m.ports n
 
 -- the scalars with PC and the registers that a row leaves, and these latches
@@ -49,7 +48,7 @@ abbrev pub left : Core → Act → Ports → Turn
 left m x p = record { stop = x.stop; cycles = x.cycles; core = core_with_ports (after_act m x) p }
 
 -- a row that read what r says: its stop, or what the row makes of the value
-unfoldable pub after_read : Core → PortRead → Act → Turn
+unfoldable pub after_read : Core → ReadDone → Act → Turn
 after_read m r x = pick (eqb r.stop 0) (left m x r.ports) (stopped_turn m r.stop)
 
 -- the bit of weight w is 1, or it is 0

@@ -1,4 +1,4 @@
-// The instruction table of sheet 000 for the code: an instruction, what reading gives, the rows' numbers by name, and the length and cycles by first byte.
+// The instruction table of sheet 000 for the code: an instruction, why reading gives none, the rows' numbers by name, and the length and cycles by first byte.
 // The rows themselves are the definition in specs/Table.antt.
 #![tactic(auto)]
 
@@ -7,20 +7,45 @@ pub mod rows;
 
 ghost use Rattle.std.specs.Prelude.{◌≡◌, ◌/◌};
 ghost use Rattle.sheet.specs.Timing.{TimedFrom, NoneFrom};
+ghost use Rattle.sheet.specs.Refusing.{refusal_of, stop_of};
+
+use numbers::{Refusal, Stop};
 
 // One row by its number, and its operands: a is its x, k, a, b, r or n, and b its y or p; 0 for one that it does not have.
-#[derive(Clone, Copy)]
+#[derive(Clone, Copy, PartialEq, Eq)]
 pub struct Insn {
     pub row: u8,
     pub a: u16,
     pub b: u8,
 }
 
-#[derive(Clone, Copy)]
-pub enum Read {
-    Row(Insn),
+// Why reading gives no instruction: the code is in neither table, or its bytes pass the end of the image.
+#[derive(Clone, Copy, PartialEq, Eq)]
+pub enum NoRow {
     Unassigned,
     PastEnd,
+}
+
+impl From<NoRow> for Refusal {
+    ghost from_gives = { λ why refusal. refusal ≡ refusal_of why };
+
+    fn from(why: NoRow) -> Refusal {
+        match why {
+            NoRow::Unassigned => Refusal::UnassignedCode,
+            NoRow::PastEnd => Refusal::PastEnd,
+        }
+    }
+}
+
+impl From<NoRow> for Stop {
+    ghost from_gives = { λ why stop. stop ≡ stop_of why };
+
+    fn from(why: NoRow) -> Stop {
+        match why {
+            NoRow::Unassigned => Stop::UnassignedCode,
+            NoRow::PastEnd => Stop::PastEnd,
+        }
+    }
 }
 
 #[derive(Clone, Copy)]

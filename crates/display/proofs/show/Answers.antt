@@ -1,30 +1,24 @@
--- `display::show` meets its contract: from byte j on the forty are left to be written.
-use native.Mathlib.Omega.{arith}
-use Rattle.laws.proofs.Writing.{writing_all}
-use Rattle.display.proofs.Bytes.{byte_more, bytes_end}
+-- `display::show` meets its contract.
+use Rattle.std.proofs.Common.{arith, ap, ◌++◌, ◌≡◌, length, drop, List, ℕ, ◌<◌, ◌≢◌, below_more, get_or-set_other, get_or-set_same}
+use Rattle.std.proofs.lemmas.List.{length-take-le}
+use Rattle.std.proofs.lemmas.List.FromFn.{fill_by_all}
+use Rattle.display.specs.Bytes.{byte_in}
+use Rattle.display.specs.Display.{is_on}
 use Rattle.display.proofs.Shows.{shows}
 use Rattle.display.proofs.show.Goals as goal
 
-pub loop-j-init : goal.loop-j-init
-loop-j-init c = (writing_all _ (omega arith), omega arith)
-
 pub byte-requires : goal.byte-requires
-byte-requires c = (c.requires.0, c.loop-j-test.true)
-
-pub bounds-out-j : goal.bounds-out-j
-bounds-out-j c = omega arith
-
-pub overflow_add-j : goal.overflow_add-j
-overflow_add-j c = omega arith
-
-pub loop-j-smaller : goal.loop-j-smaller
-loop-j-smaller c = omega arith
+byte-requires c = (c.requires.0, omega (arith, length-take-le 40 c.args.out.now c.requires.1))
 
 pub loop-j-preserved : goal.loop-j-preserved
-loop-j-preserved c = (byte_more _ _ c.loop-j.invariant.0 c.loop-j-test.true (omega arith) c.byte.ensures, omega arith)
-
-pub shape_of-out : goal.shape_of-out
-shape_of-out c = c.loop-j.invariant.0.wrote.size
+loop-j-preserved c =
+    below_more _ _
+    (λ k h. let ne : k ≢ c.loop-j.j = omega arith in rw get_or-set_other (c.loop-j.invariant k h))
+    (let lt : c.loop-j.j < length c.loop-j.dots = omega arith in rw get_or-set_same c.byte.ensures)
 
 pub returns : goal.returns
-returns c = shows _ _ _ c.requires.0 c.requires.1 (bytes_end _ _ c.loop-j.invariant.0 c.loop-j-test.false)
+returns c =
+    let n : length c.loop-j.dots ≡ 40 = omega (arith, length-take-le 40 c.args.out.now c.requires.1) in
+    shows _ _ _ c.requires.0 c.requires.1
+    (ap (λ (dots : List ℕ). dots ++ drop 40 c.args.out.now)
+    (fill_by_all (byte_in (is_on c.args.m) c.args.m.ram) c.loop-j.dots 40 0 n (λ k h. c.loop-j.invariant k (omega arith))))

@@ -1,6 +1,5 @@
 -- `due::due_source` meets its contract.
 use Prim.Native.Nat.{◌%◌}
-use mathlib.Core.Path.{◌∙◌}
 use native.Mathlib.Omega.{arith}
 use native.Mathlib.Nat.{lt_of_le_of_lt}
 use lib.Bits.{and_le_l}
@@ -11,4 +10,4 @@ pub highest_bit-requires : goal.highest_bit-requires
 highest_bit-requires c = lt_of_le_of_lt {m = c.args.il % 64} (and_le_l _ _) (omega arith)
 
 pub returns : goal.returns
-returns c = c.highest_bit.ensures ∙ by_pattern c.args.il c.args.mask
+returns c = rw (← by_pattern c.args.il c.args.mask) c.highest_bit.ensures

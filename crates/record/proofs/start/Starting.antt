@@ -10,7 +10,8 @@ use Rattle.record.specs.Start.{fresh_ports, fresh_pins, fresh_core, fresh_machin
 use Rattle.record.specs.declared.Registers.{Registers}
 use Rattle.record.specs.declared.Pointers.{Pointers}
 use Rattle.record.specs.declared.Machine.{Machine}
-use Rattle.record.specs.declared.start.AfterReset.{AfterReset}
+use Rattle.numbers.specs.declared.Refusal.{Refusal}
+use Rattle.std.proofs.Common.{Result}
 use Rattle.record.proofs.Interrupting.{made_valid}
 use Rattle.record.proofs.valid.Validity.{registers, pointers, timers, also, ports, pins, nibbles, valid?}
 
@@ -47,10 +48,10 @@ reset_valid m v = record {
   ram = v.ram;
 }
 
-by_validity : {d : Device} {m : Machine} {r s : AfterReset} → ResetOf d m r → ResetOf d m s → Dec (Valid d m) → r ≡ s
+by_validity : {d : Device} {m : Machine} {r s : Result Machine Refusal} → ResetOf d m r → ResetOf d m s → Dec (Valid d m) → r ≡ s
 by_validity a b (yes v) = a.inside v ∙ sym (b.inside v)
 by_validity a b (no n) = a.outside n ∙ sym (b.outside n)
 
 -- any two answers of reset are equal
-pub reset_determined : (d : Device) (m : Machine) (r s : AfterReset) → ResetOf d m r → ResetOf d m s → r ≡ s
+pub reset_determined : (d : Device) (m : Machine) (r s : Result Machine Refusal) → ResetOf d m r → ResetOf d m s → r ≡ s
 reset_determined d m r s a b = by_validity a b (valid? d m)

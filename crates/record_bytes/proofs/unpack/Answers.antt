@@ -4,17 +4,17 @@ use native.Mathlib.Omega.{arith}
 use lib.ListN.{length}
 use lib.Seq.{length-take-le}
 use Rattle.laws.proofs.Computed.{true→T}
-use Rattle.record_bytes.proofs.Unpacking.{no_record, wrong_length, wrong_flags, a_record}
+use Rattle.record_bytes.proofs.Unpacking.{wrong_length, wrong_flags, a_record}
 use Rattle.record_bytes.proofs.unpack.Goals as goal
 
 pub returns-then-bytes-ne-RECORD_BYTES : goal.returns-then-bytes-ne-RECORD_BYTES
-returns-then-bytes-ne-RECORD_BYTES c = no_record _ c.no_record.ensures (wrong_length _ c.if-bytes-ne-RECORD_BYTES.true)
+returns-then-bytes-ne-RECORD_BYTES c = wrong_length _ c.if-bytes-ne-RECORD_BYTES.true
 
-pub core_of-core-requires : goal.core_of-core-requires
-core_of-core-requires c = (ap length c.head_at-head.ensures ∙ length-take-le 44 c.args.bytes.now (omega (arith, c.if-bytes-ne-RECORD_BYTES.false)), c.flags_fit.ensures.sound (true→T c.if-flags_fit.true))
+pub returns-then-not-flags_fit : goal.returns-then-not-flags_fit
+returns-then-not-flags_fit c = wrong_flags _ c.head_at-head.ensures (λ f. rw c.if-not-flags_fit.true at (c.flags_fit.ensures.complete f))
 
-pub returns-then-flags_fit : goal.returns-then-flags_fit
-returns-then-flags_fit c = a_record _ c.if-bytes-ne-RECORD_BYTES.false c.head_at-head.ensures c.ram_at-ram.ensures c.core_of-core.ensures
+pub core_of-requires : goal.core_of-requires
+core_of-requires c = (ap length c.head_at-head.ensures ∙ length-take-le 44 c.args.bytes.now (omega (arith, c.if-bytes-ne-RECORD_BYTES.false)), c.flags_fit.ensures.sound (true→T c.if-not-flags_fit.false))
 
 pub returns : goal.returns
-returns c = no_record _ c.no_record-2.ensures (wrong_flags _ c.head_at-head.ensures (λ f. rw c.if-flags_fit.false at (c.flags_fit.ensures.complete f)))
+returns c = a_record _ c.if-bytes-ne-RECORD_BYTES.false c.head_at-head.ensures c.ram_at.ensures c.core_of.ensures

@@ -1,9 +1,10 @@
 -- `record::valid::ports_valid` meets its contract.
-use Rattle.laws.proofs.Decided.{given}
-use Rattle.record.proofs.valid.Validity.{ports}
+use Rattle.std.proofs.Common.{rules, arith}
+use Rattle.std.proofs.lemmas.Grind.{common_steps}
 use Rattle.record.proofs.valid.ports_valid.Goals as goal
 
-pub returns : goal.returns
-returns c =
-    rw (c.both-9.ensures, c.both-8.ensures, c.both-7.ensures, c.both-6.ensures, c.both-never.ensures, c.both-p28_to_30.ensures, c.both-5.ensures, c.both-p23_to_27.ensures, c.both-4.ensures, c.both-3.ensures, c.both-p4_to_16.ensures, c.both-2.ensures, c.both.ensures)
-    (ports c.args.d c.args.p (given c.also_valid-also.ensures)).decides
+pub returns-then-p-ne2 : goal.returns-then-p-ne2
+returns-then-p-ne2 c = record {
+  sound = λ t. record { also = search rules; p4 = search rules; p8 = search rules; p9 = search rules; p16 = search rules; p23 = search rules; p24 = search rules; p25 = search rules; p27 = search rules; p28 = search rules; p29 = search rules; p30 = search rules; p25_never_10xx = search rules; p27_never_10xx = search rules };
+  complete = λ v. grind (arith, common_steps);
+}

@@ -1,7 +1,0 @@
--- `alu::minus` meets its contract.
-use Rattle.alu.specs.Making.{made}
-use Rattle.alu.proofs.minus.Goals as goal
-
-pub returns : goal.returns
-unfolding made
-returns c = c.nibble.ensures

@@ -1,8 +1,0 @@
--- `alu::or` meets its contract.
-use mathlib.Core.Path.{refl}
-use Rattle.alu.specs.Making.{made}
-use Rattle.alu.proofs.or.Goals as goal
-
-pub returns : goal.returns
-unfolding made
-returns c = refl

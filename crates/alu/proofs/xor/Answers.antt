@@ -1,8 +1,0 @@
--- `alu::xor` meets its contract.
-use mathlib.Core.Path.{refl}
-use Rattle.alu.specs.Making.{made}
-use Rattle.alu.proofs.xor.Goals as goal
-
-pub returns : goal.returns
-unfolding made
-returns c = refl

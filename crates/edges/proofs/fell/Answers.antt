@@ -1,8 +1,0 @@
--- `edges::fell` meets its contract.
-use Rattle.edges.proofs.fell.Goals as goal
-
-pub returns-then-has_bit : goal.returns-then-has_bit
-returns-then-has_bit c = rw (← c.has_bit-then-has_bit.ensures, ← c.has_bit.ensures, c.if-has_bit.true)
-
-pub returns : goal.returns
-returns c = rw (← c.has_bit.ensures, c.if-has_bit.false)
