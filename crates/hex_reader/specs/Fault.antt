@@ -22,7 +22,10 @@ line_of_refusal (Buffer refusal) = 0
 line_of_refusal (Fault first) = first.line
 
 -- 0 is no row of the table: nothing is refused
-abbrev pub number_of : {A : Type 0} → Result A Refusal → ℕ
+abbrev pub Taken : Type 0
+Taken = Result Unit Refusal
+
+abbrev pub number_of : Taken → ℕ
 number_of (Ok x) = 0
 number_of (Err refusal) = refusal_number refusal
 

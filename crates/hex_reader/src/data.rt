@@ -36,8 +36,7 @@ fn store(address: usize, digits: &[u8], size: usize, work: &mut [u8])
     ensures holds { (ds : List Given) → Holds size work.old ds → Holds size work.new (record_of address digits.now ∷ ds) }
 {
     for k in 0..digits.len() / 2 {
-        let byte = byte_at(digits, 2 * k);
-        put(work, size, address + k, byte as u8);
+        put(work, size, address + k, byte_at(digits, 2 * k));
     }
 }
 

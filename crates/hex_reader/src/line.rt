@@ -19,9 +19,9 @@ const DATA: usize = 9;
 
 const SHORTEST: usize = 11;
 
-const DATA_RECORD: usize = 0;
+const DATA_RECORD: u8 = 0;
 
-const END_RECORD: usize = 1;
+const END_RECORD: u8 = 1;
 
 // What a line without a fault is: a data record by its address and the digits of its bytes, or the end record.
 #[derive(Clone, Copy)]
@@ -31,15 +31,16 @@ pub enum Line<'a> {
 }
 
 // The value of a digit of either case.
-fn digit_value(c: u8) -> usize
+fn digit_value(c: u8) -> u8
+    requires { digit_of c < 16 }
     ensures { result ≡ digit_of c }
 {
-    digit(c) as usize
+    digit(c).unwrap()
 }
 
 // The byte of the two digits at a place.
-pub fn byte_at(text: &[u8], at: usize) -> usize
-    requires { at + 1 < length text.now }
+pub(crate) fn byte_at(text: &[u8], at: usize) -> u8
+    requires { (at + 1 < length text.now) × (digit_of (get_or text.now at 0) < 16) × (digit_of (get_or text.now (at + 1) 0) < 16) }
     ensures { result ≡ byte_of (get_or text.now at 0) (get_or text.now (at + 1) 0) }
 {
     16 * digit_value(text[at]) + digit_value(text[at + 1])
@@ -48,16 +49,17 @@ pub fn byte_at(text: &[u8], at: usize) -> usize
 fn are_digits(characters: &[u8]) -> bool
     ensures { result ≡ all_digits 16 characters.now }
 {
-    characters.iter().all(|c| digit(*c) < 16)
+    characters.iter().all(|c| digit(*c).is_some())
 }
 
 // The sum of the bytes that digits in pairs write, modulo 256.
-fn sum_of(digits: &[u8]) -> usize
+fn sum_of(digits: &[u8]) -> u8
+    requires { all_digits 16 digits.now ≡ true }
     ensures { result ≡ total (bytes_of digits.now) % 256 }
 {
-    let mut sum = 0;
+    let mut sum: u8 = 0;
     for pair in digits.chunks_exact(2) {
-        sum = (sum + byte_at(pair, 0)) % 256;
+        sum = sum.wrapping_add(byte_at(pair, 0));
     }
     sum
 }
@@ -68,7 +70,7 @@ fn is_record(line: &[u8]) -> bool
     line.len() >= SHORTEST
         && line[0] == b':'
         && are_digits(&line[RECLEN..])
-        && line.len() == SHORTEST + 2 * byte_at(line, RECLEN)
+        && line.len() == SHORTEST + 2 * usize::from(byte_at(line, RECLEN))
 }
 
 fn judge_record(line: &[u8]) -> Result<Line<'_>, Refusal>
@@ -85,8 +87,9 @@ fn judge_record(line: &[u8]) -> Result<Line<'_>, Refusal>
     }
     match kind {
         DATA_RECORD => Ok(Line::Data {
-            address: 256 * byte_at(line, LOAD_OFFSET) + byte_at(line, LOAD_OFFSET + 2),
-            digits: &line[DATA..DATA + 2 * count],
+            address: 256 * usize::from(byte_at(line, LOAD_OFFSET))
+                + usize::from(byte_at(line, LOAD_OFFSET + 2)),
+            digits: &line[DATA..DATA + 2 * usize::from(count)],
         }),
         END_RECORD => Ok(Line::End),
         _ => Err(Refusal::RecordType),

@@ -4,23 +4,30 @@ use mathlib.Core.Bool.{Bool, true, false}
 use mathlib.Core.List.{List, [], ◌∷◌, ◌++◌}
 use Prim.Native.Nat.{ℕ, suc, ◌+◌, ◌<◌}
 use native.Mathlib.Omega.{arith}
+use lib.Dec.{ltb→lt}
 use lib.ListN.{length, get_or}
 use borrow.Author.Tests.{lt-ltb}
-use Rattle.std.specs.Prelude.{◌↔◌, IsTrue, EachIndex}
+use Rattle.std.specs.Prelude.{ltb, ◌↔◌, IsTrue, EachIndex, Some, None, is_some}
+use Rattle.laws.specs.Choice.{pick}
+use Rattle.laws.proofs.Computed.{true→T}
 use Rattle.text.specs.Words.{all_digits}
-use Rattle.text.specs.Hexadecimal.{digit_of}
+use Rattle.text.specs.Hexadecimal.{digit_of, digit_to}
 use Rattle.hex_reader.specs.Record.{byte_of, bytes_of, total}
 use Rattle.hex_reader.proofs.line.Pairs.{digit-in}
 
-each_digit : (l : List ℕ) → EachIndex l (λ k. digit_of (get_or l k 0) < 16) → all_digits 16 l ≡ true
-each_digit [] f = refl
-each_digit (c ∷ l) f = rw (lt-ltb (digit_of c) 16 (f 0 (omega arith))) (each_digit l (λ k h. f (suc k) (omega arith)))
+some-digit : (c : ℕ) (t : Bool) → ltb (digit_of c) 16 ≡ t → is_some (pick t (Some (digit_of c)) None) ≡ true → digit_of c < 16
+some-digit c true e h = ltb→lt (digit_of c) 16 (true→T e)
+some-digit c false e h = cc
 
-no_digits : (l : List ℕ) (b : Bool) → all_digits 16 l ≡ b → (EachIndex l (λ k. digit_of (get_or l k 0) < 16) → ⊥) → false ≡ b
-no_digits l true e n = absurd (n (λ k h. digit-in l k e h))
+each_digit : (l : List ℕ) → EachIndex l (λ k. is_some (digit_to 16 (get_or l k 0)) ≡ true) → all_digits 16 l ≡ true
+each_digit [] f = refl
+each_digit (c ∷ l) f = rw (lt-ltb (digit_of c) 16 (some-digit c (ltb (digit_of c) 16) refl (f 0 (omega arith)))) (each_digit l (λ k h. f (suc k) (omega arith)))
+
+no_digits : (l : List ℕ) (b : Bool) → all_digits 16 l ≡ b → (EachIndex l (λ k. is_some (digit_to 16 (get_or l k 0)) ≡ true) → ⊥) → false ≡ b
+no_digits l true e n = absurd (n (λ k h. rw (lt-ltb (digit_of (get_or l k 0)) 16 (digit-in l k e h))))
 no_digits l false e n = refl
 
-pub digits_by : (r : Bool) (l : List ℕ) → (IsTrue r ↔ EachIndex l (λ k. digit_of (get_or l k 0) < 16)) → r ≡ all_digits 16 l
+pub digits_by : (r : Bool) (l : List ℕ) → (IsTrue r ↔ EachIndex l (λ k. is_some (digit_to 16 (get_or l k 0)) ≡ true)) → r ≡ all_digits 16 l
 digits_by true l h = rw (each_digit l (h.0 refl))
 digits_by false l h = no_digits l (all_digits 16 l) refl (λ f. let e = h.1 f in absurd (cc))
 

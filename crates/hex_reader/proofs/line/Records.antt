@@ -2,7 +2,7 @@
 use mathlib.Core.Path.{◌≡◌, refl, sym}
 use mathlib.Core.Bool.{Bool, true, false, not}
 use mathlib.Core.List.{List, [], ◌∷◌}
-use Prim.Native.Nat.{ℕ, zero, suc, ◌+◌, ◌*◌, ◌%◌, ◌<◌, ◌≤◌}
+use Prim.Native.Nat.{ℕ, zero, suc, ◌+◌, ◌-◌, ◌*◌, ◌%◌, ◌<◌, ◌≤◌}
 use Prim.Native.Char.{code}
 use native.Mathlib.Omega.{arith}
 use mathlib.Core.Logic.{◌⊎◌, inl, inr}
@@ -85,6 +85,12 @@ module _ (line : List ℕ) (r : is_record line ≡ true) where
   -- each character after the mark is a digit
   digit_at : (i : ℕ) → i + 1 < length line → digit_of (get_or line (1 + i) 0) < 16
   digit_at i h = rw (← get_or-drop 1 line i 0) (digit_in (drop 1 line) i record-digits (omega (arith, length-drop 1 line)))
+
+  pub digit-at : (i : ℕ) → 1 ≤ i → i < length line → digit_of (get_or line i 0) < 16
+  digit-at i g h = let e : i ≡ 1 + (i - 1) = omega arith in rw e (digit_at (i - 1) (omega arith))
+
+  pub all-digits : all_digits 16 (drop 1 line) ≡ true
+  all-digits = T→true _ record-digits
 
   byte-below : (i : ℕ) → i + 2 < length line → field_at line (1 + i) < 256
   byte-below i h =
