@@ -1,16 +1,17 @@
 -- The text of bytes and of records, a part at a time.
-use mathlib.Core.Path.{◌≡◌, refl, sym, ◌∙◌}
+use mathlib.Core.Path.{◌≡◌, refl, sym, ap, ◌∙◌}
 use mathlib.Core.List.{List, [], ◌∷◌, ◌++◌, append_assoc, append-nil}
 use Prim.Native.Nat.{ℕ, zero, suc, ◌+◌, ◌-◌, ◌*◌, ◌/◌, ◌%◌, ◌<◌, ◌≤◌}
-use native.Mathlib.Numerals.{add-one}
 use native.Mathlib.Omega.{arith}
-use lib.ListN.{length, get_or, take, drop, length-append, length-take, length-drop, drop_of_length-le}
-use lib.Seq.{drop-cons, sets-eq}
-use Rattle.std.proofs.lemmas.List.{take_more}
+use lib.ListN.{length, get_or, take, drop, length-append, length-take, length-drop}
+use lib.Seq.{drop-drop}
+use Rattle.std.proofs.lemmas.List.{take_more, take-append-drop}
+use Rattle.std.proofs.lemmas.Slice.{take-put_mid, drop-put_mid}
+use borrow.Rule.Slice.PartMut.{put_mid}
 use Rattle.text.specs.Digits.{hex}
 use Rattle.text.proofs.digits.Numbers.{digits_length}
 use Rattle.hex_reader.specs.Record.{total}
-use Rattle.hex_writer.specs.Writer.{hex_bytes, chksum, record_text, data_fields, end_fields, sixteen_at, records_from, records_of, text_of, text_size}
+use Rattle.hex_writer.specs.Writer.{hex_bytes, chksum, record_text, data_fields, sixteen_at, records_from, records_of}
 
 pub hex_append : (a b : List ℕ) → hex_bytes (a ++ b) ≡ hex_bytes a ++ hex_bytes b
 hex_append [] b = refl
@@ -37,7 +38,7 @@ hex_more bytes i h =
 -- the parts of a record
 pub record_parts : (head bytes : List ℕ) (sum : ℕ) → sum ≡ total (head ++ bytes) % 256 → (((((58 ∷ []) ++ hex_bytes head) ++ hex_bytes bytes) ++ hex 2 ((256 - sum) % 256)) ++ 10 ∷ []) ≡ record_text (head ++ bytes)
 unfolding record_text
-record_parts head bytes sum e = rw (e, hex_append head bytes) (simp append_assoc)
+record_parts head bytes sum e = rw (e, hex_append head bytes)
 
 pub record_length : (fields : List ℕ) → length (record_text fields) ≡ 4 + 2 * length fields
 unfolding record_text
@@ -55,7 +56,7 @@ pub records_more : (image : List ℕ) (k : ℕ) → records_from image 0 (k + 1)
 records_more image k = let e : k + 1 ≡ suc k = omega arith in let z : 0 + k ≡ k = omega arith in rw (e, records_then image 0 k, z)
 
 -- a record of sixteen bytes as the code makes it
-sixteen_length : (image : List ℕ) (k : ℕ) → k < records_of (length image) → length (sixteen_at image k) ≡ 16
+pub sixteen_length : (image : List ℕ) (k : ℕ) → k < records_of (length image) → length (sixteen_at image k) ≡ 16
 sixteen_length image k h = omega (arith, length-take 16 (drop (16 * k) image), length-drop (16 * k) image)
 
 pub part_length : (image : List ℕ) (k : ℕ) → k < records_of (length image) → length (take (16 * k + 16 - 16 * k) (drop (16 * k) image)) ≡ 16
@@ -65,3 +66,16 @@ pub record_of : (image : List ℕ) (k : ℕ) → k < records_of (length image) �
 record_of image k h =
     let n : 16 * k + 16 - 16 * k ≡ 16 = omega arith in
     rw (n, sixteen_length image k h)
+
+-- a text stored behind what is written, and what lies behind it
+module _ (out old line done : List ℕ) (i k n : ℕ) (e : n ≡ i + length line) (z : k ≡ length line) (w : i ≤ length out) (t : take i out ≡ done) (d : drop i out ≡ drop i old) where
+  pub stored_front : take n (put_mid i k out line) ≡ done ++ line
+  stored_front = take-put_mid i k out line n e w ∙ ap (λ (l : List ℕ). l ++ line) t
+
+  pub stored_rest : drop n (put_mid i k out line) ≡ drop n old
+  stored_rest =
+      drop-put_mid i k out line n (omega arith) w (sym z)
+      ∙ rw (e, ← drop-drop (length line) i out, ← drop-drop (length line) i old, d)
+
+  pub stored_all : put_mid i k out line ≡ (done ++ line) ++ drop n old
+  stored_all = sym (take-append-drop n (put_mid i k out line)) ∙ rw (stored_front, stored_rest)

@@ -52,7 +52,8 @@ fn sum_of(bytes: &[u8], before: u32) -> u32
 
 fn put_bytes(line: &mut Text<LINE>, bytes: &[u8])
     requires { length line.old + 2 * length bytes.now ≤ 44 }
-    ensures { line.new ≡ line.old ++ hex_bytes bytes.now }
+    ensures text { line.new ≡ line.old ++ hex_bytes bytes.now }
+    ensures size { length line.new ≡ length line.old + 2 * length bytes.now }
 {
     for byte in bytes {
         line.number(16, 2, u32::from(*byte));

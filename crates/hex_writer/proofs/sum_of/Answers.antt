@@ -1,6 +1,4 @@
 -- `hex_writer::sum_of` meets its contract: the bytes so far are added.
-use lib.ListN.{length}
-use lib.Seq.{take_all}
 use Rattle.hex_writer.proofs.Texts.{total_more}
 use native.Mathlib.Omega.{arith}
 use Rattle.hex_writer.proofs.sum_of.Goals as goal
