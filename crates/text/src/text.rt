@@ -1,5 +1,5 @@
 // Characters, at most N of them, to which more are added at the end: numbers, words and blanks.
-ghost use Rattle.std.specs.Prelude.{◌≡◌, [], ◌∷◌, ◌++◌, ◌+◌, ◌<◌, ◌≤◌, length};
+ghost use Rattle.std.specs.Prelude.{◌≡◌, [], ◌∷◌, ◌++◌, ◌+◌, ◌-◌, ◌<◌, ◌≤◌, length};
 ghost use Rattle.text.specs.Digits.{in_base, places_of};
 ghost use Rattle.text.specs.Digits.{digit as digit_of, decimal as decimalOf, blanks as blanksOf};
 
@@ -103,6 +103,15 @@ impl<const N: usize> Text<N> {
         let room = &mut self.chars[..];
         room[self.len..end].fill(b' ');
         self.len = end;
+    }
+
+    // Blanks up to a length.
+    pub fn fill_to(&mut self, len: usize)
+        requires { (length self.old ≤ len) × (len ≤ N) }
+        ensures text { self.new ≡ self.old ++ blanksOf (len - length self.old) }
+        ensures size { length self.new ≡ len }
+    {
+        self.blanks(len - self.len);
     }
 
     // The last places digits of v.
