@@ -33,7 +33,7 @@ pub(crate) fn digit(d: u32) -> u8
 
 // How many decimal digits v has.
 pub fn places(v: u32) -> u32
-    requires { v < 100000 }
+    requires { v < 1000000 }
     ensures { result ≡ places_of v }
 {
     match v {
@@ -41,7 +41,8 @@ pub fn places(v: u32) -> u32
         10..=99 => 2,
         100..=999 => 3,
         1000..=9999 => 4,
-        _ => 5,
+        10000..=99999 => 5,
+        _ => 6,
     }
 }
 
@@ -127,7 +128,7 @@ impl<const N: usize> Text<N> {
     }
 
     pub fn decimal(&mut self, v: u32)
-        requires { (v < 100000) × (length self.old + places_of v ≤ N) }
+        requires { (v < 1000000) × (length self.old + places_of v ≤ N) }
         ensures text { self.new ≡ self.old ++ decimalOf v }
         ensures size { length self.new ≡ length self.old + places_of v }
     {

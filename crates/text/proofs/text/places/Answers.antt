@@ -16,5 +16,8 @@ returns-in-100-to-999 c = sym (places_in 1 _ (search rules) (search rules))
 pub returns-in-1000-to-9999 : goal.returns-in-1000-to-9999
 returns-in-1000-to-9999 c = sym (places_in 2 _ (search rules) (search rules))
 
+pub returns-in-10000-to-99999 : goal.returns-in-10000-to-99999
+returns-in-10000-to-99999 c = sym (places_in 3 _ (search rules) (search rules))
+
 pub returns-in_default : goal.returns-in_default
-returns-in_default c = sym (places_in 3 _ (search rules) (search rules))
+returns-in_default c = sym (places_in 4 _ (search rules) (search rules))
