@@ -7,13 +7,13 @@ use native.Mathlib.Decide.{ℕ_discrete}
 use borrow.Author.Tests.{ne_eqb}
 use lib.Dec.{eqb}
 use lib.ListN.{length}
+use Rattle.std.specs.Prelude.{Option, Some, None}
 use Rattle.laws.specs.Choice.{pick}
 use Rattle.laws.proofs.Computed.{true→T}
 use Rattle.device.specs.Device.{image_size, rom_of}
 use Rattle.device.specs.declared.Device.{Device}
 use Rattle.device.specs.declared.Options.{Options}
 use Rattle.frame.specs.Frame.{frame_of}
-use Rattle.std.specs.Prelude.{Option, Some, None}
 use Rattle.frame.specs.declared.Pins.{Pins}
 use Rattle.record.specs.declared.Machine.{Machine}
 use Rattle.record.specs.Start.{fresh_machine}

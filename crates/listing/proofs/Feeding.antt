@@ -46,11 +46,11 @@ module _ {d : Device} {rom : ℕ → ℕ → ℕ} {m : Machine} {part before : L
     lines : (rest : List ℕ) → lines_of (drop used part ++ rest) ≡ take (end - used) (drop used part) ∷ lines_of (drop (end + 1) part ++ rest)
     lines rest = lines_first (drop used part) rest (omega (arith, length-drop used part)) ∙ rw (← size, left)
 
+    wrote_line : after ≡ before ++ (f.text ++ (answer_of d rom now (take (end - used) (drop used part))).text)
+    wrote_line = t.wrote ∙ rw f.wrote (append_assoc before f.text (answer_of d rom now (take (end - used) (drop used part))).text)
+
     told_line : (rest : List ℕ) → told_over d rom m (lines_of (part ++ rest)) ≡ (f.text ++ (answer_of d rom now (take (end - used) (drop used part))).text) ++ pick r.ended [] (told_over d rom (assembled r.core ram) (lines_of (drop (end + 1) part ++ rest)))
     told_line rest = f.told rest ∙ rw (append_assoc, lines rest, t.ended, t.machine)
-
-    wrote_line : after ≡ before ++ (f.text ++ (answer_of d rom now (take (end - used) (drop used part))).text)
-    wrote_line = t.text ∙ rw (f.wrote, append_assoc)
 
     pub feeding-next : r.ended ≡ false → Feeding d rom m part before after (assembled r.core ram) (end + 1)
     feeding-next z =

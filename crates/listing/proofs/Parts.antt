@@ -6,11 +6,11 @@ use Prim.Native.Nat.{ℕ, ◌<◌}
 use native.Mathlib.Omega.{arith}
 use borrow.Author.Tests.{eq-eqb, ne_eqb}
 use lib.ListN.{length, drop}
+use Rattle.std.specs.Prelude.{None}
 use Rattle.laws.specs.Choice.{pick}
 use Rattle.device.specs.Device.{image_size, frame_size, digits_of, rom_of}
 use Rattle.device.specs.declared.Device.{Device}
 use Rattle.frame.specs.Frame.{frame_of}
-use Rattle.std.specs.Prelude.{None}
 use Rattle.frame.proofs.Characters.{no_frame, not_seen}
 use Rattle.record.specs.Start.{fresh_machine}
 use Rattle.record.specs.declared.Machine.{Machine}

@@ -6,8 +6,9 @@ use Prim.Native.Nat.{ℕ, ◌+◌, ◌<◌, ◌≤◌}
 use native.Mathlib.Omega.{arith}
 use lib.Dec.{eqb}
 use lib.ListN.{length}
-use Rattle.std.specs.Prelude.{Option, Some, None}
+use Rattle.std.specs.Prelude.{Option, Some, None, is_some}
 use Rattle.numbers.specs.declared.Stop.{Stop}
+use Rattle.numbers.specs.declared.Stop.TheVariants.{UnassignedCode, AbsentRamAddress, StackLevel, AbsentPort, ReservedValue, PastEnd}
 use Rattle.device.specs.declared.Device.{Device}
 use Rattle.frame.specs.Frame.{frame_of, PinsInRange}
 use Rattle.frame.specs.declared.Pins.{Pins}
@@ -26,28 +27,32 @@ use Rattle.listing.specs.Listing.{Answer, options, answer_of}
 use Rattle.listing.specs.Tells.{Tells}
 use Rattle.listing.specs.declared.Told.{Told}
 
+-- no stop has the number 0
+stops : (stop : Option Stop) → is_some stop ≡ not (eqb (stop_or_0 stop) 0)
+stops None = refl
+stops (Some UnassignedCode) = refl
+stops (Some AbsentRamAddress) = refl
+stops (Some StackLevel) = refl
+stops (Some AbsentPort) = refl
+stops (Some ReservedValue) = refl
+stops (Some PastEnd) = refl
+
 module _ (d : Device) (rom : ℕ → ℕ → ℕ) (m : Core) (ram line : List ℕ) (valid : Valid d (assembled m ram)) {before after : List ℕ} where
   pub bad-line : frame_of d line ≡ None → after ≡ before ++ refused_line 3 → length after ≡ length before + 11 → Tells d (answer_of d rom (assembled m ram) line) before after ram (record { core = m; ended = true })
   unfolding answer_of
-  bad-line e w h = rw e (record { text = w; short = omega arith; machine = refl; ended = refl; valid = valid })
+  bad-line e w h = rw e (record { wrote = w; short = omega arith; machine = refl; ended = refl; valid = valid })
 
-  pub step-told : {pins : Pins} {k : List ℕ} {x : Advanced} {t : Bool} → frame_of d line ≡ Some pins → PinsInRange d pins → ((p3 at : ℕ) → rom p3 at < 256) → Advances (step_of rom (options d) (assembled m ram) pins) k x
-      → t ≡ not (eqb (stop_or_0 x.stop) 0) → after ≡ before ++ step_line x.core x.cycles (stop_or_0 x.stop) → length after ≤ length before + 26 → Tells d (answer_of d rom (assembled m ram) line) before after k (record { core = x.core; ended = t })
+  pub step-told : {pins : Pins} {k : List ℕ} {x : Advanced} {ended : Bool} → frame_of d line ≡ Some pins → PinsInRange d pins → ((p3 at : ℕ) → rom p3 at < 256) → Advances (step_of rom (options d) (assembled m ram) pins) k x → after ≡ before ++ step_line x.core x.cycles (stop_or_0 x.stop) → length after ≤ length before + 26 → ended ≡ is_some x.stop → Tells d (answer_of d rom (assembled m ram) line) before after k (record { core = x.core; ended = ended })
   unfolding answer_of
-  step-told {pins = pins} e p bytes g s w h =
+  step-told {pins = pins} {x = x} e p bytes g w h t =
       rw e
       (record {
-        text = rw (← g.same) w;
+        wrote = rw (← g.same) w;
         short = h;
         machine = ap (λ (x : Done). x.machine) g.same;
-        ended = s ∙ ap (λ (x : Done). not (eqb x.stop 0)) g.same;
+        ended = t ∙ stops x.stop ∙ ap (λ (x : Done). not (eqb x.stop 0)) g.same;
         valid = step-valid rom (options d) (assembled m ram) pins valid p bytes;
       })
-
--- there is a stop exactly where its number is not 0
-pub stops_by : (stop : Option Stop) → IsSomeOf stop ≡ not (eqb (stop_or_0 stop) 0)
-stops_by None = refl
-stops_by (Some s) = ?
 
 told_by : {c d : Core} {s t : Bool} → c ≡ d → s ≡ t → ◌≡◌ {A = Told} (record { core = c; ended = s }) (record { core = d; ended = t })
 told_by c s = rw (c, s)
@@ -56,7 +61,7 @@ told_by c s = rw (c, s)
 pub tells_one : {d : Device} {a : Answer} {before after other : List ℕ} {k l : List ℕ} {r q : Told} → Tells d a before after k r → Tells d a before other l q → (after ≡ other) × (k ≡ l) × (r ≡ q)
 tells_one {r = r} {q = q} t u =
     let same = t.machine ∙ sym u.machine in (
-      t.text ∙ sym u.text,
+      t.wrote ∙ sym u.wrote,
       ap (λ (m : Machine). m.ram) same,
       told_by (ap (λ (m : Machine). m.core) same) (t.ended ∙ sym u.ended),
     )

@@ -1,5 +1,5 @@
 -- Request Q-4: "The runner and the run use both calls; where no step stops their answers are those of before." Document 01's own listing, over its own step (step/specs/Before.antt).
-use Rattle.std.specs.Prelude.{ℕ, List, [], ◌∷◌, ◌++◌, ◌≡◌, eqb, length, Option, Some, None}
+use Rattle.std.specs.Prelude.{ℕ, Option, Some, None, List, [], ◌∷◌, ◌++◌, ◌≡◌, eqb, length}
 use Rattle.laws.specs.Choice.{pick}
 use Rattle.numbers.specs.ComesBack.{image_of_another_size}
 use Rattle.device.specs.Device.{image_size, rom_of}

@@ -1,5 +1,5 @@
 -- Document 01, the runner's listing: what it prints for an image and a script.
-use Rattle.std.specs.Prelude.{ℕ, Bool, true, false, not, List, [], ◌∷◌, ◌++◌, eqb, length, Option, Some, None}
+use Rattle.std.specs.Prelude.{ℕ, Bool, true, false, not, Option, Some, None, List, [], ◌∷◌, ◌++◌, eqb, length}
 use Rattle.laws.specs.Choice.{pick}
 use Rattle.numbers.specs.ComesBack.{image_of_another_size, no_frame}
 use Rattle.device.specs.Device.{image_size, rom_of}

@@ -12,7 +12,7 @@ use Rattle.listing.specs.declared.Fed.{Fed}
 
 -- the text before and after, and RAM after; a line has at most 26 characters
 pub record Tells (d : Device) (a : Answer) (before after ram : List ℕ) (r : Told) : Type 0 where
-  pub text : after ≡ before ++ a.text
+  pub wrote : after ≡ before ++ a.text
   pub short : length after ≤ length before + 26
   pub machine : assembled r.core ram ≡ a.machine
   pub ended : r.ended ≡ a.ends

@@ -35,11 +35,11 @@ pub struct Fed {
 
 // A line of the script, without its LF: its step on the RAM that is lent, or a refusal, and its text.
 pub fn tell<const N: usize>(
-    out: &mut Text<N>,
     image: Image,
     m: Core,
     ram: &mut Ram,
     text: &[u8],
+    out: &mut Text<N>,
 ) -> Told
     requires { (ValidCore image.device m) × (Nibbles ram.old) × (length out.old + 26 ≤ N) }
     ensures { Tells image.entry.device (answer_of image.entry.device (rom_of image.entry.bytes.now) (record { core = m; ram = ram.old }) text.now) out.old out.new ram.new result }
@@ -57,7 +57,7 @@ pub fn tell<const N: usize>(
         sound: false,
     };
     let x = advance(image.bytes, options, m, ram, pins);
-    line::line(out, x.core, x.cycles, x.stop);
+    crate::line::line(out, x.core, x.cycles, x.stop);
     Told {
         core: x.core,
         ended: x.stop.is_some(),
@@ -66,11 +66,11 @@ pub fn tell<const N: usize>(
 
 // The whole lines of a part of the script, up to the last of the listing, or as many as there is room for.
 pub fn feed<const N: usize>(
-    out: &mut Text<N>,
     image: Image,
     m: Core,
     ram: &mut Ram,
     part: &[u8],
+    out: &mut Text<N>,
 ) -> Fed
     requires { (ValidCore image.device m) × (Nibbles ram.old) }
     ensures { Feeds image.entry.device (rom_of image.entry.bytes.now) (record { core = m; ram = ram.old }) part.now out.old out.new N ram.new result }
@@ -80,13 +80,9 @@ pub fn feed<const N: usize>(
     while N - out.len() >= 26 {
         let end = line_end(part, used);
         if end == part.len() {
-            return Fed {
-                core,
-                ended: false,
-                used,
-            };
+            break;
         }
-        let told = tell(out, image, core, ram, &part[used..end]);
+        let told = tell(image, core, ram, &part[used..end], out);
         core = told.core;
         used = end + 1;
         if told.ended {

@@ -1,13 +1,14 @@
 // The lines of the runner's listing.
 ghost use Rattle.std.specs.Prelude.{◌≡◌, ◌++◌, ◌+◌, ◌<◌, ◌≤◌, length};
 ghost use Rattle.step.specs.Advance.{stop_or_0};
-ghost use Rattle.text.specs.Digits.{hex};
+ghost use Rattle.text.specs.Digits.{in_base};
 ghost use Rattle.listing.specs.Lines.{flags_text, registers_text, end_text, step_line};
 ghost use Rattle.listing.specs.Lines.{column as columnOf, header as headerText};
 
 use numbers::Stop;
 use record::{Core, Registers};
 use text::Text;
+use text::text::places;
 
 // Of 19 characters.
 pub fn header<const N: usize>(out: &mut Text<N>)
@@ -18,18 +19,18 @@ pub fn header<const N: usize>(out: &mut Text<N>)
     out.put_text(b"PC A H L S CZS C X\n");
 }
 
-// The last places hexadecimal digits of v, and a blank.
-fn column<const N: usize>(out: &mut Text<N>, places: u32, v: u32)
-    requires { length out.old + places < N }
-    ensures text { out.new ≡ out.old ++ columnOf (hex places v) }
+// The last places digits of v to a base, and a blank.
+fn column<const N: usize>(out: &mut Text<N>, base: u32, places: u32, v: u32)
+    requires { (0 < base) × (base ≤ 16) × (length out.old + places < N) }
+    ensures text { out.new ≡ out.old ++ columnOf (in_base base places v) }
     ensures size { length out.new ≡ length out.old + places + 1 }
 {
-    out.number(16, places, v);
+    out.number(base, places, v);
     out.put(b' ');
 }
 
 fn flags<const N: usize>(out: &mut Text<N>, r: Registers)
-    requires { length out.old + 3 < N }
+    requires { length out.old + 4 ≤ N }
     ensures text { out.new ≡ out.old ++ columnOf (flags_text r) }
     ensures size { length out.new ≡ length out.old + 4 }
 {
@@ -44,25 +45,22 @@ fn registers<const N: usize>(out: &mut Text<N>, pc: u16, r: Registers, sp: u8)
     ensures text { out.new ≡ out.old ++ registers_text pc r sp }
     ensures size { length out.new ≡ length out.old + 13 }
 {
-    column(out, 4, u32::from(pc));
-    column(out, 1, u32::from(r.acc));
-    column(out, 1, u32::from(r.hr));
-    column(out, 1, u32::from(r.lr));
-    column(out, 1, u32::from(sp));
+    column(out, 16, 4, u32::from(pc));
+    column(out, 16, 1, u32::from(r.acc));
+    column(out, 16, 1, u32::from(r.hr));
+    column(out, 16, 1, u32::from(r.lr));
+    column(out, 16, 1, u32::from(sp));
 }
 
+// The cycles of a step and its stop, 00 where it does not stop.
 fn spent<const N: usize>(out: &mut Text<N>, cycles: u16, stop: Option<Stop>)
     requires { length out.old + 9 ≤ N }
     ensures text { out.new ≡ out.old ++ end_text cycles (stop_or_0 stop) }
     ensures upper_bound { length out.new ≤ length out.old + 9 }
 {
-    let number = match stop {
-        Some(stop) => u8::from(stop),
-        None => 0,
-    };
-    out.decimal(u64::from(cycles));
-    out.put(b' ');
-    out.number(10, 2, u32::from(number));
+    let cycles = u32::from(cycles);
+    column(out, 10, places(cycles), cycles);
+    out.number(10, 2, u32::from(stop.map_or(0, u8::from)));
     out.put(b'\n');
 }
 
