@@ -1,5 +1,6 @@
 -- From what is found from an address to what the call answers.
 use mathlib.Core.Path.{◌≡◌, refl}
+use Rattle.std.specs.Prelude.{Result, Ok, Err}
 use mathlib.Core.List.{List}
 use Prim.Native.Nat.{ℕ, ◌≤◌, ◌<◌}
 use lib.ListN.{length}
@@ -12,30 +13,31 @@ use Rattle.routines_joined.specs.Words.{flow_at}
 use Rattle.routines_joined.specs.Refused.{address_in}
 use Rattle.routines_sums.specs.Ways.{costs_in}
 use Rattle.routines_bound.specs.Handler.{found_of, HandlerWords}
-use Rattle.routines_bound.specs.declared.Found.{Found}
+use Rattle.routines_bound.specs.declared.Greatest.{Greatest}
+use Rattle.routines_bound.specs.declared.Unbounded.{Unbounded}
 use Rattle.bound_flow.specs.Flow.{address_of}
 use Rattle.bound_calls.specs.CallFlow.{call_flow, call_cycles}
 use Rattle.bound_calls.specs.CallAnswer.{paper_of_found, CallAnswer, by_flow}
 use Rattle.bound_numbered.specs.Found.{ImageNumbered}
 use Rattle.bound_numbered.proofs.Flow.{laid, pays, first-is, widens, calls, known_after, region, answer-of-image}
-use Rattle.bound.specs.Answer.{paper_of, bounded_of}
+use Rattle.bound.specs.Answer.{paper_of, answer_of}
 
 -- the buffers are as they were
 pub kept : (path deep : List ℕ) → Kept path path deep deep
 kept path deep = record { first = refl; second = refl }
 
-same_paper : (x : Found) → paper_of (bounded_of x) ≡ paper_of_found (found_of x)
-same_paper (Found.Recursion e) = refl
-same_paper (Found.Excluded a) = refl
-same_paper (Found.Repeats a) = refl
-same_paper Found.TooLarge = refl
-same_paper (Found.Short n) = refl
-same_paper (Found.Bounds g) = refl
+same_paper : (x : Result Greatest Unbounded) → paper_of (answer_of x) ≡ paper_of_found (found_of x)
+same_paper (Ok g) = refl
+same_paper (Err (Unbounded.Recursion e)) = refl
+same_paper (Err (Unbounded.Excluded a)) = refl
+same_paper (Err (Unbounded.Repeats a)) = refl
+same_paper (Err Unbounded.TooLarge) = refl
+same_paper (Err (Unbounded.Short n)) = refl
 
-pub answers : (d : Device) (image : List ℕ) (p3 start : ℕ) (path path' deep deep' : List ℕ) (x : Found)
+pub answers : (d : Device) (image : List ℕ) (p3 start : ℕ) (path path' deep deep' : List ℕ) (x : Result Greatest Unbounded)
     → length image ≡ image_size d → Banked d p3 → start ≤ last_address
     → Answer (call_flow d (rom_of image p3) start) (call_cycles d (rom_of image p3)) address_of path path' deep deep' (found_of x)
-    → CallAnswer d image p3 start path path' deep deep' (paper_of (bounded_of x))
+    → CallAnswer d image p3 start path path' deep deep' (paper_of (answer_of x))
 answers d image p3 start path path' deep deep' x size banked inside a = rw (same_paper x) (by_flow size banked inside a)
 
 -- what is numbered of the image is the flow of a handler, and what is answered of it is answered of the image

@@ -1,6 +1,7 @@
 -- How large what the call answers can be: an address of the image, an entry, the bytes of a path of at most 65,535 places, N, and a depth of at most 2,048 calls.
 use mathlib.Core.Path.{◌≡◌, refl}
 use mathlib.Core.Bool.{Bool}
+use Rattle.std.specs.Prelude.{Result, Ok}
 use mathlib.Core.List.{List}
 use Prim.Native.Nat.{ℕ, ◌<◌, ◌≤◌}
 use native.Mathlib.Omega.{arith}
@@ -20,7 +21,7 @@ use Rattle.bound_calls.specs.CallFlow.{call_flow, call_cycles}
 use Rattle.bound_calls.specs.CallAnswer.{paper_of_found, CallAnswer, gives_1, gives_2, gives_20, by_flow}
 use Rattle.bound_calls.proofs.Shape.{call-node-good, flow-small, flow_widens}
 use Rattle.bound.specs.Answer.{paper_of}
-use Rattle.bound.specs.declared.Bounded.{Bounded}
+use Rattle.bound.specs.declared.Refused.{Refused}
 use Rattle.bound.proofs.Lengths.{path-length}
 
 -- the values of an answer; N is one with the number 0
@@ -69,5 +70,5 @@ answer_few bytes (gives_20 l b s k) = record { value = omega arith; depth = omeg
 answer_few {d} bytes (by_flow l b s a) = flow-few d bytes s a
 
 -- N and the depth of an answer that has them
-pub bounds_few : {r : Bounded} {g : Greatest} → r ≡ Bounded.Bounds g → Few (paper_of r) → (g.cycles < 65536) × (g.depth < 65536)
-bounds_few {g = g} e f = let h : Few (paper_of (Bounded.Bounds g)) = rw e at f in (h.cycles refl, h.depth)
+pub bounds_few : {r : Result Greatest Refused} {g : Greatest} → r ≡ Ok g → Few (paper_of r) → (g.cycles < 65536) × (g.depth < 65536)
+bounds_few {g = g} e f = let h : Few (paper_of (Ok g)) = rw e at f in (h.cycles refl, h.depth)

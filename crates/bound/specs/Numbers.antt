@@ -1,5 +1,5 @@
 -- The bound's answer as three numbers: the paper's, and the two values that come with it.
-use Rattle.std.specs.Prelude.{◌≡◌, ℕ}
+use Rattle.std.specs.Prelude.{◌≡◌}
 use Rattle.numbers.specs.ComesBack.{Paper, value_at}
 use Rattle.bound.specs.declared.BoundNumbers.{BoundNumbers}
 
@@ -7,7 +7,3 @@ pub record OfBound (p : Paper) (n : BoundNumbers) : Type 0 where
   pub number : n.number ≡ p.number
   pub value : n.value ≡ value_at p 0
   pub depth : n.depth ≡ value_at p 1
-
--- a refusal, with what comes with it
-abbrev pub refusal_of : ℕ → ℕ → BoundNumbers
-refusal_of number value = record { number = number; value = value; depth = 0 }

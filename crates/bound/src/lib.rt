@@ -1,7 +1,7 @@
 // The handler bound: the most cycles that any path of the flow rules takes from an address to RTI, the greatest depth of its calls, and a path for each.
 #![tactic(auto)]
 
-ghost use Rattle.std.specs.Prelude.{◌≡◌, ◌+◌, ◌*◌, ◌%◌, ◌<◌, ◌≤◌, length};
+ghost use Rattle.std.specs.Prelude.{◌≡◌, ◌+◌, ◌*◌, ◌%◌, ◌<◌, ◌≤◌, length, Err};
 ghost use Rattle.device.specs.Device.{rom_of, window_end};
 ghost use Rattle.graph_search.specs.Marks.{Blank};
 ghost use Rattle.reader.specs.Answer.{p3_given};
@@ -10,32 +10,34 @@ ghost use Rattle.routines_bound.specs.Handler.{found_of};
 ghost use Rattle.bound_flow.specs.Flow.{address_of};
 ghost use Rattle.bound_calls.specs.CallFlow.{call_flow, call_cycles};
 ghost use Rattle.bound_calls.specs.CallAnswer.{CallAnswer};
-ghost use Rattle.bound.specs.Answer.{bounded_of, paper_of};
-ghost use Rattle.bound.specs.Numbers.{OfBound, refusal_of};
+ghost use Rattle.bound.specs.declared.Refused.{Refused};
+ghost use Rattle.bound.specs.Answer.{paper_of};
+ghost use Rattle.bound.specs.Numbers.{OfBound};
+ghost use Rattle.numbers.specs.ComesBack.{value_at};
+ghost use Rattle.numbers.specs.Numbered.{refusal_number};
 
 use bound_numbered::explore;
 use device::{Device, image_size, is_banked};
 use graph::PLACES;
-use numbers::{
-    ADDRESS_OVER_8191, BOUND_OVER_65535, EXCLUDED_INSTRUCTION_REACHABLE, IMAGE_OF_ANOTHER_SIZE,
-    LAST_ADDRESS, PATH_BUFFER_TOO_SHORT, RECORD_OUTSIDE_THE_RANGES, RECURSION_REACHABLE,
-    REPETITION_REACHABLE,
-};
+use numbers::{LAST_ADDRESS, Refusal};
 use reader::p3_given;
-use routines_bound::{Found, Greatest, bound_words};
+use routines_bound::{Greatest, Unbounded, bound_words};
 
-// What the call answers; specs/Answer.antt gives the paper's number and values for each.
-#[derive(Clone, Copy)]
-pub enum Bounded {
+// Why the call refuses; specs/Answer.antt gives the paper's number and values for each.
+#[derive(Clone, Copy, PartialEq, Eq)]
+pub enum Refused {
     ImageSize,
     P3Range,
     AddressRange,
-    Recursion(usize),
-    Excluded(usize),
-    Repeats(usize),
-    TooLarge,
-    Short(usize),
-    Bounds(Greatest),
+    Unbounded(Unbounded),
+}
+
+impl From<Unbounded> for Refused {
+    ghost from_gives = { λ unbounded refused. refused ≡ Refused.Unbounded unbounded };
+
+    fn from(unbounded: Unbounded) -> Refused {
+        Refused::Unbounded(unbounded)
+    }
 }
 
 // The same as found, with arrays of zeros lent to number the places in.
@@ -48,7 +50,7 @@ fn found_in(
     deep: &mut [u8],
     map: &mut [u16],
     words: &mut [u64],
-) -> Found
+) -> Result<Greatest, Unbounded>
     requires { (window_end p3 ≤ length image.now) × (address < 8192) × Blank map.old × (length map.old ≡ 16384) × Blank words.old × (length words.old ≡ 16384) }
     ensures { Answer (call_flow d (rom_of image.now p3) address) (call_cycles d (rom_of image.now p3)) address_of
         path.old path.new deep.old deep.new (found_of result) }
@@ -58,7 +60,14 @@ fn found_in(
 }
 
 // The bound from an address of the image.
-fn found(d: Device, image: &[u8], p3: u8, address: usize, path: &mut [u8], deep: &mut [u8]) -> Found
+fn found(
+    d: Device,
+    image: &[u8],
+    p3: u8,
+    address: usize,
+    path: &mut [u8],
+    deep: &mut [u8],
+) -> Result<Greatest, Unbounded>
     requires { (window_end p3 ≤ length image.now) × (address < 8192) }
     ensures { Answer (call_flow d (rom_of image.now p3) address) (call_cycles d (rom_of image.now p3)) address_of
         path.old path.new deep.old deep.new (found_of result) }
@@ -66,19 +75,6 @@ fn found(d: Device, image: &[u8], p3: u8, address: usize, path: &mut [u8], deep:
     let mut map = [0u16; PLACES];
     let mut words = [0u64; PLACES];
     found_in(d, image, p3, address, path, deep, &mut map, &mut words)
-}
-
-fn answer(found: Found) -> Bounded
-    ensures { result ≡ bounded_of found }
-{
-    match found {
-        Found::Recursion(entry) => Bounded::Recursion(entry),
-        Found::Excluded(at) => Bounded::Excluded(at),
-        Found::Repeats(at) => Bounded::Repeats(at),
-        Found::TooLarge => Bounded::TooLarge,
-        Found::Short(bytes) => Bounded::Short(bytes),
-        Found::Bounds(greatest) => Bounded::Bounds(greatest),
-    }
 }
 
 // The bound in the window of a P3 that the device has: N's path in the first buffer, depth's in the second.
@@ -89,20 +85,19 @@ fn bound_shown(
     address: u32,
     path: &mut [u8],
     deep: &mut [u8],
-) -> Bounded
+) -> Result<Greatest, Refused>
     ensures { CallAnswer d image.now p3 address path.old path.new deep.old deep.new (paper_of result) }
 {
     if image.len() != image_size(d) {
-        return Bounded::ImageSize;
+        return Err(Refused::ImageSize);
     }
     if !is_banked(d, p3) {
-        return Bounded::P3Range;
+        return Err(Refused::P3Range);
     }
     if LAST_ADDRESS < address {
-        return Bounded::AddressRange;
+        return Err(Refused::AddressRange);
     }
-    let found = found(d, image, p3 as u8, address as usize, path, deep);
-    answer(found)
+    Ok(found(d, image, p3 as u8, address as usize, path, deep)?)
 }
 
 // The public bound.
@@ -113,13 +108,44 @@ pub fn bound(
     address: u32,
     path: &mut [u8],
     deep: &mut [u8],
-) -> Bounded
+) -> Result<Greatest, Refused>
     ensures { CallAnswer d image.now (p3_given d p3) address path.old path.new deep.old deep.new (paper_of result) }
 {
     bound_shown(d, image, p3_given(d, p3), address, path, deep)
 }
 
-// The paper's number of an answer, and the values that come with it: N and the depth, or what comes with a refusal.
+// The paper's number of a refusal.
+impl From<Refused> for Refusal {
+    ghost from_gives = { λ refused refusal. refusal_number refusal ≡ (paper_of (Err refused)).number };
+
+    fn from(refused: Refused) -> Refusal {
+        match refused {
+            Refused::ImageSize => Refusal::ImageOfAnotherSize,
+            Refused::P3Range => Refusal::RecordOutsideTheRanges,
+            Refused::AddressRange => Refusal::AddressOver8191,
+            Refused::Unbounded(Unbounded::Recursion(_)) => Refusal::RecursionReachable,
+            Refused::Unbounded(Unbounded::Excluded(_)) => Refusal::ExcludedInstructionReachable,
+            Refused::Unbounded(Unbounded::Repeats(_)) => Refusal::RepetitionReachable,
+            Refused::Unbounded(Unbounded::TooLarge) => Refusal::BoundOver65535,
+            Refused::Unbounded(Unbounded::Short(_)) => Refusal::PathBufferTooShort,
+        }
+    }
+}
+
+// What comes with a refusal: an entry, an address, bytes, or 0.
+fn named_by(refused: Refused) -> usize
+    ensures { result ≡ value_at (paper_of (Err refused)) 0 }
+{
+    match refused {
+        Refused::Unbounded(Unbounded::Recursion(entry)) => entry,
+        Refused::Unbounded(Unbounded::Excluded(at)) => at,
+        Refused::Unbounded(Unbounded::Repeats(at)) => at,
+        Refused::Unbounded(Unbounded::Short(bytes)) => bytes,
+        _ => 0,
+    }
+}
+
+// The paper's number of an answer, 0 where nothing is refused, and the values that come with it: N and the depth, or what comes with a refusal.
 #[derive(Clone, Copy)]
 pub struct BoundNumbers {
     pub number: u8,
@@ -127,32 +153,21 @@ pub struct BoundNumbers {
     pub depth: usize,
 }
 
-fn refusal(number: u8, value: usize) -> BoundNumbers
-    ensures { result ≡ refusal_of number value }
-{
-    BoundNumbers {
-        number,
-        value,
-        depth: 0,
-    }
-}
+impl From<Result<Greatest, Refused>> for BoundNumbers {
+    ghost from_gives = { λ answer numbers. OfBound (paper_of answer) numbers };
 
-pub fn numbers_of(answer: Bounded) -> BoundNumbers
-    ensures { OfBound (paper_of answer) result }
-{
-    match answer {
-        Bounded::ImageSize => refusal(IMAGE_OF_ANOTHER_SIZE, 0),
-        Bounded::P3Range => refusal(RECORD_OUTSIDE_THE_RANGES, 0),
-        Bounded::AddressRange => refusal(ADDRESS_OVER_8191, 0),
-        Bounded::Recursion(entry) => refusal(RECURSION_REACHABLE, entry),
-        Bounded::Excluded(at) => refusal(EXCLUDED_INSTRUCTION_REACHABLE, at),
-        Bounded::Repeats(at) => refusal(REPETITION_REACHABLE, at),
-        Bounded::TooLarge => refusal(BOUND_OVER_65535, 0),
-        Bounded::Short(bytes) => refusal(PATH_BUFFER_TOO_SHORT, bytes),
-        Bounded::Bounds(greatest) => BoundNumbers {
-            number: 0,
-            value: greatest.cycles,
-            depth: greatest.depth,
-        },
+    fn from(answer: Result<Greatest, Refused>) -> BoundNumbers {
+        match answer {
+            Ok(greatest) => BoundNumbers {
+                number: 0,
+                value: greatest.cycles,
+                depth: greatest.depth,
+            },
+            Err(refused) => BoundNumbers {
+                number: u8::from(Refusal::from(refused)),
+                value: named_by(refused),
+                depth: 0,
+            },
+        }
     }
 }

@@ -1,6 +1,8 @@
 // What differs between the devices, as code: each function gives what the page specs/Device.antt says.
 #![tactic(auto)]
 
+pub mod image;
+
 ghost use Rattle.std.specs.Prelude.{◌≡◌, ◌<◌, get_or};
 ghost use Rattle.laws.specs.Among.{among};
 ghost use Rattle.device.specs.Device.{image_size, frame_size, limit_of, fresh_frame, also_writable, also_below, reset_of, reserved, p4_pins, ends_speech, guarded, in_image, is_banked};

@@ -1,15 +1,10 @@
 // What the program answers to --help.
-use program::help::is_told;
+use program::help::Manual;
 
-// Whether the first word asked for the help or for the version, which are then written.
-pub fn is_asked(rt: &HostRuntime) -> bool {
-    is_told(
-        rt,
-        b"lister: the rows of an image, one a line, in the sheet's notation.
-
-usage: lister [--device NAME [--p3 N]] IMAGE [ADDRESS [COUNT]]
-
-  --device NAME  EM73862 (the default) or EM73P982
+pub const MANUAL: Manual<'static> = Manual {
+    purpose: b"lister: the rows of an image, one a line, in the sheet's notation.\n",
+    usage: b"usage: lister [--device NAME [--p3 N]] IMAGE [ADDRESS [COUNT]]\n",
+    rest: b"  --device NAME  EM73862 (the default) or EM73P982
   --p3 N         P3, decimal, with --device EM73P982 (the default is 0)
   IMAGE          a file of 8,192 bytes, of the EM73P982 of 16,384
   ADDRESS        one to four hexadecimal digits (the default is 0000)
@@ -29,5 +24,4 @@ In the place of a row, and the list goes on:
 The exit status is 0 also for a refusal: a script goes by the first word of
 the answer.
 ",
-    )
-}
+};

@@ -3,195 +3,182 @@
 
 pub mod sources;
 
-ghost use Rattle.std.specs.Prelude.{◌≡◌, [], ◌∷◌, ◌++◌, ◌+◌, ◌<◌, ◌≤◌, length, get_or};
-ghost use Rattle.laws.specs.Writing.{Wrote};
+ghost use Rattle.std.specs.Prelude.{◌≡◌, [], ◌∷◌, ◌++◌, ◌+◌, ◌<◌, ◌≤◌, length};
 ghost use Rattle.text.specs.Digits.{characters, in_base};
 ghost use Rattle.text.specs.Digits.{decimal as decimalOf};
 ghost use Rattle.notation.specs.Notation.{mnemonic_of, row_text};
 ghost use Rattle.notation.specs.Notation.{sign as sign_of};
 
+use sheet::Insn;
 use sheet::flow::goes_to;
-use sheet::{Insn, rows};
-use text::digits::{decimal, number, put};
+use text::Text;
 
-// The mnemonics as the sheet prints them, in its order, eight characters a row. A dot is in none of them and fills a row up.
-const MNEMONICS: [u8; 856] = *b"\
-    LDA x...\
-    LDAM....\
-    LDAX....\
-    LDAXI...\
-    LDH #k..\
-    LDHL x..\
-    LDIA #k.\
-    LDL #k..\
-    STA x...\
-    STAM....\
-    STAMD...\
-    STAMI...\
-    STD #k,y\
-    STDMI #k\
-    THA.....\
-    TLA.....\
-    RLCA....\
-    RRCA....\
-    ADCAM...\
-    ADD #k,y\
-    ADDA #k.\
-    ADDAM...\
-    ADDH #k.\
-    ADDL #k.\
-    ADDM #k.\
-    DECA....\
-    DECL....\
-    DECM....\
-    INCA....\
-    INCL....\
-    INCM....\
-    SUBA #k.\
-    SBCAM...\
-    SUBM #k.\
-    ANDA #k.\
-    ANDAM...\
-    ANDM #k.\
-    ORA #k..\
-    ORAM....\
-    ORM #k..\
-    XORAM...\
-    EXA x...\
-    EXAH....\
-    EXAL....\
-    EXAM....\
-    EXHL x..\
-    SBR a...\
-    LBR a...\
-    SLBR a..\
-    CMP #k,y\
-    CPMA x..\
-    CMPAM...\
-    CMPH #k.\
-    CMPIA #k\
-    CMPL #k.\
-    CLM b...\
-    CLP p,b.\
-    CLPL....\
-    CLR y,b.\
-    SEM b...\
-    SEP p,b.\
-    SEPL....\
-    SET y,b.\
-    TF y,b..\
-    TFA b...\
-    TFM b...\
-    TFP p,b.\
-    TFPL....\
-    TT y,b..\
-    TTP p,b.\
-    LCALL a.\
-    SCALL a.\
-    RET.....\
-    INA p...\
-    INM p...\
-    OUT #k,p\
-    OUTA p..\
-    OUTM p..\
-    TFCFC...\
-    TTCFS...\
-    TZS.....\
-    CIL r...\
-    DICIL r.\
-    EICIL r.\
-    EXAE....\
-    RTI.....\
-    NOP.....\
-    LDADPL..\
-    LDADPM..\
-    LDADPH..\
-    LDASP...\
-    LDATAL..\
-    LDATAM..\
-    LDATAH..\
-    LDATBL..\
-    LDATBM..\
-    LDATBH..\
-    STADPL..\
-    STADPM..\
-    STADPH..\
-    STASP...\
-    STATAL..\
-    STATAM..\
-    STATAH..\
-    STATBL..\
-    STATBM..\
-    STATBH..";
+// The mnemonics as the sheet prints them, in its order, each at its row's number.
+const MNEMONICS: [&[u8]; 108] = [
+    b"",
+    b"LDA x",
+    b"LDAM",
+    b"LDAX",
+    b"LDAXI",
+    b"LDH #k",
+    b"LDHL x",
+    b"LDIA #k",
+    b"LDL #k",
+    b"STA x",
+    b"STAM",
+    b"STAMD",
+    b"STAMI",
+    b"STD #k,y",
+    b"STDMI #k",
+    b"THA",
+    b"TLA",
+    b"RLCA",
+    b"RRCA",
+    b"ADCAM",
+    b"ADD #k,y",
+    b"ADDA #k",
+    b"ADDAM",
+    b"ADDH #k",
+    b"ADDL #k",
+    b"ADDM #k",
+    b"DECA",
+    b"DECL",
+    b"DECM",
+    b"INCA",
+    b"INCL",
+    b"INCM",
+    b"SUBA #k",
+    b"SBCAM",
+    b"SUBM #k",
+    b"ANDA #k",
+    b"ANDAM",
+    b"ANDM #k",
+    b"ORA #k",
+    b"ORAM",
+    b"ORM #k",
+    b"XORAM",
+    b"EXA x",
+    b"EXAH",
+    b"EXAL",
+    b"EXAM",
+    b"EXHL x",
+    b"SBR a",
+    b"LBR a",
+    b"SLBR a",
+    b"CMP #k,y",
+    b"CPMA x",
+    b"CMPAM",
+    b"CMPH #k",
+    b"CMPIA #k",
+    b"CMPL #k",
+    b"CLM b",
+    b"CLP p,b",
+    b"CLPL",
+    b"CLR y,b",
+    b"SEM b",
+    b"SEP p,b",
+    b"SEPL",
+    b"SET y,b",
+    b"TF y,b",
+    b"TFA b",
+    b"TFM b",
+    b"TFP p,b",
+    b"TFPL",
+    b"TT y,b",
+    b"TTP p,b",
+    b"LCALL a",
+    b"SCALL a",
+    b"RET",
+    b"INA p",
+    b"INM p",
+    b"OUT #k,p",
+    b"OUTA p",
+    b"OUTM p",
+    b"TFCFC",
+    b"TTCFS",
+    b"TZS",
+    b"CIL r",
+    b"DICIL r",
+    b"EICIL r",
+    b"EXAE",
+    b"RTI",
+    b"NOP",
+    b"LDADPL",
+    b"LDADPM",
+    b"LDADPH",
+    b"LDASP",
+    b"LDATAL",
+    b"LDATAM",
+    b"LDATAH",
+    b"LDATBL",
+    b"LDATBM",
+    b"LDATBH",
+    b"STADPL",
+    b"STADPM",
+    b"STADPH",
+    b"STASP",
+    b"STATAL",
+    b"STATAM",
+    b"STATAH",
+    b"STATBL",
+    b"STATBM",
+    b"STATBH",
+];
 
-const FILL: u8 = b'.';
-
-// The character at i of a row's mnemonic; FILL past its end.
-fn letter(row: u8, i: usize) -> u8
-    requires { i < 8 }
-    ensures { result ≡ get_or (mnemonic_of row) i 46 }
+fn mnemonic(row: u8) -> &'static [u8]
+    ensures { result.now ≡ mnemonic_of row }
 {
-    if row == 0 {
-        return FILL;
+    if row <= 107 {
+        MNEMONICS[row as usize]
+    } else {
+        b""
     }
-    if 107 < row {
-        return FILL;
-    }
-    MNEMONICS[(row as usize - 1) * 8 + i]
 }
 
 // The last places digits of v, and the letter of their base.
-fn marked(out: &mut [u8], from: usize, base: u32, places: u32, v: u32, mark: u8) -> usize
-    requires { (0 < base) × (base ≤ 16) × (from + places + 1 ≤ length out.old) }
-    ensures { Wrote out.old out.new from result (in_base base places v ++ (mark ∷ [])) }
+fn marked<const N: usize>(out: &mut Text<N>, base: u32, places: u32, v: u32, mark: u8)
+    requires { (0 < base) × (base ≤ 16) × (length out.old + places + 1 ≤ N) }
+    ensures { out.new ≡ out.old ++ (in_base base places v ++ (mark ∷ [])) }
 {
-    let next = number(out, from, base, places, v);
-    put(out, next, mark)
+    out.number(base, places, v);
+    out.put(mark);
 }
 
-fn port(out: &mut [u8], from: usize, p: u32) -> usize
-    requires { (p < 256) × (from + 4 ≤ length out.old) }
-    ensures { Wrote out.old out.new from result (characters "P" ++ decimalOf p) }
+fn port<const N: usize>(out: &mut Text<N>, p: u32)
+    requires { (p < 256) × (length out.old + 4 ≤ N) }
+    ensures { out.new ≡ out.old ++ (characters "P" ++ decimalOf p) }
 {
-    let next = put(out, from, b'P');
-    decimal(out, next, p)
+    out.put(b'P');
+    out.decimal(p);
 }
 
 // A character of a mnemonic, or the operand for which it stands.
-fn sign(out: &mut [u8], from: usize, at: u16, insn: Insn, c: u8) -> usize
-    requires { from + 7 ≤ length out.old }
-    ensures { Wrote out.old out.new from result (sign_of at insn c) }
+#[tactic(auto, unfolding(crate::specs::Notation::sign))]
+fn sign<const N: usize>(out: &mut Text<N>, at: u16, insn: Insn, c: u8)
+    requires { length out.old + 7 ≤ N }
+    ensures { out.new ≡ out.old ++ sign_of at insn c }
 {
-    let a = insn.a as u32;
-    let b = insn.b as u32;
+    let a = u32::from(insn.a);
+    let b = u32::from(insn.b);
     match c {
-        b'k' => marked(out, from, 16, 1, a, b'h'),
-        b'x' => marked(out, from, 16, 2, a, b'h'),
-        b'y' => marked(out, from, 16, 1, b, b'h'),
-        b'b' => number(out, from, 10, 1, a),
-        b'p' => port(out, from, b),
-        b'r' => marked(out, from, 2, 6, a, b'B'),
-        b'a' => marked(out, from, 16, 4, goes_to(at, insn), b'h'),
-        _ => put(out, from, c),
+        b'k' => marked(out, 16, 1, a, b'h'),
+        b'x' => marked(out, 16, 2, a, b'h'),
+        b'y' => marked(out, 16, 1, b, b'h'),
+        b'b' => out.number(10, 1, a),
+        b'p' => port(out, b),
+        b'r' => marked(out, 2, 6, a, b'B'),
+        b'a' => marked(out, 16, 4, goes_to(at, insn).unwrap_or(0), b'h'),
+        _ => out.put(c),
     }
 }
 
 // A row has at most 16 characters. The room that is asked lets each of them be an operand of seven.
-pub fn row(out: &mut [u8], from: usize, at: u16, insn: Insn) -> usize
-    requires { from + 24 ≤ length out.old }
-    ensures wrote { Wrote out.old out.new from result (row_text at insn) }
-    ensures upper_bound { result ≤ from + 16 }
+pub fn row<const N: usize>(out: &mut Text<N>, at: u16, insn: Insn)
+    requires { length out.old + 24 ≤ N }
+    ensures text { out.new ≡ out.old ++ row_text at insn }
+    ensures upper_bound { length out.new ≤ length out.old + 16 }
 {
-    let row = insn.row;
-    let mut next = from;
-    let mut i = 0;
-    while i < 8 {
-        let c = letter(row, i);
-        if c == FILL {
-            return next;
-        }
-        next = sign(out, next, at, insn, c);
-        i += 1;
+    for c in mnemonic(insn.row) {
+        sign(out, at, insn, *c);
     }
-    next
 }

@@ -1,8 +1,10 @@
 -- Document 01, "Instructions": the ports, read, written, set and cleared; and what writing P16 does.
-use Rattle.std.specs.Prelude.{ℕ, ◌%◌, Bool, [], ◌∷◌, eqb}
+use Rattle.std.specs.Prelude.{ℕ, ◌%◌, Bool, Result, Ok, Err, [], ◌∷◌, eqb}
 use Rattle.laws.specs.Among.{among}
 use Rattle.laws.specs.Choice.{pick, both, either}
 use Rattle.numbers.specs.ComesBack.{absent_port, reserved_value}
+use Rattle.numbers.specs.Numbered.{stop_number}
+use Rattle.numbers.specs.declared.Stop.{Stop}
 use Rattle.bits.specs.Bits.{has_bit}
 use Rattle.device.specs.Device.{also_writable, reserved, p4_pins}
 use Rattle.device.specs.declared.Device.{Device}
@@ -11,7 +13,6 @@ use Rattle.ports.specs.declared.Ports.{Ports}
 use Rattle.ports.specs.declared.Mode.{Mode}
 use Rattle.ports.specs.declared.Mode.TheVariants.{Sleep, Hold}
 use Rattle.ports.specs.declared.PortRead.{PortRead}
-use Rattle.ports.specs.declared.PortWrite.{PortWrite}
 
 -- "Readable ports: 0, 4, 8, 9. Writable, settable and clearable: 4, 8, 9, 16, 23, 24, 25, 27 to 30. Any other use is 33." A device may have others to write, and none to read
 abbrev pub is_readable : ℕ → Bool
@@ -69,14 +70,25 @@ port_pins d sound pins p n = pick (eqb n 0) pins.p0 (pick (eqb n 4) (p4_pins d s
 abbrev pub latches_read : Ports → ℕ → Ports
 latches_read p n = pick (either (eqb n 4) (eqb n 8)) (with_latch p n 15) p
 
-abbrev pub read_as : ℕ → Ports → PortRead
-read_as v p = record { stop = 0; value = v; ports = p }
+-- a stop of document 01's table or 0, the value read, and the latches then
+pub record ReadDone : Type 0 where
+  pub stop : ℕ
+  pub value : ℕ
+  pub ports : Ports
 
-abbrev pub no_read : Ports → PortRead
-no_read p = record { stop = absent_port; value = 0; ports = p }
+abbrev pub value_read : ℕ → Ports → ReadDone
+value_read v p = record { stop = 0; value = v; ports = p }
 
-unfoldable pub read_port : Device → Bool → Pins → Ports → ℕ → PortRead
-read_port d sound pins p n = pick (is_readable n) (read_as (port_pins d sound pins p n) (latches_read p n)) (no_read p)
+abbrev pub no_read : ℕ → Ports → ReadDone
+no_read stop p = record { stop = stop; value = 0; ports = p }
+
+unfoldable pub read_port : Device → Bool → Pins → Ports → ℕ → ReadDone
+read_port d sound pins p n = pick (is_readable n) (value_read (port_pins d sound pins p n) (latches_read p n)) (no_read absent_port p)
+
+-- what reading a port of these latches gives, by the table's numbers: a stop leaves the latches
+abbrev pub read_as : Ports → Result PortRead Stop → ReadDone
+read_as p (Ok r) = value_read r.value r.ports
+read_as p (Err s) = no_read (stop_number s) p
 
 -- 33 for a port that cannot be written, 34 for a value that it may not hold
 unfoldable pub write_stop : Device → ℕ → ℕ → ℕ
@@ -96,8 +108,18 @@ p27_after p27 n v = pick (enters n v) (pick (eqb (v % 4) 3) p27 0) p27
 abbrev pub with_p27 : Ports → ℕ → Ports
 with_p27 p v = record { p3 = p.p3; p4 = p.p4; p5 = p.p5; p6 = p.p6; p8 = p.p8; p9 = p.p9; p16 = p.p16; p17 = p.p17; p23 = p.p23; p24 = p.p24; p25 = p.p25; p27 = v; p28 = p.p28; p29 = p.p29; p30 = p.p30 }
 
-unfoldable pub write_port : Device → Ports → ℕ → ℕ → PortWrite
+-- a stop of document 01's table or 0, and the latches then
+pub record WriteDone : Type 0 where
+  pub stop : ℕ
+  pub ports : Ports
+
+unfoldable pub write_port : Device → Ports → ℕ → ℕ → WriteDone
 write_port d p n v =
     pick (eqb (write_stop d n v) 0)
     (record { stop = 0; ports = with_latch (with_p27 p (p27_after p.p27 n v)) n v })
     (record { stop = write_stop d n v; ports = p })
+
+-- what writing a port of these latches gives, by the table's numbers: a stop leaves the latches
+abbrev pub written_as : Ports → Result Ports Stop → WriteDone
+written_as p (Ok q) = record { stop = 0; ports = q }
+written_as p (Err s) = record { stop = stop_number s; ports = p }

@@ -3,13 +3,12 @@
 
 ghost use Rattle.std.specs.Prelude.{◌≡◌, ◌<◌};
 ghost use Rattle.device.specs.Device.{limit_of};
-ghost use Rattle.ports.specs.Ports.{enters, latch_of, with_latch, is_writable, read_as, read_port, write_stop, p27_after, write_port, mode_after};
+ghost use Rattle.ports.specs.Ports.{enters, latch_of, with_latch, is_writable, read_port, read_as, p27_after, write_port, written_as, mode_after};
 
 use bits::has_bit;
 use device::{Device, also_writable, p4_pins, reserved};
 use frame::Pins;
-use laws::both;
-use numbers::{ABSENT_PORT, RESERVED_VALUE};
+use numbers::Stop;
 
 // The latches. P0 has none, and that of a port that the device does not have holds 0.
 #[derive(Clone, Copy)]
@@ -31,29 +30,22 @@ pub struct Ports {
     pub p30: u8,
 }
 
-#[derive(Clone, Copy)]
+#[derive(Clone, Copy, PartialEq, Eq)]
 pub enum Mode {
     Running,
     Sleep,
     Hold,
 }
 
-// A stop or 0, the value read, and the latches then.
+// The value read, and the latches then.
 #[derive(Clone, Copy)]
 pub struct PortRead {
-    pub stop: u8,
     pub value: u8,
     pub ports: Ports,
 }
 
-// A stop or 0, and the latches then.
-#[derive(Clone, Copy)]
-pub struct PortWrite {
-    pub stop: u8,
-    pub ports: Ports,
-}
-
 // What a latch holds, 0 for a port that has none.
+#[tactic(auto, unfolding(crate::specs::Ports::latch_of))]
 pub fn latch(p: Ports, n: u8) -> u8
     requires { n < 32 }
     ensures { result ≡ latch_of p n }
@@ -79,101 +71,55 @@ pub fn latch(p: Ports, n: u8) -> u8
 }
 
 // The latches with another value in one of them.
+#[tactic(auto, unfolding(crate::specs::Ports::with_latch))]
 fn with_latch(p: Ports, n: u8, v: u8) -> Ports
     requires { n < 32 }
     ensures { result ≡ with_latch p n v }
 {
-    let mut next = p;
     match n {
-        3 => {
-            next.p3 = v;
-            next
-        }
-        4 => {
-            next.p4 = v;
-            next
-        }
-        5 => {
-            next.p5 = v;
-            next
-        }
-        6 => {
-            next.p6 = v;
-            next
-        }
-        8 => {
-            next.p8 = v;
-            next
-        }
-        9 => {
-            next.p9 = v;
-            next
-        }
-        16 => {
-            next.p16 = v;
-            next
-        }
-        17 => {
-            next.p17 = v;
-            next
-        }
-        23 => {
-            next.p23 = v;
-            next
-        }
-        24 => {
-            next.p24 = v;
-            next
-        }
-        25 => {
-            next.p25 = v;
-            next
-        }
-        27 => {
-            next.p27 = v;
-            next
-        }
-        28 => {
-            next.p28 = v;
-            next
-        }
-        29 => {
-            next.p29 = v;
-            next
-        }
-        30 => {
-            next.p30 = v;
-            next
-        }
-        _ => next,
-    }
-}
-
-fn read_as(value: u8, ports: Ports) -> PortRead
-    ensures { result ≡ read_as value ports }
-{
-    PortRead {
-        stop: 0,
-        value: value,
-        ports: ports,
+        3 => Ports { p3: v, ..p },
+        4 => Ports { p4: v, ..p },
+        5 => Ports { p5: v, ..p },
+        6 => Ports { p6: v, ..p },
+        8 => Ports { p8: v, ..p },
+        9 => Ports { p9: v, ..p },
+        16 => Ports { p16: v, ..p },
+        17 => Ports { p17: v, ..p },
+        23 => Ports { p23: v, ..p },
+        24 => Ports { p24: v, ..p },
+        25 => Ports { p25: v, ..p },
+        27 => Ports { p27: v, ..p },
+        28 => Ports { p28: v, ..p },
+        29 => Ports { p29: v, ..p },
+        30 => Ports { p30: v, ..p },
+        _ => p,
     }
 }
 
 // Reading or testing a port.
-pub fn read_port(d: Device, sound: bool, pins: Pins, p: Ports, n: u8) -> PortRead
+#[tactic(auto, unfolding(crate::specs::Ports::read_port))]
+pub fn read_port(d: Device, sound: bool, pins: Pins, ports: Ports, n: u8) -> Result<PortRead, Stop>
     requires { (n < 32) × (pins.p4 < limit_of d 2) }
-    ensures { result ≡ read_port d sound pins p n }
+    ensures { read_as ports result ≡ read_port d sound pins ports n }
 {
     match n {
-        0 => read_as(pins.p0, p),
-        4 => read_as(p4_pins(d, sound, pins.p4), with_latch(p, 4, 15)),
-        8 => read_as(pins.p8, with_latch(p, 8, 15)),
-        9 => read_as(p.p9, p),
-        _ => PortRead {
-            stop: ABSENT_PORT,
-            value: 0,
-            ports: p,
-        },
+        0 => Ok(PortRead {
+            value: pins.p0,
+            ports,
+        }),
+        4 => Ok(PortRead {
+            value: p4_pins(d, sound, pins.p4),
+            ports: with_latch(ports, 4, 15),
+        }),
+        8 => Ok(PortRead {
+            value: pins.p8,
+            ports: with_latch(ports, 8, 15),
+        }),
+        9 => Ok(PortRead {
+            value: ports.p9,
+            ports,
+        }),
+        _ => Err(Stop::AbsentPort),
     }
 }
 
@@ -181,73 +127,37 @@ fn is_writable(d: Device, n: u8) -> bool
     requires { n < 32 }
     ensures { result ≡ is_writable d n }
 {
-    match n {
-        4 => true,
-        8 => true,
-        9 => true,
-        16 => true,
-        23 => true,
-        24 => true,
-        25 => true,
-        27 => true,
-        28 => true,
-        29 => true,
-        30 => true,
-        _ => also_writable(d, n),
-    }
-}
-
-fn write_stop(d: Device, n: u8, v: u8) -> u8
-    requires { n < 32 }
-    ensures { result ≡ write_stop d n v }
-{
-    if !is_writable(d, n) {
-        return ABSENT_PORT;
-    }
-    if reserved(d, n, v) {
-        return RESERVED_VALUE;
-    }
-    0
+    matches!(n, 4 | 8 | 9 | 16 | 23 | 24 | 25 | 27 | 28 | 29 | 30) || also_writable(d, n)
 }
 
 // "Writing P16 with bit 2 set enters hold .. or sleep"
 pub fn enters(n: u8, v: u8) -> bool
     ensures { result ≡ enters n v }
 {
-    both(n == 16, has_bit(v, 4))
+    n == 16 && has_bit(v, 4)
 }
 
 // What writing a port puts into P27: sleep clears it.
 fn p27_after(p27: u8, n: u8, v: u8) -> u8
     ensures { result ≡ p27_after p27 n v }
 {
-    if enters(n, v) {
-        if v % 4 == 3 {
-            return p27;
-        }
-        return 0;
-    }
-    p27
+    if enters(n, v) && v % 4 != 3 { 0 } else { p27 }
 }
 
-// Writing a port.
-pub fn write_port(d: Device, p: Ports, n: u8, v: u8) -> PortWrite
+// Writing a port: the latches then.
+#[tactic(auto, unfolding(crate::specs::Ports::write_port, crate::specs::Ports::write_stop))]
+pub fn write_port(d: Device, ports: Ports, n: u8, v: u8) -> Result<Ports, Stop>
     requires { n < 32 }
-    ensures { result ≡ write_port d p n v }
+    ensures { written_as ports result ≡ write_port d ports n v }
 {
-    let stop = write_stop(d, n, v);
-    if stop == 0 {
-        let mut awake = p;
-        awake.p27 = p27_after(p.p27, n, v);
-        return PortWrite {
-            stop: 0,
-            ports: with_latch(awake, n, v),
-        };
+    if !is_writable(d, n) {
+        return Err(Stop::AbsentPort);
     }
-    PortWrite {
-        stop: stop,
-        ports: p,
+    if reserved(d, n, v) {
+        return Err(Stop::ReservedValue);
     }
+    let p27 = p27_after(ports.p27, n, v);
+    Ok(with_latch(Ports { p27, ..ports }, n, v))
 }
 
 // The mode after writing a port: P16 with bit 2 set enters hold or sleep.
@@ -255,10 +165,8 @@ pub fn mode_after(mode: Mode, n: u8, v: u8) -> Mode
     ensures { result ≡ mode_after mode n v }
 {
     if enters(n, v) {
-        if v % 4 == 3 {
-            return Mode::Hold;
-        }
-        return Mode::Sleep;
+        if v % 4 == 3 { Mode::Hold } else { Mode::Sleep }
+    } else {
+        mode
     }
-    mode
 }

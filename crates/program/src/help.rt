@@ -3,50 +3,65 @@ ghost use Rattle.std.specs.Prelude.{◌≡◌};
 ghost use Rattle.program.specs.Help.{asked_by};
 
 use crate::arguments::arg;
-use crate::streams::{ending_of, say, show};
-use check::same;
+use crate::streams::{Failure, say, show};
+use crate::words::is;
 
+// What a program is for, its usage line, and all else that its help says.
 #[derive(Clone, Copy)]
-pub enum Asked {
+pub struct Manual<'a> {
+    pub purpose: &'a [u8],
+    pub usage: &'a [u8],
+    pub rest: &'a [u8],
+}
+
+#[derive(Clone, Copy, PartialEq, Eq)]
+enum Asked {
     Nothing,
     Help,
     Version,
 }
 
+#[tactic(auto, unfolding(crate::specs::Help::asked_by))]
 fn asked_by(word: &[u8]) -> Asked
     ensures { result ≡ asked_by word.now }
 {
-    if same(word, b"--help") {
-        return Asked::Help;
+    if is(word, b"--help") || is(word, b"-h") {
+        Asked::Help
+    } else if is(word, b"--version") {
+        Asked::Version
+    } else {
+        Asked::Nothing
     }
-    if same(word, b"-h") {
-        return Asked::Help;
-    }
-    if same(word, b"--version") {
-        return Asked::Version;
-    }
-    Asked::Nothing
+}
+
+fn show_manual(manual: &Manual) -> Result<(), Failure> {
+    show(manual.purpose)?;
+    show(b"\n")?;
+    show(manual.usage)?;
+    show(b"\n")?;
+    show(manual.rest)
 }
 
 // Ours, and the kit that proved and compiled it, as `rt version` prints it.
-pub fn show_version() -> bool {
+pub fn show_version() -> Result<(), Failure> {
     show(b"Bakethrush 1.0\nrattle-kit-13f logic dac8208d650f15bf\n")
 }
 
-// Whether the first word asked for one of the two, which is then written: the program has nothing more to do.
-pub fn is_told(rt: &HostRuntime, help: &[u8]) -> bool {
+// Runs a program, unless its first word asks for the help or the version, which are then written.
+pub fn answer<F: FnOnce(&HostRuntime) -> Result<(), Failure>>(
+    rt: &HostRuntime,
+    manual: &Manual,
+    run: F,
+)
+    requires { F.IsAlwaysCallable run }
+{
     let mut word = io::buffer();
-    let n = arg(rt, 1, &mut word);
-    let asked = asked_by(&word[..n]);
-    match asked {
-        Asked::Help => {
-            say(ending_of(false, show(help)));
-            true
-        }
-        Asked::Version => {
-            say(ending_of(false, show_version()));
-            true
-        }
-        Asked::Nothing => false,
+    let ending = match asked_by(arg(rt, 1, &mut word)) {
+        Asked::Help => show_manual(manual),
+        Asked::Version => show_version(),
+        Asked::Nothing => run(rt),
+    };
+    if let Err(failure) = ending {
+        say(manual.usage, failure);
     }
 }

@@ -1,57 +1,80 @@
-// A buffer that holds a part of a file: what is kept of it goes to its front, and more is read behind it.
-ghost use Rattle.std.specs.Prelude.{◌+◌, ◌≤◌, length};
-ghost use Rattle.io.specs.Counts.{IsPrefixLen};
+// A buffer that holds a part of a file: what is not used of it yet goes to its front, and more is read behind it.
+ghost use Rattle.std.specs.Prelude.{◌≡◌, ◌+◌, ◌≤◌, length, Err, IfOk};
+ghost use Rattle.program.specs.declared.streams.Failure.TheVariants.{CannotRead};
 
-use crate::streams::{Got, got_of};
+use crate::streams::{Failure, got_of};
 use std::io::Read;
 
-// The characters from a place on, moved to the front.
-pub fn to_front(part: &mut [u8], from: usize, count: usize)
-    requires { from + count ≤ length part.old }
+// What a read into a buffer gave. Where there is no room it counts as a read that failed, since it says nothing of the end.
+pub fn read_into<R: Read>(file: &mut R, buffer: &mut [u8]) -> Result<usize, Failure>
+    ensures within { IfOk result (λ n. n ≤ length buffer.new) }
+    ensures no_room { length buffer.old ≡ 0 → result ≡ Err CannotRead }
 {
-    let mut i = 0;
-    while i < count {
-        part[i] = part[from + i];
-        i += 1;
+    if buffer.is_empty() {
+        return Err(Failure::CannotRead);
     }
+    got_of(file.read(buffer))
 }
 
-// What a read behind the characters that are kept gave. Where there is no room for one more it counts as a read that failed, since it says nothing of the end.
-pub fn read_behind<R: Read>(file: &mut R, part: &mut [u8], kept: usize) -> Got
-    requires { kept ≤ length part.old }
-    ensures { kept + result.count ≤ length part.old }
-{
-    if kept == part.len() {
-        return Got {
-            failed: true,
-            count: 0,
-        };
-    }
-    let behind = &mut part[kept..];
-    match file.read(behind) {
-        Ok(count) => got_of(count as isize, behind),
-        Err(_) => got_of(-1, behind),
-    }
-}
-
-// Reads until the buffer is full, the file ends or a read fails, and how many bytes then stand in the buffer.
-pub fn fill<R: Read>(file: &mut R, buffer: &mut [u8]) -> Got
-    ensures { IsPrefixLen result.count buffer.new }
+// Reads until the buffer is full or the file ends, and how many bytes then stand in the buffer.
+pub fn fill<R: Read>(file: &mut R, buffer: &mut [u8]) -> Result<usize, Failure>
+    ensures { IfOk result (λ n. n ≤ length buffer.new) }
 {
     let mut done = 0;
     while done < buffer.len() {
-        let got = read_behind(file, buffer, done);
-        let count = got.count;
+        let count = read_into(file, &mut buffer[done..])?;
         if count == 0 {
-            return Got {
-                failed: got.failed,
-                count: done,
-            };
+            break;
         }
         done += count;
     }
-    Got {
-        failed: false,
-        count: done,
+    Ok(done)
+}
+
+// The buffer, and from where to where of it is not used yet.
+#[derive(Drop)]
+pub struct Part {
+    pub buffer: [u8; 65536],
+    pub from: usize,
+    pub to: usize,
+    ghost in_order: { from ≤ to },
+    ghost within: { to ≤ 65536 },
+}
+
+impl Part {
+    pub fn new() -> Part
+        ensures { (result.from ≡ 0) × (result.to ≡ 0) }
+    {
+        Part {
+            buffer: io::large_buffer(),
+            from: 0,
+            to: 0,
+        }
+    }
+
+    // What is not used yet.
+    pub fn rest(&self) -> &[u8]
+        ensures { self.now.from + length result.now ≡ self.now.to }
+    {
+        &self.buffer[self.from..self.to]
+    }
+
+    pub fn use_up(&mut self, used: usize)
+        requires { self.old.from + used ≤ self.old.to }
+        ensures { (self.new.from ≡ self.old.from + used) × (self.new.to ≡ self.old.to) }
+    {
+        self.from += used;
+    }
+
+    // Behind what was not used yet stand as many characters as a read gave.
+    pub fn read_more<R: Read>(&mut self, file: &mut R) -> Result<usize, Failure>
+        ensures { IfOk result (λ n. (self.new.from ≡ 0) × (self.old.from + self.new.to ≡ self.old.to + n)) }
+    {
+        self.buffer.copy_within(self.from..self.to, 0);
+        self.to -= self.from;
+        self.from = 0;
+        let count = read_into(file, &mut self.buffer[self.to..])?;
+        self.to += count;
+        Ok(count)
     }
 }

@@ -13,13 +13,14 @@ use Rattle.device.specs.declared.Device.{Device}
 use Rattle.sheet.specs.Reading.{insn, read_at}
 use Rattle.sheet.specs.Timing.{TimedFrom}
 use Rattle.sheet.specs.declared.Insn.{Insn}
-use Rattle.sheet.specs.declared.Read.TheVariants.{Row}
+use Rattle.std.specs.Prelude.{Result, Ok, Err}
 use Rattle.reader.specs.Answer.{values_of, paper_of, paper_of_code, read_paper}
-use Rattle.reader.specs.declared.Answer.{Answer}
-use Rattle.reader.specs.declared.Answer.TheVariants as answer
+use Rattle.reader.specs.declared.Decoded.{Decoded}
+use Rattle.numbers.specs.declared.Refusal.{Refusal}
+use Rattle.numbers.proofs.OneNumber.{refusal_of_number, refusal_back, refusal_some}
 use Rattle.reader.proofs.Rows.{columns}
 
-pub decoded : (rom : ℕ → ℕ) (at : ℕ) (i : Insn) (n t : ℕ) → read_at rom at ≡ Row i → TimedFrom (rom at) n t → answered (values_of i n t) ≡ paper_of_code (read_at rom at)
+pub decoded : (rom : ℕ → ℕ) (at : ℕ) (i : Insn) (n t : ℕ) → read_at rom at ≡ Ok i → TimedFrom (rom at) n t → answered (values_of i n t) ≡ paper_of_code (read_at rom at)
 decoded rom at i n t e timed =
     let c = columns rom at i e n t timed in
     rw (e, c.bytes, c.cycles)
@@ -41,23 +42,16 @@ module _ (d : Device) (image : List ℕ) (p3 at : ℕ) where
       as_read h = rw (eq-eqb (length image) (image_size d) size, b, lt-ltb at 8192 h)
 
 -- an answer from its number and values
-abbrev from_paper : Paper → Answer
+abbrev from_paper : Paper → Result Decoded Refusal
 from_paper p =
-    pick (eqb p.number 1) answer.ImageSize
-    (pick (eqb p.number 2) answer.P3Range
-    (pick (eqb p.number 20) answer.AddressRange
-    (pick (eqb p.number 30) answer.Unassigned
-    (pick (eqb p.number 35) answer.PastEnd
-    (answer.Row (record { insn = insn (get_or p.values 0 0) (get_or p.values 1 0) (get_or p.values 2 0); bytes = get_or p.values 3 0; cycles = get_or p.values 4 0 }))))))
+    pick (eqb p.number 0)
+    (Ok (record { insn = insn (get_or p.values 0 0) (get_or p.values 1 0) (get_or p.values 2 0); bytes = get_or p.values 3 0; cycles = get_or p.values 4 0 }))
+    (Err (refusal_of_number p.number))
 
-back : (r : Answer) → from_paper (paper_of r) ≡ r
-back (answer.Row d) = refl
-back answer.Unassigned = refl
-back answer.PastEnd = refl
-back answer.ImageSize = refl
-back answer.P3Range = refl
-back answer.AddressRange = refl
+back : (r : Result Decoded Refusal) → from_paper (paper_of r) ≡ r
+back (Ok d) = refl
+back (Err refusal) = rw (refusal_some refusal, refusal_back refusal)
 
 -- any two answers that meet the promise are equal
-pub one_answer : (d : Device) (image : List ℕ) (p3 at : ℕ) (r s : Answer) → paper_of r ≡ read_paper d image p3 at → paper_of s ≡ read_paper d image p3 at → r ≡ s
+pub one_answer : (d : Device) (image : List ℕ) (p3 at : ℕ) (r s : Result Decoded Refusal) → paper_of r ≡ read_paper d image p3 at → paper_of s ≡ read_paper d image p3 at → r ≡ s
 one_answer d image p3 at r s p q = sym (back r) ∙ (ap from_paper (p ∙ sym q) ∙ back s)

@@ -1,4 +1,3 @@
 pub mod Rows
 pub mod Answers
 pub mod Lasts
-pub mod NoRow

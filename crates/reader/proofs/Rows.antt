@@ -1,18 +1,16 @@
 -- What is read at an address is an instruction of the sheet, its first byte gives the row's bytes and cycles, and its bytes stand before the end.
-use mathlib.Core.Path.{◌≡◌, refl, ap, subst}
+use mathlib.Core.Path.{◌≡◌}
 use mathlib.Core.List.{List, [], ◌∷◌}
 use Prim.Native.Nat.{ℕ, zero, suc, ◌+◌, ◌-◌, ◌<◌, ◌≤◌, min}
 use native.Mathlib.Omega.{arith}
-use lib.ListN.{length, get_or, take, length-take}
+use lib.ListN.{length, take, length-take}
 use lib.Seq.{take-nil, take_all}
-use Rattle.device.specs.Device.{in_image, rom_of}
-use Rattle.device.proofs.Laws.{in_bank_0, window_next}
 use Rattle.sheet.specs.Code.{digits}
 use Rattle.sheet.specs.Fields.{InFields}
 use Rattle.sheet.specs.Reading.{read_bytes, read_left, left, read_at, bytes_of}
 use Rattle.sheet.specs.Timing.{Timed, TimedFrom}
 use Rattle.sheet.specs.declared.Insn.{Insn}
-use Rattle.sheet.specs.declared.Read.TheVariants.{Row}
+use Rattle.std.specs.Prelude.{Ok}
 use Rattle.sheet.proofs.Operands.{AreDigits, in-fields}
 use Rattle.sheet.proofs.ReadAs.{row_of, has_row, nothing_read}
 use Rattle.sheet.proofs.Lengths.{row_enough}
@@ -25,19 +23,19 @@ are_digits (suc zero) a b c h i j = (omega arith, (omega arith, tt))
 are_digits (suc (suc zero)) a b c h i j = (omega arith, (omega arith, (omega arith, (omega arith, tt))))
 are_digits (suc (suc (suc k))) a b c h i j = rw (take-nil {A = ℕ} k) (omega arith, (omega arith, (omega arith, (omega arith, (omega arith, (omega arith, tt))))))
 
-timed_left : (k b : ℕ) (more : List ℕ) (i : Insn) → read_bytes (take k (b ∷ more)) ≡ Row i → (n t : ℕ) → TimedFrom b n t → Timed i.row n t
+timed_left : (k b : ℕ) (more : List ℕ) (i : Insn) → read_bytes (take k (b ∷ more)) ≡ Ok i → (n t : ℕ) → TimedFrom b n t → Timed i.row n t
 timed_left zero b more i e n t timed = absurd (nothing_read i e)
 timed_left (suc k) b more i e n t timed = rw (row_of (digits (b ∷ take k more)) i e) (timed (digits (take k more)) (has_row (digits (b ∷ take k more)) i e))
 
-enough_left : (k b : ℕ) (more : List ℕ) (i : Insn) → b < 256 → read_bytes (take k (b ∷ more)) ≡ Row i → bytes_of i.row ≤ k
+enough_left : (k b : ℕ) (more : List ℕ) (i : Insn) → b < 256 → read_bytes (take k (b ∷ more)) ≡ Ok i → bytes_of i.row ≤ k
 enough_left zero b more i h e = absurd (nothing_read i e)
 enough_left (suc k) b more i h e =
     let n : bytes_of i.row ≤ length (b ∷ take k more) = row_enough b (take k more) i h e in
     let l : length (take k more) ≡ min k (length more) = length-take k more in
     omega arith
 
-module _ (rom : ℕ → ℕ) (at : ℕ) (i : Insn) (e : read_at rom at ≡ Row i) where
-  row : read_bytes (left rom at) ≡ Row i
+module _ (rom : ℕ → ℕ) (at : ℕ) (i : Insn) (e : read_at rom at ≡ Ok i) where
+  row : read_bytes (left rom at) ≡ Ok i
   row = left_row (left rom at) i e
 
   pub read-in-fields : ((k : ℕ) → rom k < 256) → InFields i
@@ -63,21 +61,3 @@ module _ (rom : ℕ → ℕ) (at : ℕ) where
 
   pub one_left : at ≡ 8191 → read_left (rom at ∷ []) ≡ read_at rom at
   one_left e = let k : 8192 - at ≡ 1 = omega arith in rw k
-
--- three bytes in a row in the image are those of an address and the two behind it, where its window does not begin among them
-module _ (image : List ℕ) (p3 at : ℕ) where
-  abbrev byte : ℕ → ℕ
-  byte i = get_or image i 0
-
-  as_row : (i : ℕ) → i ≡ in_image p3 at → i + 1 ≡ in_image p3 (at + 1) → i + 2 ≡ in_image p3 (at + 2) → byte i < 256 → at < 8190 → read_bytes (byte i ∷ byte (i + 1) ∷ byte (i + 2) ∷ []) ≡ read_at (rom_of image p3) at
-  as_row i e f g h k =
-      let a : byte i ≡ rom_of image p3 at = ap byte e in
-      let b : byte (i + 1) ≡ rom_of image p3 (at + 1) = ap byte f in
-      let c : byte (i + 2) ≡ rom_of image p3 (at + 2) = ap byte g in
-      rw (a, b, c) (three-left (rom_of image p3) at (subst (λ (j : ℕ). byte j < 256) e h) k)
-
-  pub row-in-bank-0 : byte at < 256 → at < 4094 → read_bytes (byte at ∷ byte (at + 1) ∷ byte (at + 2) ∷ []) ≡ read_at (rom_of image p3) at
-  row-in-bank-0 h k = as_row at (in_bank_0 p3 at (omega arith)) (in_bank_0 p3 (at + 1) (omega arith)) (in_bank_0 p3 (at + 2) (omega arith)) h (omega arith)
-
-  pub row-in-window : byte (in_image p3 at) < 256 → 4096 ≤ at → at < 8190 → read_bytes (byte (in_image p3 at) ∷ byte (in_image p3 at + 1) ∷ byte (in_image p3 at + 2) ∷ []) ≡ read_at (rom_of image p3) at
-  row-in-window h l k = as_row (in_image p3 at) refl (window_next p3 at 1 l) (window_next p3 at 2 l) h k

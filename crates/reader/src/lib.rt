@@ -7,12 +7,13 @@ ghost use Rattle.std.specs.Prelude.{◌≡◌, [], ◌∷◌, length, ◌+◌, �
 ghost use Rattle.numbers.specs.Sizes.{addresses};
 ghost use Rattle.device.specs.Device.{rom_of, window_end};
 ghost use Rattle.sheet.specs.Reading.{read_bytes, read_left, read_at};
-ghost use Rattle.reader.specs.Answer.{stop_of, paper_of, p3_given, read_paper};
+ghost use Rattle.reader.specs.Answer.{paper_of, p3_given, read_paper};
 
 use crate::row_number::found;
-use device::{Device, image_size, in_image, is_banked};
-use numbers::{LAST_ADDRESS, PAST_END, UNASSIGNED_CODE};
-use sheet::{Insn, Read};
+use device::Device;
+use device::image::{Image, Window};
+use numbers::{LAST_ADDRESS, Refusal};
+use sheet::{Insn, NoRow};
 
 // What is read at an address: the instruction, its bytes and its cycles.
 #[derive(Clone, Copy)]
@@ -22,130 +23,69 @@ pub struct Decoded {
     pub cycles: u8,
 }
 
-#[derive(Clone, Copy)]
-pub enum Answer {
-    Row(Decoded),
-    Unassigned,
-    PastEnd,
-    ImageSize,
-    P3Range,
-    AddressRange,
-}
-
 // What a code of three bytes is; it may use fewer.
-pub fn decode(b0: u8, b1: u8, b2: u8) -> Read
+pub fn decode(b0: u8, b1: u8, b2: u8) -> Result<Insn, NoRow>
     ensures { result ≡ read_bytes (b0 ∷ b1 ∷ b2 ∷ []) }
 {
-    let insn = found(b0, b1, b2);
-    if insn.row == 0 {
-        return Read::Unassigned;
-    }
-    Read::Row(insn)
+    found(b0, b1, b2).ok_or(NoRow::Unassigned)
 }
 
 // What the one byte is that is left at the last address.
-fn last_one(b0: u8) -> Read
+fn last_one(b0: u8) -> Result<Insn, NoRow>
     ensures { result ≡ read_left (b0 ∷ []) }
 {
     let cost = sheet::timing(b0);
     if cost.bytes < 2 {
-        return decode(b0, 0, 0);
+        decode(b0, 0, 0)
+    } else {
+        Err(NoRow::PastEnd) // it begins a longer row
     }
-    Read::PastEnd // it begins a longer row
 }
 
 // What the two bytes are that are left at the address before it; of three bytes is SLBR alone, whose second is 1100 aaaa.
-fn last_two(b0: u8, b1: u8) -> Read
+fn last_two(b0: u8, b1: u8) -> Result<Insn, NoRow>
     ensures { result ≡ read_left (b0 ∷ b1 ∷ []) }
 {
     let cost = sheet::timing(b0);
     if cost.bytes < 3 {
-        return decode(b0, b1, 0);
+        decode(b0, b1, 0)
+    } else if b1 / 16 == 12 {
+        Err(NoRow::PastEnd) // SLBR goes on
+    } else {
+        Err(NoRow::Unassigned)
     }
-    if b1 / 16 == 12 {
-        return Read::PastEnd;
-    }
-    Read::Unassigned
 }
 
-// What stands at an address that has two behind it, wherever the window begins: a code may begin in bank 0 and go on in it.
-fn across(image: &[u8], p3: u8, at: u16) -> Read
-    requires { (window_end p3 ≤ length image.now) × (at < 8190) }
-    ensures { result ≡ read_at (rom_of image.now p3) at }
+// What stands at an address of the window.
+pub fn read_at(window: Window, at: u16) -> Result<Insn, NoRow>
+    requires { at < addresses }
+    ensures { result ≡ read_at (rom_of window.entry.bytes.now window.entry.p3) at }
 {
-    let i = in_image(p3, at);
-    let j = in_image(p3, at + 1);
-    let k = in_image(p3, at + 2);
-    decode(image[i], image[j], image[k])
-}
-
-// What stands at an address of the window; before the last two there are always three bytes.
-fn in_window(image: &[u8], p3: u8, at: u16) -> Read
-    requires { (window_end p3 ≤ length image.now) × (4096 ≤ at) × (at < addresses) }
-    ensures { result ≡ read_at (rom_of image.now p3) at }
-{
-    let i = in_image(p3, at);
     if at < 8190 {
-        return decode(image[i], image[i + 1], image[i + 2]);
-    }
-    if at == 8190 {
-        return last_two(image[i], image[i + 1]);
-    }
-    last_one(image[i])
-}
-
-// What stands at an address of an image, seen through the window of P3.
-pub fn read_at(image: &[u8], p3: u8, at: u16) -> Read
-    requires { (window_end p3 ≤ length image.now) × (at < addresses) }
-    ensures { result ≡ read_at (rom_of image.now p3) at }
-{
-    if at < 4094 {
-        let i = at as usize;
-        return decode(image[i], image[i + 1], image[i + 2]);
-    }
-    if at < 4096 {
-        return across(image, p3, at);
-    }
-    in_window(image, p3, at)
-}
-
-// The number of what is no row, a refusal here and a stop in a step; 0 for a row.
-pub fn stop_of(read: Read) -> u8
-    ensures { result ≡ stop_of read }
-{
-    match read {
-        Read::Row(_) => 0,
-        Read::Unassigned => UNASSIGNED_CODE,
-        Read::PastEnd => PAST_END,
+        decode(window.byte(at), window.byte(at + 1), window.byte(at + 2))
+    } else if at == 8190 {
+        last_two(window.byte(at), window.byte(at + 1))
+    } else {
+        last_one(window.byte(at))
     }
 }
 
 // The reader in the window of a P3 that the device has.
-fn read_shown(d: Device, image: &[u8], p3: u32, address: u32) -> Answer
+fn read_shown(d: Device, image: &[u8], p3: u32, address: u32) -> Result<Decoded, Refusal>
     ensures { paper_of result ≡ read_paper d image.now p3 address }
 {
-    if image.len() != image_size(d) {
-        return Answer::ImageSize;
-    }
-    if !is_banked(d, p3) {
-        return Answer::P3Range;
-    }
+    let window = Image::of(d, image)?.shown(p3)?;
     if LAST_ADDRESS < address {
-        return Answer::AddressRange;
+        return Err(Refusal::AddressOver8191);
     }
     let at = address as u16;
-    let bank = p3 as u8;
-    let i = in_image(bank, at);
-    let cost = sheet::timing(image[i]);
-    match read_at(image, bank, at) {
-        Read::Row(insn) => Answer::Row(Decoded {
-            insn: insn,
-            bytes: cost.bytes,
-            cycles: cost.cycles,
-        }),
-        Read::Unassigned => Answer::Unassigned,
-        Read::PastEnd => Answer::PastEnd,
-    }
+    let insn = read_at(window, at)?;
+    let cost = sheet::timing(window.byte(at));
+    Ok(Decoded {
+        insn,
+        bytes: cost.bytes,
+        cycles: cost.cycles,
+    })
 }
 
 // The P3 of a reader's or a bound's input that the device looks at.
@@ -159,7 +99,7 @@ pub fn p3_given(d: Device, p3: u32) -> u32
 }
 
 // The public reader.
-pub fn read(d: Device, image: &[u8], p3: u32, address: u32) -> Answer
+pub fn read(d: Device, image: &[u8], p3: u32, address: u32) -> Result<Decoded, Refusal>
     ensures { paper_of result ≡ read_paper d image.now (p3_given d p3) address }
 {
     read_shown(d, image, p3_given(d, p3), address)

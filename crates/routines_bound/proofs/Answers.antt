@@ -1,5 +1,6 @@
 -- A sound handler whose sums and depths are settled: 25, 23, or N and the depth with their paths.
 use mathlib.Core.Path.{◌≡◌, refl}
+use Rattle.std.specs.Prelude.{Result, Ok, Err}
 use mathlib.Core.List.{List, []}
 use Prim.Native.Nat.{ℕ, ◌*◌, ◌<◌}
 use native.Mathlib.Omega.{arith}
@@ -13,7 +14,7 @@ use Rattle.routines.proofs.Done.{Done, done, in-lt}
 use Rattle.routines.proofs.Exists.{first-of-handler}
 use Rattle.routines_joined.specs.Words.{flow_at}
 use Rattle.routines_joined.specs.Refused.{address_in, Judges}
-use Rattle.routines_joined.specs.declared.Judgement.{Judgement}
+use Rattle.routines_joined.specs.declared.Unsound.{Unsound}
 use Rattle.routines_joined.proofs.Nodes.{small}
 use Rattle.routines_sums.specs.Dist.{Dist}
 use Rattle.routines_sums.specs.Ways.{ways_in, costs_in, Priced, IdleTo}
@@ -21,9 +22,10 @@ use Rattle.routines_sums.proofs.Settling.{cost_pos}
 use Rattle.routines_paths.specs.Way as way
 use Rattle.routines_paths.specs.Way.{Fall}
 use Rattle.routines_paths.specs.Deep as deep
-use Rattle.routines_paths.specs.Paths.{Paths, first_short, second_short, written}
-use Rattle.routines_bound.specs.Handler.{found_of, Words, Settles, JudgedBy, Comes, Measured}
-use Rattle.routines_bound.specs.declared.Found.{Found}
+use Rattle.routines_paths.specs.Paths.{Short, Written, first_short, second_short}
+use Rattle.routines_bound.specs.Handler.{unbounded_of, found_of, Words, Settles, JudgedBy, Comes, Measured}
+use Rattle.routines_bound.specs.declared.Greatest.{Greatest}
+use Rattle.routines_bound.specs.declared.Unbounded.{Unbounded}
 use Rattle.routines_bound.proofs.Ways.{Ways, ways-of}
 use Rattle.routines_bound.proofs.Settled.{fall_of, sums-of, depths-of, over}
 use Rattle.routines_bound.proofs.Routes.{longest-is, deepest_is}
@@ -36,14 +38,10 @@ pub falls : {x d dep : List ℕ} → Priced x (length d) → Dist (ways_in x) (c
 falls {d = d} p dist = fall_of dist (λ v h. cost_pos p v (marked_lt d v h))
 
 -- 21 and 22
-module _ {x m : List ℕ} {j : Judgement} (by : JudgedBy x m j) (p q : List ℕ) where
-  pub excluded-answer : {a : ℕ} → j ≡ Judgement.Excluded a → FlowAnswer (flow_at x m) (costs_in x) (address_in x) p p q q unknown (answer.excluded a)
-  unfolding Judges
-  excluded-answer e = let w = rw e at by.is in gives_21 w.lowest (record { first = refl; second = refl })
-
-  pub repeats-answer : {a : ℕ} → j ≡ Judgement.Repeats a → FlowAnswer (flow_at x m) (costs_in x) (address_in x) p p q q unknown (answer.repetition a)
-  unfolding Judges
-  repeats-answer e = let w = rw e at by.is in gives_22 w.no_bad w.lowest (record { first = refl; second = refl })
+pub unsound_answer : {x m : List ℕ} (u : Unsound) → JudgedBy x m (Err u) → (p q : List ℕ) → FlowAnswer (flow_at x m) (costs_in x) (address_in x) p p q q unknown (found_of (Err (unbounded_of u)))
+unfolding Judges
+unsound_answer (Unsound.Excluded a) by p q = gives_21 by.is.lowest (record { first = refl; second = refl })
+unsound_answer (Unsound.Repeats a) by p q = gives_22 by.is.no_bad by.is.lowest (record { first = refl; second = refl })
 
 module _ (x m : List ℕ) {n : ℕ} (settles : Settles x m n) (no_bad : (v : ℕ) → IsBad (flow_at x m) unknown v → ⊥) (no_loop : (v : ℕ) → IsLoop (flow_at x m) unknown v → ⊥) where
   abbrev f : Flow
@@ -75,38 +73,35 @@ module _ (x m : List ℕ) {n : ℕ} (settles : Settles x m n) (no_bad : (v : ℕ
       deep_of p = deepest_is f unknown (ways_in x) dep ways (depths-of f unknown (ways_in x) (costs_in x) d dep ways dist has) p
 
       module _ (p p' q q' : List ℕ) (k : ℕ) where
-        short : Paths (ways_in x) (address_in x) d dep f.start p p' q q' k → (k ≡ 0 → ⊥) → FlowAnswer f (costs_in x) (address_in x) p p' q q' unknown (answer.short k)
-        short (first_short l e h a b) ne =
+        short : Short (ways_in x) d dep f.start p p' q q' k → FlowAnswer f (costs_in x) (address_in x) p p' q q' unknown (answer.short k)
+        short (first_short l e h a b) =
             let y = path-of l.is in
             let size : k ≡ 2 * length l.route = omega (arith, e, l.len) in
             rw size (bounded (bound_of y.0 (first-of-handler ends (depth f)).1) (gives_23 (omega (arith, y.1, dist.fits f.start)) (omega (arith, h, size)) (record { first = a; second = b })))
-        short (second_short l room w e h a b) ne =
+        short (second_short l room w e h a b) =
             let y = path-of l.is in
             let t = deep_of w.is in
             let size : k ≡ 2 * length w.route = omega (arith, e, w.len) in
             rw size (bounded (bound_of y.0 t.0) (gives_23_depth (omega (arith, y.1, dist.fits f.start)) (omega (arith, room, l.len)) (omega (arith, h, size)) (record { first = a; second = b })))
-        short (written e w t) ne = absurd (ne e)
 
-        both : Paths (ways_in x) (address_in x) d dep f.start p p' q q' k → k ≡ 0 → FlowAnswer f (costs_in x) (address_in x) p p' q q' unknown (answer.bounds (get_or d f.start 0) (get_or dep f.start 0))
-        both (first_short l e h a b) z = absurd (omega (arith, h, z))
-        both (second_short l room w e h a b) z = absurd (omega (arith, h, z))
-        both (written e w t) z =
-            let y = path-of w.is in
-            let u = deep_of t.is in
-            rw (← y.1, ← u.1) (bounded (bound_of y.0 u.0) (gives_n (omega (arith, y.1, dist.fits f.start)) w.room t.room w.bytes t.bytes))
+        both : Written (ways_in x) (address_in x) d dep f.start p p' q q' → FlowAnswer f (costs_in x) (address_in x) p p' q q' unknown (answer.bounds (get_or d f.start 0) (get_or dep f.start 0))
+        both w =
+            let y = path-of w.first.is in
+            let u = deep_of w.second.is in
+            rw (← y.1, ← u.1) (bounded (bound_of y.0 u.0) (gives_n (omega (arith, y.1, dist.fits f.start)) w.first.room w.second.room w.first.bytes w.second.bytes))
 
   -- what the code comes to is the answer
-  pub measured-answer : {p p' q q' : List ℕ} {r : Found} → Measured x n p p' q q' r → FlowAnswer f (costs_in x) (address_in x) p p' q q' unknown (found_of r)
+  pub measured-answer : {p p' q q' : List ℕ} {r : Result Greatest Unbounded} → Measured x n p p' q q' r → FlowAnswer f (costs_in x) (address_in x) p p' q q' unknown (found_of r)
   unfolding flow_at
   measured-answer {p} {p'} {q} {q'} w = go w.comes
     where
-      go : {r : Found} → Comes (ways_in x) (address_in x) w.d w.dep p p' q q' r → FlowAnswer f (costs_in x) (address_in x) p p' q q' unknown (found_of r)
+      go : {r : Result Greatest Unbounded} → Comes (ways_in x) (address_in x) w.d w.dep p p' q q' r → FlowAnswer f (costs_in x) (address_in x) p p' q q' unknown (found_of r)
       go (Comes.too_large h a b) = rw (a, b) (too_large w.d w.dep w.dist w.idle p q h)
-      go (Comes.short {n = k} h y ne) = short w.d w.dep w.dist h p p' q q' k y ne
-      go (Comes.bounds {n = k} h y z a b) = rw (a, b) (both w.d w.dep w.dist h p p' q q' k y z)
+      go (Comes.short {n = k} h y) = short w.d w.dep w.dist h p p' q q' k y
+      go (Comes.bounds h y a b) = rw (a, b) (both w.d w.dep w.dist h p p' q q' 0 y)
 
 -- where it is judged sound
-pub sound_answer : {x m : List ℕ} {n k : ℕ} {j : Judgement} → Settles x m n → JudgedBy x m j → j ≡ Judgement.Sound k → {p p' q q' : List ℕ} {r : Found} → Measured x n p p' q q' r
+pub sound_answer : {x m : List ℕ} {n k : ℕ} → Settles x m n → JudgedBy x m (Ok k) → {p p' q q' : List ℕ} {r : Result Greatest Unbounded} → Measured x n p p' q q' r
     → FlowAnswer (flow_at x m) (costs_in x) (address_in x) p p' q q' unknown (found_of r)
 unfolding Judges
-sound_answer {x} {m} settles by e w = let s = rw e at by.is in measured-answer x m settles s.no_bad s.no_loop w
+sound_answer {x} {m} settles by w = measured-answer x m settles by.is.no_bad by.is.no_loop w

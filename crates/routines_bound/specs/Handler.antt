@@ -1,5 +1,5 @@
 -- A handler's flow as words by number, as the bound asks for it, and what is answered of it. The handler's start has the number 0.
-use Rattle.std.specs.Prelude.{◌≡◌, List, ℕ, ◌≤◌, ◌<◌, length, get_or}
+use Rattle.std.specs.Prelude.{◌≡◌, List, ℕ, ◌≤◌, ◌<◌, length, get_or, Result, Ok, Err}
 use Rattle.graph.specs.Graph.{Graph, Least}
 use Rattle.routines.specs.Calling.{unknown, Recurs}
 use Rattle.routines.specs.Answer as answer
@@ -9,23 +9,27 @@ use Rattle.routines.specs.Losing.{Region, KnownAfter}
 use Rattle.routines_numbered.specs.Packed.{nodes_in}
 use Rattle.routines_joined.specs.Words.{flow_at, Laid}
 use Rattle.routines_joined.specs.Refused.{NothingRecurs, address_in, Judges}
-use Rattle.routines_joined.specs.declared.Judgement.{Judgement}
+use Rattle.routines_joined.specs.declared.Unsound.{Unsound}
 use Rattle.routines_known.specs.Choosing.{ChosenTo}
 use Rattle.routines_known.specs.Marking as marking
 use Rattle.routines_known.specs.Marking.{flow_on, AllLose}
 use Rattle.routines_sums.specs.Dist.{Dist}
 use Rattle.routines_sums.specs.Ways.{ways_in, costs_in, IdleTo}
-use Rattle.routines_paths.specs.Paths.{Paths}
-use Rattle.routines_bound.specs.declared.Found.{Found}
+use Rattle.routines_paths.specs.Paths.{Short, Written}
 use Rattle.routines_bound.specs.declared.Greatest.{Greatest}
+use Rattle.routines_bound.specs.declared.Unbounded.{Unbounded}
 
-abbrev pub found_of : Found → answer.Found
-found_of (Found.Recursion e) = answer.recursion e
-found_of (Found.Excluded a) = answer.excluded a
-found_of (Found.Repeats a) = answer.repetition a
-found_of Found.TooLarge = answer.too_large
-found_of (Found.Short n) = answer.short n
-found_of (Found.Bounds g) = answer.bounds g.cycles g.depth
+abbrev pub unbounded_of : Unsound → Unbounded
+unbounded_of (Unsound.Excluded a) = Unbounded.Excluded a
+unbounded_of (Unsound.Repeats a) = Unbounded.Repeats a
+
+abbrev pub found_of : Result Greatest Unbounded → answer.Found
+found_of (Ok g) = answer.bounds g.cycles g.depth
+found_of (Err (Unbounded.Recursion e)) = answer.recursion e
+found_of (Err (Unbounded.Excluded a)) = answer.excluded a
+found_of (Err (Unbounded.Repeats a)) = answer.repetition a
+found_of (Err Unbounded.TooLarge) = answer.too_large
+found_of (Err (Unbounded.Short n)) = answer.short n
 
 -- n words, of which each that is not excluded costs something; a call leads to the first place of the routine that it names
 pub record Words (x m : List ℕ) (n : ℕ) : Type 0 where
@@ -50,7 +54,7 @@ abbrev pub NoCall : List ℕ → ℕ → Type 0
 NoCall x n = (v : ℕ) → v < n → (nodes_in x v).kind ≡ 3 → ⊥
 
 -- what is judged of it, and marks by which x' was chosen
-pub record JudgedBy (x m : List ℕ) (r : Judgement) : Type 0 where
+pub record JudgedBy (x m : List ℕ) (r : Result ℕ Unsound) : Type 0 where
   pub q : List ℕ
   pub is : Judges x m q r
 
@@ -69,12 +73,12 @@ pub record CallsJudged (x m : List ℕ) (n : ℕ) (x' : List ℕ) (r : ℕ) : Ty
       → Answer (flow_at x m) (costs_in x) (address_in x) p p' q q' a
 
 -- what settled sums and depths come to: too much; a buffer that is short; or both paths, with what they spend and how many calls are open
-pub data Comes (g : Graph) (address : ℕ → ℕ) (d dep : List ℕ) (p p' q q' : List ℕ) : Found → Type 0 where
-  too_large : get_or d 0 0 ≡ 0 → p' ≡ p → q' ≡ q → Comes g address d dep p p' q q' Found.TooLarge
-  short : {n : ℕ} → 0 < get_or d 0 0 → Paths g address d dep 0 p p' q q' n → (n ≡ 0 → ⊥) → Comes g address d dep p p' q q' (Found.Short n)
-  bounds : {x : Greatest} {n : ℕ} → 0 < get_or d 0 0 → Paths g address d dep 0 p p' q q' n → n ≡ 0 → x.cycles ≡ get_or d 0 0 → x.depth ≡ get_or dep 0 0 → Comes g address d dep p p' q q' (Found.Bounds x)
+pub data Comes (g : Graph) (address : ℕ → ℕ) (d dep : List ℕ) (p p' q q' : List ℕ) : Result Greatest Unbounded → Type 0 where
+  too_large : get_or d 0 0 ≡ 0 → p' ≡ p → q' ≡ q → Comes g address d dep p p' q q' (Err Unbounded.TooLarge)
+  short : {n : ℕ} → 0 < get_or d 0 0 → Short g d dep 0 p p' q q' n → Comes g address d dep p p' q q' (Err (Unbounded.Short n))
+  bounds : {x : Greatest} → 0 < get_or d 0 0 → Written g address d dep 0 p p' q q' → x.cycles ≡ get_or d 0 0 → x.depth ≡ get_or dep 0 0 → Comes g address d dep p p' q q' (Ok x)
 
-pub record Measured (x : List ℕ) (n : ℕ) (p p' q q' : List ℕ) (r : Found) : Type 0 where
+pub record Measured (x : List ℕ) (n : ℕ) (p p' q q' : List ℕ) (r : Result Greatest Unbounded) : Type 0 where
   pub d : List ℕ
   pub dep : List ℕ
   pub dist : Dist (ways_in x) (costs_in x) d dep

@@ -11,31 +11,50 @@ ghost use Rattle.routines_joined.specs.Refused.{Recursion, address_in};
 ghost use Rattle.routines_known.specs.Marking.{Sized};
 ghost use Rattle.routines_sums.specs.Dist.{Dist};
 ghost use Rattle.routines_sums.specs.Ways.{ways_in, costs_in, Priced, IdleTo};
-ghost use Rattle.routines_bound.specs.Handler.{found_of, NoCall, HandlerWords, Settles, JudgedBy, ChosenBy, CallsJudged, Comes, Measured};
+ghost use Rattle.routines_bound.specs.declared.Unbounded.{Unbounded};
+ghost use Rattle.routines_bound.specs.Handler.{unbounded_of, found_of, NoCall, HandlerWords, Settles, JudgedBy, ChosenBy, CallsJudged, Comes, Measured};
 
 use graph::PLACES;
-use routines_joined::{ENTRIES, Judgement, NODES, judge, recursion};
+use routines_joined::{ENTRIES, NODES, Unsound, judge, recursion};
 use routines_known::{choose, mark_losing};
 use routines_numbered::kind_of;
-use routines_paths::write_paths;
+use routines_paths::{TooShort, write_paths};
 use routines_sums::sums;
 
 // The greatest of what is spent, and of the calls that are open at once.
-#[derive(Clone, Copy)]
+#[derive(Clone, Copy, PartialEq, Eq)]
 pub struct Greatest {
     pub cycles: usize,
     pub depth: usize,
 }
 
-// What the bound comes to; an entry, an address, bytes.
-#[derive(Clone, Copy)]
-pub enum Found {
+// Why there is no bound: with an entry, an address, or the bytes that a path needs.
+#[derive(Clone, Copy, PartialEq, Eq)]
+pub enum Unbounded {
     Recursion(usize),
     Excluded(usize),
     Repeats(usize),
     TooLarge,
     Short(usize),
-    Bounds(Greatest),
+}
+
+impl From<Unsound> for Unbounded {
+    ghost from_gives = { λ unsound unbounded. unbounded ≡ unbounded_of unsound };
+
+    fn from(unsound: Unsound) -> Unbounded {
+        match unsound {
+            Unsound::Excluded(address) => Unbounded::Excluded(address),
+            Unsound::Repeats(address) => Unbounded::Repeats(address),
+        }
+    }
+}
+
+impl From<TooShort> for Unbounded {
+    ghost from_gives = { λ short unbounded. unbounded ≡ Unbounded.Short short.bytes };
+
+    fn from(short: TooShort) -> Unbounded {
+        Unbounded::Short(short.bytes)
+    }
 }
 
 // A number has at most three edges to others.
@@ -119,7 +138,7 @@ fn judged_in(
     number: &mut [u16],
     back: &mut [u16],
     stage: &mut [u8],
-) -> Judgement
+) -> Result<usize, Unsound>
     requires { Settles words.now map.now n × (length marks.old ≡ 34816) × Works marks.old queue.old rank.old number.old back.old stage.old }
     ensures { JudgedBy words.now map.now result }
 {
@@ -137,7 +156,7 @@ fn judged_in(
 }
 
 // 21, 22, or neither.
-fn judged(words: &[u64], map: &[u16], n: usize) -> Judgement
+fn judged(words: &[u64], map: &[u16], n: usize) -> Result<usize, Unsound>
     requires { Settles words.now map.now n }
     ensures { JudgedBy words.now map.now result }
 {
@@ -203,20 +222,23 @@ fn choose_calls(words: &mut [u64], n: usize)
 }
 
 // What the settled sums and depths come to.
-fn answer_of(words: &[u64], d: &[u32], dep: &[u16], path: &mut [u8], deep: &mut [u8]) -> Found
+fn answer_of(
+    words: &[u64],
+    d: &[u32],
+    dep: &[u16],
+    path: &mut [u8],
+    deep: &mut [u8],
+) -> Result<Greatest, Unbounded>
     requires { Priced words.now (length d.now) × (0 < length d.now) × (length dep.now ≡ length d.now) × Dist (ways_in words.now) (costs_in words.now) d.now dep.now }
     ensures { Comes (ways_in words.now) (address_in words.now) d.now dep.now
         path.old path.new deep.old deep.new result }
 {
     let cycles = d[0];
     if cycles == 0 {
-        return Found::TooLarge;
+        return Err(Unbounded::TooLarge);
     }
-    let short = write_paths(words, d, dep, path, deep);
-    if short != 0 {
-        return Found::Short(short);
-    }
-    Found::Bounds(Greatest {
+    write_paths(words, d, dep, path, deep)?;
+    Ok(Greatest {
         cycles: cycles as usize,
         depth: dep[0] as usize,
     })
@@ -251,7 +273,7 @@ fn measured_by(
     dep: &mut [u16],
     path: &mut [u8],
     deep: &mut [u8],
-) -> Found
+) -> Result<Greatest, Unbounded>
     requires { Priced words.now (length d.old) × (0 < length d.old) × Blank d.old × Blank dep.old × (length dep.old ≡ length d.old) }
     ensures { Measured words.now (length d.old) path.old path.new deep.old deep.new result }
 {
@@ -267,7 +289,7 @@ fn measured_in(
     dep: &mut [u16],
     path: &mut [u8],
     deep: &mut [u8],
-) -> Found
+) -> Result<Greatest, Unbounded>
     requires { Priced words.now n × (0 < n) × (length d.old ≡ 16384) × Blank d.old × (length dep.old ≡ 16384) × Blank dep.old }
     ensures { Measured words.now n path.old path.new deep.old deep.new result }
 {
@@ -275,7 +297,12 @@ fn measured_in(
 }
 
 // The bound of a handler that is judged and sound.
-fn measured(words: &[u64], n: usize, path: &mut [u8], deep: &mut [u8]) -> Found
+fn measured(
+    words: &[u64],
+    n: usize,
+    path: &mut [u8],
+    deep: &mut [u8],
+) -> Result<Greatest, Unbounded>
     requires { Priced words.now n × (0 < n) }
     ensures { Measured words.now n path.old path.new deep.old deep.new result }
 {
@@ -285,17 +312,19 @@ fn measured(words: &[u64], n: usize, path: &mut [u8], deep: &mut [u8]) -> Found
 }
 
 // The bound of a handler in which nothing recurs and whose words say where their calls go on: 21, 22, 25, 23, or N and the depth.
-fn answer_judged(words: &[u64], map: &[u16], n: usize, path: &mut [u8], deep: &mut [u8]) -> Found
+fn answer_judged(
+    words: &[u64],
+    map: &[u16],
+    n: usize,
+    path: &mut [u8],
+    deep: &mut [u8],
+) -> Result<Greatest, Unbounded>
     requires { Settles words.now map.now n }
     ensures { FlowAnswer (flow_at words.now map.now) (costs_in words.now) (address_in words.now)
         path.old path.new deep.old deep.new unknown (found_of result) }
 {
-    let judgement = judged(words, map, n);
-    match judgement {
-        Judgement::Excluded(address) => Found::Excluded(address),
-        Judgement::Repeats(address) => Found::Repeats(address),
-        Judgement::Sound(_) => measured(words, n, path, deep),
-    }
+    judged(words, map, n)?;
+    measured(words, n, path, deep)
 }
 
 // The lowest entry that recurs, or 2,048 or more: then the word of each call says where it goes on. Without calls nothing is paid for them but the test.
@@ -321,14 +350,14 @@ pub fn bound_words(
     n: usize,
     path: &mut [u8],
     deep: &mut [u8],
-) -> Found
+) -> Result<Greatest, Unbounded>
     requires { HandlerWords words.old map.now n }
     ensures { Answer (flow_at words.old map.now) (costs_in words.old) (address_in words.old)
         path.old path.new deep.old deep.new (found_of result) }
 {
     let lowest = judge_calls(words, map, n);
     if lowest < ENTRIES {
-        return Found::Recursion(lowest);
+        return Err(Unbounded::Recursion(lowest));
     }
     answer_judged(words, map, n, path, deep)
 }

@@ -1,5 +1,5 @@
 -- What is answered of a numbered flow in which SF is unknown after every call, or which says where it is known: 24, 21 and 22.
-use Rattle.std.specs.Prelude.{ℕ, ◌<◌, ◌≤◌, List}
+use Rattle.std.specs.Prelude.{ℕ, ◌<◌, ◌≤◌, List, Result, Ok, Err}
 use Rattle.graph.specs.Graph.{Least}
 use Rattle.graph_search.specs.Marks.{Listed}
 use Rattle.graph_search.specs.Search.{Reached}
@@ -7,8 +7,7 @@ use Rattle.routines.specs.Calling.{Flow, unknown, Recurs, IsBad, IsLoop}
 use Rattle.routines.specs.Answer.{LowestAddress}
 use Rattle.routines_numbered.specs.Packed.{nodes_in}
 use Rattle.routines_joined.specs.Words.{flow_at, joined_at}
-use Rattle.routines_joined.specs.declared.Judgement.{Judgement}
-use Rattle.routines_joined.specs.declared.Judgement.TheVariants.{Excluded, Repeats, Sound}
+use Rattle.routines_joined.specs.declared.Unsound.{Unsound}
 
 abbrev pub NothingRecurs : Flow → Type 0
 NothingRecurs f = (e : ℕ) → Recurs f e → ⊥
@@ -42,7 +41,7 @@ pub record IsSound (x m q : List ℕ) (count : ℕ) : Type 0 where
   pub no_loop : (v : ℕ) → IsLoop (flow_at x m) unknown v → ⊥
   pub lists : Lists x m q count
 
-unfoldable pub Judges : List ℕ → List ℕ → List ℕ → Judgement → Type 0
-Judges x m q (Excluded a) = IsExcluded x m a
-Judges x m q (Repeats a) = IsRepeats x m a
-Judges x m q (Sound count) = IsSound x m q count
+unfoldable pub Judges : List ℕ → List ℕ → List ℕ → Result ℕ Unsound → Type 0
+Judges x m q (Err (Unsound.Excluded a)) = IsExcluded x m a
+Judges x m q (Err (Unsound.Repeats a)) = IsRepeats x m a
+Judges x m q (Ok count) = IsSound x m q count

@@ -54,20 +54,32 @@ fn put_deep_way(words: &[u64], dep: &[u16], path: &mut [u8])
     write_deepest(words, dep, goal, &mut stack, &mut pend, path);
 }
 
-// Writes both paths; or, where a buffer is too short, neither. Returns the bytes needed for the first that is too short, or 0.
-pub fn write_paths(words: &[u64], d: &[u32], dep: &[u16], path: &mut [u8], deep: &mut [u8]) -> usize
+// A buffer is too short: how many bytes its path needs.
+#[derive(Clone, Copy, PartialEq, Eq)]
+pub struct TooShort {
+    pub bytes: usize,
+}
+
+// Writes both paths; or, where a buffer is too short, neither, and says how many bytes are needed for the first that is.
+pub fn write_paths(
+    words: &[u64],
+    d: &[u32],
+    dep: &[u16],
+    path: &mut [u8],
+    deep: &mut [u8],
+) -> Result<(), TooShort>
     requires { Priced words.now (length d.now) × way.Fall (ways_in words.now) d.now × (0 < get_or d.now 0 0) × (get_or d.now 0 0 < 65536) × (length dep.now ≡ length d.now) }
     ensures { Paths (ways_in words.now) (address_in words.now) d.now dep.now 0 path.old path.new deep.old deep.new result }
 {
     let n = 2 * way_len(words, d);
     if path.len() < n {
-        return n;
+        return Err(TooShort { bytes: n });
     }
     let m = 2 * deep_way_len(words, dep);
     if deep.len() < m {
-        return m;
+        return Err(TooShort { bytes: m });
     }
     put_way(words, d, path);
     put_deep_way(words, dep, deep);
-    0
+    Ok(())
 }

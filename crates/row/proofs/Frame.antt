@@ -73,11 +73,11 @@ ordinary m w l (Operation.IL⟵IL-and-r c) e z = latch_row m w l c
 ordinary m w l Operation.no_operation e z = record { pc = refl; cycles = refl; sf = λ q. set_flag l.s m.core.regs.sf (value_and_carry 0 false) q; ei = λ q off. off; mode = λ q. refl }
 
 -- a stop gives the record as it was, and no cycles
-undone : (t : Bool) (n : ℕ) (m : Machine) (x : Done) → x.stop ≡ 0 → ((pick t x (stops n m)).stop ≡ 0 → ⊥) → pick t x (stops n m) ≡ stops (pick t x (stops n m)).stop m
+undone : (t : Bool) (n : ℕ) (m : Machine) (x : Done) → x.stop ≡ 0 → ((pick t x (stops n m)).stop ≡ 0 → ⊥) → pick t x (stops n m) ≡ record { stop = (pick t x (stops n m)).stop; cycles = 0; machine = m }
 undone true n m x e z = absurd (z e)
 undone false n m x e z = refl
 
-pub stop_undone : (m : Machine) (w : Around) (l : Line) (o : Operation) → ((performed m w l o).stop ≡ 0 → ⊥) → performed m w l o ≡ stops (performed m w l o).stop m
+pub stop_undone : (m : Machine) (w : Around) (l : Line) (o : Operation) → ((performed m w l o).stop ≡ 0 → ⊥) → performed m w l o ≡ record { stop = (performed m w l o).stop; cycles = 0; machine = m }
 unfolding work_of branch_of call_of latches_of
 stop_undone m w l (Operation.work s a) z = undone (eqb (worked m w s a).stop 0) (worked m w s a).stop m _ refl z
 stop_undone m w l (Operation.branch t) z = absurd (z refl)

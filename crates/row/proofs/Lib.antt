@@ -9,4 +9,3 @@ pub mod RowStops
 pub mod RowMode
 pub mod RowMark
 pub mod RowBank
-pub mod Turns

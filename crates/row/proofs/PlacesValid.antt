@@ -15,9 +15,8 @@ use Rattle.frame.specs.declared.Pins.{Pins}
 use Rattle.frame.specs.Frame.{PinsInRange}
 use Rattle.sheet.specs.Operation.{Register, Given, Port, Part, Pointer, Half, Place}
 use Rattle.sheet.specs.declared.Insn.{Insn}
-use Rattle.ports.specs.Ports.{latch_of, port_pins, read_port, is_readable}
+use Rattle.ports.specs.Ports.{latch_of, port_pins, read_port, is_readable, ReadDone}
 use Rattle.ports.specs.declared.Ports.{Ports}
-use Rattle.ports.specs.declared.PortRead.{PortRead}
 use Rattle.record.specs.Valid.{ValidPorts, Valid}
 use Rattle.record.specs.declared.Machine.{Machine}
 use Rattle.row.specs.Places.{Around, found, got_stop, weight_of, given_of, part_of, part_put, half_of, cell_of, get_of}
@@ -75,7 +74,7 @@ latch_low {d} p n h =
     (chosen_lt (eqb n 27) p.p27 _ h.p27
     (chosen_lt (eqb n 28) p.p28 _ h.p28 (chosen_lt (eqb n 29) p.p29 _ h.p29 (chosen_lt (eqb n 30) p.p30 0 h.p30 (omega arith)))))))))))))))
 
-read_value : (t : Bool) (v : ℕ) (p q : Ports) → v < 16 → (pick {A = PortRead} t (record { stop = 0; value = v; ports = p }) (record { stop = 33; value = 0; ports = q })).value < 16
+read_value : (t : Bool) (v : ℕ) (p q : Ports) → v < 16 → (pick {A = ReadDone} t (record { stop = 0; value = v; ports = p }) (record { stop = 33; value = 0; ports = q })).value < 16
 read_value true v p q h = h
 read_value false v p q h = omega arith
 

@@ -11,10 +11,8 @@ use Rattle.device.specs.declared.Device.{Device}
 use Rattle.device.specs.declared.Device.TheVariants.{Em73862, Em73P982}
 use Rattle.device.proofs.Laws.{banked}
 use Rattle.frame.specs.declared.Pins.{Pins}
-use Rattle.ports.specs.Ports.{with_latch, read_port, write_stop, p27_after, with_p27, write_port, enters, is_readable}
+use Rattle.ports.specs.Ports.{with_latch, read_port, write_stop, p27_after, with_p27, write_port, enters, is_readable, ReadDone, WriteDone}
 use Rattle.ports.specs.declared.Ports.{Ports}
-use Rattle.ports.specs.declared.PortRead.{PortRead}
-use Rattle.ports.specs.declared.PortWrite.{PortWrite}
 use Rattle.record.specs.Valid.{ValidAlso, ValidPorts}
 
 -- a choice of two numbers below a limit is below it
@@ -137,7 +135,7 @@ also_written Em73862 p n v e h hv =
     also_left p n v h (absent n 3 v refl e) (absent n 5 v refl e) (absent n 6 v refl e) (absent n 17 v refl e)
 also_written Em73P982 p n v e h hv = also_set p n v h hv (free_3 n v e)
 
-written_by : (d : Device) (t : Bool) (p : Ports) (n v : ℕ) → eqb (write_stop d n v) 0 ≡ t → ValidPorts d p → v < 16 → ValidPorts d (pick {A = PortWrite} t (record { stop = 0; ports = with_latch (with_p27 p (p27_after p.p27 n v)) n v }) (record { stop = write_stop d n v; ports = p })).ports
+written_by : (d : Device) (t : Bool) (p : Ports) (n v : ℕ) → eqb (write_stop d n v) 0 ≡ t → ValidPorts d p → v < 16 → ValidPorts d (pick {A = WriteDone} t (record { stop = 0; ports = with_latch (with_p27 p (p27_after p.p27 n v)) n v }) (record { stop = write_stop d n v; ports = p })).ports
 written_by d true p n v e h hv =
     let z = eqb-true (write_stop d n v) 0 e in
     let q = p27_valid p n v h in
@@ -170,7 +168,7 @@ touched_by {d} true p n e h =
     (λ t q. another p n e 27 t (λ z. omega arith) (λ z. omega arith))
 touched_by false p n e h = h
 
-read_by : {d : Device} (t : Bool) (p : Ports) (n v : ℕ) → ValidPorts d p → ValidPorts d (pick {A = PortRead} t (record { stop = 0; value = v; ports = pick (either (eqb n 4) (eqb n 8)) (with_latch p n 15) p }) (record { stop = 33; value = 0; ports = p })).ports
+read_by : {d : Device} (t : Bool) (p : Ports) (n v : ℕ) → ValidPorts d p → ValidPorts d (pick {A = ReadDone} t (record { stop = 0; value = v; ports = pick (either (eqb n 4) (eqb n 8)) (with_latch p n 15) p }) (record { stop = 33; value = 0; ports = p })).ports
 read_by true p n v h = touched_by (either (eqb n 4) (eqb n 8)) p n refl h
 read_by false p n v h = h
 

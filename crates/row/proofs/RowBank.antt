@@ -16,10 +16,8 @@ use Rattle.sheet.specs.Operation.{Port, Step, After}
 use Rattle.sheet.specs.Table.{Line}
 use Rattle.sheet.specs.declared.Insn.{Insn}
 use Rattle.frame.specs.declared.Pins.{Pins}
-use Rattle.ports.specs.Ports.{with_latch, is_readable, read_port, is_writable, write_stop, write_port}
+use Rattle.ports.specs.Ports.{with_latch, is_readable, read_port, is_writable, write_stop, write_port, ReadDone, WriteDone}
 use Rattle.ports.specs.declared.Ports.{Ports}
-use Rattle.ports.specs.declared.PortRead.{PortRead}
-use Rattle.ports.specs.declared.PortWrite.{PortWrite}
 use Rattle.record.specs.declared.Registers.{Registers}
 use Rattle.record.specs.declared.Machine.{Machine}
 use Rattle.row.specs.Places.{Around, with_ports, port_of, port_read, port_written}
@@ -41,7 +39,7 @@ read_not_3 n t e = rw e at t
 read_bank : (d : Device) (sound : Bool) (pins : Pins) (p : Ports) (n : ℕ) → (read_port d sound pins p n).ports.p3 ≡ p.p3
 unfolding read_port
 read_bank d sound pins p n =
-    picked (λ (r : PortRead). r.ports.p3 ≡ p.p3) (is_readable n) _ _
+    picked (λ (r : ReadDone). r.ports.p3 ≡ p.p3) (is_readable n) _ _
     (picked_by (λ (q : Ports). q.p3 ≡ p.p3) (either (eqb n 4) (eqb n 8)) (with_latch p n 15) p (λ t. other_latch p n 15 (read_not_3 n t)) refl) refl
 
 -- P3 is guarded where it can be written
@@ -52,7 +50,7 @@ free_not_3 Em73P982 n f e = absurd (subst T (rw e at f) tt)
 write_bank : (d : Device) (p : Ports) (n v : ℕ) → among (guarded d) n ≡ false → (write_port d p n v).ports.p3 ≡ p.p3
 unfolding write_port write_stop
 write_bank d p n v f =
-    picked_by (λ (r : PortWrite). r.ports.p3 ≡ p.p3) (eqb (write_stop d n v) 0) _ _
+    picked_by (λ (r : WriteDone). r.ports.p3 ≡ p.p3) (eqb (write_stop d n v) 0) _ _
     (λ t. other_latch _ n v (λ e. rw (free_not_3 d n f e) at t)) refl
 
 -- PORT[LR₃₋₂+4] is none of them

@@ -13,10 +13,8 @@ use Rattle.device.specs.declared.Device.{Device}
 use Rattle.sheet.specs.Operation.{Port, Place, Step, After, Operation}
 use Rattle.sheet.specs.Table.{Line}
 use Rattle.frame.specs.declared.Pins.{Pins}
-use Rattle.ports.specs.Ports.{is_readable, read_port, is_writable, write_stop, write_port}
+use Rattle.ports.specs.Ports.{is_readable, read_port, is_writable, write_stop, write_port, ReadDone, WriteDone}
 use Rattle.ports.specs.declared.Ports.{Ports}
-use Rattle.ports.specs.declared.PortRead.{PortRead}
-use Rattle.ports.specs.declared.PortWrite.{PortWrite}
 use Rattle.record.specs.Ram.{bank_of}
 use Rattle.record.specs.declared.Machine.{Machine}
 use Rattle.row.specs.Places.{Around, Got, cell_of, port_of, get_of, after_reading, put_of}
@@ -56,12 +54,12 @@ first_stop s t (inr h) (inr k) = rw (ne_eqb s 0 (omega arith), ne_eqb t 0 (omega
 -- a port is absent, or a value is not to be written to it
 read_stop : (d : Device) (sound : Bool) (pins : Pins) (p : Ports) (n : ℕ) → NoneOrNamed (read_port d sound pins p n).stop
 unfolding read_port
-read_stop d sound pins p n = picked (λ (r : PortRead). NoneOrNamed r.stop) (is_readable n) _ _ none no_port
+read_stop d sound pins p n = picked (λ (r : ReadDone). NoneOrNamed r.stop) (is_readable n) _ _ none no_port
 
 write_stop_lem : (d : Device) (p : Ports) (n v : ℕ) → NoneOrNamed (write_port d p n v).stop
 unfolding write_port write_stop
 write_stop_lem d p n v =
-    picked (λ (r : PortWrite). NoneOrNamed r.stop) (eqb (write_stop d n v) 0) _ _ none
+    picked (λ (r : WriteDone). NoneOrNamed r.stop) (eqb (write_stop d n v) 0) _ _ none
     (picked NoneOrNamed (is_writable d n) _ 33 (picked NoneOrNamed (reserved d n v) 34 0 not_to_be_written none) no_port)
 
 module _ (w : Around) where

@@ -8,9 +8,8 @@ use Rattle.device.specs.declared.Options.{Options}
 use Rattle.sheet.specs.Operation.{Register, Given, Cell, Port, Part, Pointer, Half, Place}
 use Rattle.sheet.specs.declared.Insn.{Insn}
 use Rattle.bits.specs.Bits.{bit_of}
-use Rattle.ports.specs.Ports.{latch_of, read_port, write_port, enters, mode_after}
+use Rattle.ports.specs.Ports.{latch_of, read_port, write_port, enters, mode_after, ReadDone}
 use Rattle.ports.specs.declared.Ports.{Ports}
-use Rattle.ports.specs.declared.PortRead.{PortRead}
 use Rattle.record.specs.With.{assembled, core_with_regs, core_with_pc, core_with_ptrs, core_with_ints, core_with_timers, core_with_ports, core_with_mode, interrupts_of}
 use Rattle.record.specs.Ram.{bank_of, at_hl, at_x, beside_x, at_y}
 use Rattle.record.specs.declared.Registers.{Registers}
@@ -117,10 +116,10 @@ half_of Half.low_half_lem b = b % 16
 half_of Half.high_half_lem b = b / 16
 
 -- what reading a port does, and what it gives: its pins, or its latch
-abbrev pub port_read : Machine → Around → Port → PortRead
+abbrev pub port_read : Machine → Around → Port → ReadDone
 port_read m w p = read_port w.options.device w.options.sound m.core.pins m.core.ports (port_of m.core.regs w.insn p)
 
-abbrev pub pins_got : PortRead → Got
+abbrev pub pins_got : ReadDone → Got
 pins_got r = record { stop = r.stop; value = r.value }
 
 abbrev pub port_got : Machine → Around → Port → Got

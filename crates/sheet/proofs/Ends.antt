@@ -14,12 +14,12 @@ use Rattle.laws.specs.Choice.{pick, both, either}
 use Rattle.laws.proofs.Computed.{T→true, true→T, implies, below, at, where_at, both_left, both_right, both_i}
 use Rattle.sheet.specs.Code.{digits}
 use Rattle.sheet.specs.Table.{Line, lines}
-use Rattle.sheet.specs.Reading.{row_number, row_with, read_bytes, begin_code, begin_row, begin_some, too_few, read_left, bytes_of}
-use Rattle.sheet.specs.Timing.{TimedFrom, NoneFrom}
+use Rattle.sheet.specs.Reading.{Read, row_number, row_with, read_bytes, begin_code, begin_row, begin_some, too_few, read_left, bytes_of}
+use Rattle.sheet.specs.Timing.{TimedFrom, NoneFrom, from}
 use Rattle.sheet.specs.declared.Insn.{Insn}
-use Rattle.sheet.specs.declared.Read.{Read}
-use Rattle.sheet.specs.declared.Read.TheVariants.{Row, Unassigned, PastEnd}
-use Rattle.sheet.proofs.FirstBytes.{from, first_byte_lem, same, same_of, none_from, yes_pick, no_pick, begin_of}
+use Rattle.std.specs.Prelude.{Ok, Err}
+use Rattle.sheet.specs.declared.NoRow.{NoRow}
+use Rattle.sheet.proofs.FirstBytes.{first_byte_lem, same, same_of, none_from, yes_pick, no_pick, begin_of}
 use Rattle.sheet.proofs.Lengths.{read_same, bytes_read, number_enough}
 use Rattle.sheet.proofs.ReadAs.{has_row}
 use Rattle.sheet.proofs.Winning.{At, here, there, winner_is}
@@ -57,7 +57,7 @@ all_cut : T (below 256 (λ b. implies (ltb 1 (from b).bytes) (cut b)))
 unfolding row_number begin_some lines
 all_cut = tt
 
-pub one_cut : (b : ℕ) → b < 256 → 1 < (from b).bytes → PastEnd ≡ read_left (b ∷ [])
+pub one_cut : (b : ℕ) → b < 256 → 1 < (from b).bytes → Err NoRow.PastEnd ≡ read_left (b ∷ [])
 one_cut b h k = rw (T→true (cut b) (where_at (λ b. ltb 1 (from b).bytes) cut 256 all_cut b h (lt→ltb 1 (from b).bytes k)))
 
 -- two bytes that are left of three: those of SLBR, whose second byte is 1100 aaaa
@@ -75,11 +75,11 @@ module _ (e : ℕ) where
   far_at : (b d : ℕ) → b < 256 → d < 16 → 2 < (from b).bytes → T (far b d)
   far_at b d h k l = at (far b) 16 (where_at (λ b. ltb 2 (from b).bytes) (λ b. below 16 (far b)) 256 all-far b h (lt→ltb 2 (from b).bytes l)) d k
 
-no_row_read : (ds : List ℕ) → row_number ds ≡ 0 → row_with (row_number ds) ds ≡ Unassigned
+no_row_read : (ds : List ℕ) → row_number ds ≡ 0 → row_with (row_number ds) ds ≡ Err NoRow.Unassigned
 unfolding row_with
 no_row_read ds e = rw e
 
-pub two_cut : (b c : ℕ) → b < 256 → c < 256 → 2 < (from b).bytes → pick (eqb (c / 16) 12) PastEnd Unassigned ≡ read_left (b ∷ c ∷ [])
+pub two_cut : (b c : ℕ) → b < 256 → c < 256 → 2 < (from b).bytes → pick (eqb (c / 16) 12) (Err NoRow.PastEnd) (Err NoRow.Unassigned) ≡ read_left (b ∷ c ∷ [])
 two_cut b c h k l =
     let ds = four (c % 16) b (c / 16) in
     let f = far_at (c % 16) b (c / 16) h (omega arith) l in
@@ -88,11 +88,11 @@ two_cut b c h k l =
     rw (no_row_read ds row, row, begun)
 
 -- a row that is read of the bytes left is read of them as of any
-picked_row : (t : Bool) (r : Read) (i : Insn) → pick t PastEnd r ≡ Row i → r ≡ Row i
+picked_row : (t : Bool) (r : Read) (i : Insn) → pick t (Err NoRow.PastEnd) r ≡ Ok i → r ≡ Ok i
 picked_row true r i e = absurd (let z : ◌≡◌ {A = ℕ} 0 1 = cc in omega arith)
 picked_row false r i e = e
 
-pub left_row : (bs : List ℕ) (i : Insn) → read_left bs ≡ Row i → read_bytes bs ≡ Row i
+pub left_row : (bs : List ℕ) (i : Insn) → read_left bs ≡ Ok i → read_bytes bs ≡ Ok i
 left_row bs i e = picked_row (too_few (digits bs)) (read_bytes bs) i e
 
 -- a row of which only the first bytes are left
@@ -114,7 +114,7 @@ no_number : (b : ℕ) (bs : List ℕ) → b < 256 → length (b ∷ bs) < (from 
 no_number b bs h k (yes e) = true→T (eq-eqb (row_number (digits (b ∷ bs))) 0 e)
 no_number b bs h k (no ne) = let w : (from b).bytes ≤ length (b ∷ bs) = number_enough b bs h ne in absurd (omega arith)
 
-pub cut_short : (b : ℕ) (bs cs : List ℕ) (i : Insn) → b < 256 → read_bytes (b ∷ bs ++ cs) ≡ Row i → length (b ∷ bs) < bytes_of i.row → read_left (b ∷ bs) ≡ PastEnd
+pub cut_short : (b : ℕ) (bs cs : List ℕ) (i : Insn) → b < 256 → read_bytes (b ∷ bs ++ cs) ≡ Ok i → length (b ∷ bs) < bytes_of i.row → read_left (b ∷ bs) ≡ Err NoRow.PastEnd
 cut_short b bs cs i h e k =
     let ds = digits (b ∷ bs) in
     let n : bytes_of i.row ≡ (from b).bytes = bytes_read b (bs ++ cs) i h e in

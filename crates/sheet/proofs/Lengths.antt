@@ -12,8 +12,9 @@ use Rattle.sheet.specs.Code.{digits}
 use Rattle.sheet.specs.Table.{lines}
 use Rattle.sheet.specs.Reading.{row_number, read_bytes, bytes_of}
 use Rattle.sheet.specs.declared.Insn.{Insn}
-use Rattle.sheet.specs.declared.Read.TheVariants.{Row}
-use Rattle.sheet.proofs.FirstBytes.{from, first_byte_lem}
+use Rattle.std.specs.Prelude.{Ok}
+use Rattle.sheet.proofs.FirstBytes.{first_byte_lem}
+use Rattle.sheet.specs.Timing.{from}
 use Rattle.sheet.proofs.ReadAs.{row_of, has_row}
 use Rattle.sheet.proofs.Prefix.{wide, same_read, row-wide}
 
@@ -43,7 +44,7 @@ pub length_digits : (bs : List ℕ) → length (digits bs) ≡ 2 * length bs
 length_digits [] = refl
 length_digits (b ∷ bs) = let e : length (digits bs) ≡ 2 * length bs = length_digits bs in omega arith
 
-pub bytes_read : (b : ℕ) (bs : List ℕ) (i : Insn) → b < 256 → read_bytes (b ∷ bs) ≡ Row i → bytes_of i.row ≡ (from b).bytes
+pub bytes_read : (b : ℕ) (bs : List ℕ) (i : Insn) → b < 256 → read_bytes (b ∷ bs) ≡ Ok i → bytes_of i.row ≡ (from b).bytes
 bytes_read b bs i h e = ap bytes_of (row_of (digits (b ∷ bs)) i e) ∙ (first_byte_lem b h (digits bs) (has_row (digits (b ∷ bs)) i e)).bytes
 
 -- a row is read of as many bytes as it has
@@ -53,9 +54,9 @@ number_enough b bs h row =
     let w : 2 * (from b).bytes ≤ length (digits (b ∷ bs)) = row-wide (b / 16) (b % 16) (2 * (from b).bytes) (digits bs) (digits bs) refl (at all_wide 256 all_wide_lem b h) row in
     omega arith
 
-pub row_enough : (b : ℕ) (bs : List ℕ) (i : Insn) → b < 256 → read_bytes (b ∷ bs) ≡ Row i → bytes_of i.row ≤ length (b ∷ bs)
+pub row_enough : (b : ℕ) (bs : List ℕ) (i : Insn) → b < 256 → read_bytes (b ∷ bs) ≡ Ok i → bytes_of i.row ≤ length (b ∷ bs)
 row_enough b bs i h e = rw (bytes_read b bs i h e) (number_enough b bs h (has_row (digits (b ∷ bs)) i e))
 
 -- so are two that agree in as many bytes as the row has
-pub past_length : (b : ℕ) (bs cs : List ℕ) (i : Insn) → b < 256 → read_bytes (b ∷ bs) ≡ Row i → take (bytes_of i.row) (b ∷ bs) ≡ take (bytes_of i.row) (b ∷ cs) → read_bytes (b ∷ cs) ≡ Row i
+pub past_length : (b : ℕ) (bs cs : List ℕ) (i : Insn) → b < 256 → read_bytes (b ∷ bs) ≡ Ok i → take (bytes_of i.row) (b ∷ bs) ≡ take (bytes_of i.row) (b ∷ cs) → read_bytes (b ∷ cs) ≡ Ok i
 past_length b bs cs i h e same = sym (read_same b bs cs h (rw (← bytes_read b bs i h e) same)) ∙ e

@@ -13,7 +13,7 @@ use Rattle.sheet.specs.Table.{Code, line_at}
 use Rattle.sheet.specs.Fields.{widened, field_from, leads, field_a, field_b, InFields}
 use Rattle.sheet.specs.Reading.{code_of, row_number, read_digits, bytes_of}
 use Rattle.sheet.specs.declared.Insn.{Insn}
-use Rattle.sheet.specs.declared.Read.TheVariants.{Row}
+use Rattle.std.specs.Prelude.{Ok}
 use Rattle.sheet.proofs.ReadAs.{row_with_lem, row_of, has_row, short_row, no_such_row}
 
 abbrev pub AreDigits : List ℕ → Type 0
@@ -126,13 +126,13 @@ numbered : (n : ℕ) → 0 < bytes_of n → Dec (n < 108) → n < 108
 numbered n h (yes l) = l
 numbered n h (no g) = absurd (not-suc-le-zero (rw (no_such_row n (omega arith)) at h))
 
-row_some : (ds : List ℕ) (i : Insn) → read_digits ds ≡ Row i → Dec (i.row ≡ 0) → 0 < i.row
+row_some : (ds : List ℕ) (i : Insn) → read_digits ds ≡ Ok i → Dec (i.row ≡ 0) → 0 < i.row
 row_some ds i e (yes z) = absurd (has_row ds i e (sym (row_of ds i e) ∙ z))
 row_some ds i e (no ne) = omega arith
 
 module _ (ds : List ℕ) (are : AreDigits ds) where
   -- what is read is an instruction of the sheet
-  pub in-fields : (i : Insn) → read_digits ds ≡ Row i → InFields i
+  pub in-fields : (i : Insn) → read_digits ds ≡ Ok i → InFields i
   in-fields i e =
       let w = row_with_lem (row_number ds) ds i e in
       let r = row_of ds i e in

@@ -14,7 +14,8 @@ use Rattle.laws.proofs.Computed.{implies, modus, both_left, both_right}
 use Rattle.sheet.specs.Code.{Group, has_digit, fits, fixed_bits, Operand, absent, value_of, gives, operand_from}
 use Rattle.sheet.specs.Table.{Code, Line, lines, line_at}
 use Rattle.sheet.specs.Reading.{bits_fixed_if_fits, over, Winner, winner, code_of, insn, assigned, row_number, row_with, read_digits, begins}
-use Rattle.sheet.specs.declared.Read.TheVariants.{Row, Unassigned}
+use Rattle.std.specs.Prelude.{Ok, Err}
+use Rattle.sheet.specs.declared.NoRow.{NoRow}
 use Rattle.sheet.proofs.Winning.{At, here, there, line_at_lem, Fitting, winner_is}
 use Rattle.sheet.proofs.FirstBytes.{begins_of}
 
@@ -130,7 +131,7 @@ module _ (h l m : ℕ) (xs ys : List ℕ) (same : take m (h ∷ l ∷ xs) ≡ ta
       let x = same_operand absent "x" c.groups w in
       let a = same_operand c.lead "xkabrn" c.groups w in
       let b = same_operand absent "yp" c.groups w in
-      (λ i. pick (ltb (value_of (x i)) 0xF4) (Row (insn n (value_of (a i)) (value_of (b i)))) Unassigned)
+      (λ i. pick (ltb (value_of (x i)) 0xF4) (Ok (insn n (value_of (a i)) (value_of (b i)))) (Err NoRow.Unassigned))
 
   same_row : T (wide lines h l m) → (n : ℕ) → ((n ≡ 0) ⊎ Fitting (line_at n).codes ds) → T (wide_codes (line_at n).codes h l m) → row_with n ds ≡ row_with n es
   unfolding row_with

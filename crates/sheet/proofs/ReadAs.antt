@@ -14,10 +14,11 @@ use Rattle.sheet.specs.Code.{operand_from, value_of, absent}
 use Rattle.sheet.specs.Table.{Code, Line, lines, line_in, line_at, no_line}
 use Rattle.sheet.specs.Reading.{code_of, with_operands, row_number, row_with, read_digits, read_bytes, bytes_of}
 use Rattle.sheet.specs.declared.Insn.{Insn}
-use Rattle.sheet.specs.declared.Read.TheVariants.{Row, Unassigned}
+use Rattle.std.specs.Prelude.{Ok, Err}
+use Rattle.sheet.specs.declared.NoRow.{NoRow}
 use Rattle.sheet.proofs.Winning.{At, here, there, line_at_lem, winner_is}
 
-pub no_row_lem : {i : Insn} → Unassigned ≡ Row i → ⊥
+pub no_row_lem : {i : Insn} → Err NoRow.Unassigned ≡ Ok i → ⊥
 no_row_lem e = let z : ◌≡◌ {A = ℕ} 0 1 = cc in omega arith
 
 -- the row n, with the operands of its code, and a direct x below F4h
@@ -26,11 +27,11 @@ pub record ReadAs (n : ℕ) (c : Code) (ds : List ℕ) (i : Insn) : Type 0 where
   pub direct : T (ltb (value_of (operand_from absent "x" c.groups ds)) 0xF4)
   pub insn : i ≡ with_operands n c ds
 
-picked : (t : Bool) (n : ℕ) (i j : Insn) → pick t (Row i) Unassigned ≡ Row j → T t × (j ≡ i)
+picked : (t : Bool) (n : ℕ) (i j : Insn) → pick t (Ok i) (Err NoRow.Unassigned) ≡ Ok j → T t × (j ≡ i)
 picked true n i j e = (tt, cc)
 picked false n i j e = absurd (no_row_lem e)
 
-pub row_with_lem : (n : ℕ) (ds : List ℕ) (i : Insn) → row_with n ds ≡ Row i → ReadAs n (code_of (line_at n).codes ds) ds i
+pub row_with_lem : (n : ℕ) (ds : List ℕ) (i : Insn) → row_with n ds ≡ Ok i → ReadAs n (code_of (line_at n).codes ds) ds i
 unfolding row_with
 row_with_lem zero ds i e = absurd (no_row_lem e)
 row_with_lem (suc n) ds i e =
@@ -39,14 +40,14 @@ row_with_lem (suc n) ds i e =
     record { row = λ z. (let q : suc n ≡ 0 = z in omega arith); direct = p.0; insn = p.1 }
 
 -- a code's instruction is of the row that the code has
-pub row_of : (ds : List ℕ) (i : Insn) → read_digits ds ≡ Row i → i.row ≡ row_number ds
+pub row_of : (ds : List ℕ) (i : Insn) → read_digits ds ≡ Ok i → i.row ≡ row_number ds
 row_of ds i e = ap (λ (j : Insn). j.row) (row_with_lem (row_number ds) ds i e).insn
 
-pub has_row : (ds : List ℕ) (i : Insn) → read_digits ds ≡ Row i → row_number ds ≡ 0 → ⊥
+pub has_row : (ds : List ℕ) (i : Insn) → read_digits ds ≡ Ok i → row_number ds ≡ 0 → ⊥
 has_row ds i e = (row_with_lem (row_number ds) ds i e).row
 
 -- no bytes are no row's
-pub nothing_read : (i : Insn) → read_bytes [] ≡ Row i → ⊥
+pub nothing_read : (i : Insn) → read_bytes [] ≡ Ok i → ⊥
 unfolding row_number
 nothing_read i e = (row_with_lem 0 [] i e).row refl
 
@@ -80,7 +81,7 @@ short_winner : (ds : List ℕ) → (row_number ds ≡ 0 → ⊥) → Short (row_
 unfolding row_number
 short_winner ds = winner_is (λ (m : ℕ). (m ≡ 0 → ⊥) → Short m) ds lines 1 (λ ne. absurd (ne refl)) (λ j l p f ne. short_line j p)
 
-pub short_row : (ds : List ℕ) (i : Insn) → read_digits ds ≡ Row i → Short i.row
+pub short_row : (ds : List ℕ) (i : Insn) → read_digits ds ≡ Ok i → Short i.row
 short_row ds i e = subst⁻¹ Short (row_of ds i e) (short_winner ds (has_row ds i e))
 
 -- a number past the last row's has no bytes

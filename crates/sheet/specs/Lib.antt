@@ -7,3 +7,4 @@ pub mod Wins
 pub mod Timing
 pub mod Fields
 pub mod Flow
+pub mod Refusing

@@ -1,12 +1,15 @@
 -- What a code is, by document 01's general rules over the table: a row with its operands, unassigned, or one whose bytes pass the end of the image.
-use Rattle.std.specs.Prelude.{ℕ, zero, suc, ◌+◌, ◌-◌, ◌%◌, List, [], ◌∷◌, Bool, true, false, eqb, ltb, take}
+use Rattle.std.specs.Prelude.{ℕ, zero, suc, ◌+◌, ◌-◌, ◌%◌, List, [], ◌∷◌, Bool, true, false, eqb, ltb, take, Result, Ok, Err}
 use Rattle.numbers.specs.Sizes.{addresses}
 use Rattle.laws.specs.Choice.{pick, both, either}
 use Rattle.sheet.specs.Code.{Group, has_digit, fits, fixed_bits, absent, value_of, operand_from, digits}
 use Rattle.sheet.specs.Table.{Code, Line, lines, line_at}
 use Rattle.sheet.specs.declared.Insn.{Insn}
-use Rattle.sheet.specs.declared.Read.{Read}
-use Rattle.sheet.specs.declared.Read.TheVariants.{Row, Unassigned, PastEnd}
+use Rattle.sheet.specs.declared.NoRow.{NoRow}
+
+-- what reading gives
+abbrev pub Read : Type 0
+Read = Result Insn NoRow
 
 -- how many bits of the digits a row fixes, by the one of its codes that they begin with; 0 where they begin with none
 abbrev pub bits_fixed_if_fits : List Code → List ℕ → ℕ
@@ -46,10 +49,10 @@ with_operands n c ds =
 
 -- "A direct x of F4h or more that no such row names is unassigned."
 abbrev pub assigned : ℕ → Code → List ℕ → Read
-assigned n c ds = pick (ltb (value_of (operand_from absent "x" c.groups ds)) 0xF4) (Row (with_operands n c ds)) Unassigned
+assigned n c ds = pick (ltb (value_of (operand_from absent "x" c.groups ds)) 0xF4) (Ok (with_operands n c ds)) (Err NoRow.Unassigned)
 
 abbrev pub row_in : ℕ → List ℕ → Read
-row_in zero ds = Unassigned
+row_in zero ds = Err NoRow.Unassigned
 row_in (suc n) ds = assigned (suc n) (code_of (line_at (suc n)).codes ds) ds
 
 unfoldable pub row_with : ℕ → List ℕ → Read
@@ -86,7 +89,7 @@ abbrev pub too_few : List ℕ → Bool
 too_few ds = both (eqb (row_number ds) 0) (begin_some ds)
 
 abbrev pub read_left : List ℕ → Read
-read_left bs = pick (too_few (digits bs)) PastEnd (read_bytes bs)
+read_left bs = pick (too_few (digits bs)) (Err NoRow.PastEnd) (read_bytes bs)
 
 -- the byte at an address and the two behind it; and those of them that are left before the end
 abbrev pub fetched : (ℕ → ℕ) → ℕ → List ℕ

@@ -1,11 +1,7 @@
--- What a look sees where P8 is as it was, and the waking times as a table.
-use mathlib.Core.Path.{◌≡◌, refl, ◌∙◌}
+-- What a look sees where P8 is as it was.
+use mathlib.Core.Path.{◌≡◌, refl}
 use mathlib.Core.Bool.{Bool, true, false}
-use Prim.Native.Nat.{ℕ, ◌%◌}
-use native.Mathlib.Nat.{mod-lt, mod-mod}
-use lib.Dec.{lit<}
-use lib.ListN.{get_or}
-use Rattle.laws.proofs.Computed.{listed, listed_at}
+use Prim.Native.Nat.{ℕ}
 use Rattle.laws.specs.Choice.{pick}
 use Rattle.device.specs.Device.{ends_speech}
 use Rattle.device.specs.declared.Device.{Device}
@@ -13,9 +9,8 @@ use Rattle.frame.specs.declared.Pins.{Pins}
 use Rattle.edges.specs.Edges.{fell}
 use Rattle.edges.proofs.Still.{no_fall, no_rise}
 use Rattle.clock.proofs.Quiet.{no_event}
-use Rattle.ports.specs.declared.Mode.{Mode}
 use Rattle.record.specs.declared.Core.{Core}
-use Rattle.step_look.specs.Look.{time_of, edges_counted, waking_cycles}
+use Rattle.step_look.specs.Look.{time_of, edges_counted}
 
 -- P8 as it was and a fourth digit of 0 raise nothing
 none_raised : (speech : Bool) (p8 : ℕ) → pick speech false (fell p8 p8 1) ≡ false
@@ -35,7 +30,3 @@ counted_still d m new e f =
       no_rise m.pins.p8 2,
       no_event m.ports.p28 m.ports.p29 (time_of m),
     )
-
--- the definition's times by bits 1..0, as a table
-pub waking_cycles_lem : (p16 : ℕ) → get_or (listed (waking_cycles Mode.Sleep) 0 4) (p16 % 4) 0 ≡ waking_cycles Mode.Sleep p16
-waking_cycles_lem p16 = listed_at (waking_cycles Mode.Sleep) 4 (p16 % 4) (mod-lt p16 (lit< tt)) ∙ rw (mod-mod p16 4)

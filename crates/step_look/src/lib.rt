@@ -4,14 +4,15 @@
 ghost use Rattle.std.specs.Prelude.{◌≡◌, true, ◌<◌};
 ghost use Rattle.ports.specs.declared.Mode.{Mode};
 ghost use Rattle.record.specs.Valid.{ValidInterrupts, ValidTimers};
-ghost use Rattle.step_look.specs.Look.{edges_counted, is_running, raises_il0, edges_latched, edges_timed, showing, seen, waking_cycles, waited, looked};
+ghost use Rattle.step_look.specs.Look.{edges_counted, is_running, raises_il0, edges_latched, edges_timed, seen, time_of, with_time, waking_cycles, waited, looked};
 
+use bits::has_bit;
 use clock::{Time, events, latched};
 use device::{Device, Options, ends_speech};
 use edges::{fell, rose, wakes};
 use frame::Pins;
 use ports::Mode;
-use record::{Core, with_latches};
+use record::{Core, Timers, with_latches};
 
 // The scalars then, and the cycles of a step that only looks.
 #[derive(Clone, Copy)]
@@ -28,9 +29,10 @@ fn raises_il0(d: Device, last: Pins, new: Pins) -> bool
     ensures { result ≡ raises_il0 d last new }
 {
     if ends_speech(d) {
-        return new.speech == 1;
+        new.speech == 1
+    } else {
+        fell(last.p8, new.p8, 1)
     }
-    fell(last.p8, new.p8, 1)
 }
 
 // "A falling edge on P8.2 sets IL5", and what sets IL0.
@@ -42,20 +44,45 @@ fn edges_latched(d: Device, last: Pins, new: Pins, il: u8) -> u8
     latched(raises_il0(d, last, new), 1, by_int0)
 }
 
+// The time base, the timers and the latches of a record.
+pub fn time_of(m: Core) -> Time
+    ensures { result ≡ time_of m }
+{
+    let Timers { base, ta, tb } = m.timers;
+    Time {
+        base,
+        ta,
+        tb,
+        il: m.ints.il,
+    }
+}
+
+// A record with others.
+pub fn with_time(m: Core, t: Time) -> Core
+    requires { ValidInterrupts m.ints }
+    ensures { result ≡ with_time m t }
+{
+    let Time { base, ta, tb, il } = t;
+    Core {
+        timers: Timers { base, ta, tb },
+        ints: with_latches(m.ints, il),
+        ..m
+    }
+}
+
 // The time base, the timers, and the latches with those that edges set.
 fn edges_timed(d: Device, m: Core, new: Pins) -> Time
     requires { m.ints.il < 64 }
     ensures { result ≡ edges_timed d m new }
 {
     Time {
-        base: m.timers.base,
-        ta: m.timers.ta,
-        tb: m.timers.tb,
         il: edges_latched(d, m.pins, new, m.ints.il),
+        ..time_of(m)
     }
 }
 
 // "A rising edge on P8.3 (P8.1) adds one to TA (TB) in event mode."
+#[tactic(auto, using(crate::proofs::Ranges::edges_in_range), unfolding(crate::specs::Look::edges_counted))]
 fn counted(d: Device, m: Core, new: Pins) -> Time
     requires { (ValidInterrupts m.ints) × (ValidTimers m.timers) }
     ensures { result ≡ edges_counted d m new }
@@ -76,24 +103,16 @@ pub fn seen(d: Device, m: Core, new: Pins) -> Core
     requires { (ValidInterrupts m.ints) × (ValidTimers m.timers) }
     ensures { result ≡ seen d m new }
 {
-    if new.speech == 0 {
-        if new.p8 == m.pins.p8 {
-            let mut still = m;
-            still.pins = new;
-            still.mark = false;
-            return still;
-        }
+    let timed = if new.speech == 0 && new.p8 == m.pins.p8 {
+        m
+    } else {
+        with_time(m, counted(d, m, new))
+    };
+    Core {
+        pins: new,
+        mark: false,
+        ..timed
     }
-    let t = counted(d, m, new);
-    let ints = with_latches(m.ints, t.il);
-    let mut after = m;
-    after.pins = new;
-    after.timers.base = t.base;
-    after.timers.ta = t.ta;
-    after.timers.tb = t.tb;
-    after.ints = ints;
-    after.mark = false;
-    after
 }
 
 // The cycles of waking: none for hold.
@@ -101,81 +120,57 @@ fn waking_cycles(mode: Mode, p16: u8) -> u16
     ensures { result ≡ waking_cycles mode p16 }
 {
     match mode {
-        Mode::Running => 0,
-        Mode::Sleep => {
-            let at = (p16 % 4) as usize;
-            WAKING[at]
-        }
-        Mode::Hold => 0,
-    }
-}
-
-// "running again" with the mark, and all else but the last frame as it was: no latch is set.
-fn awake(m: Core, new: Pins) -> Core
-    ensures { result ≡ showing m Mode.Running true new }
-{
-    let regs = m.regs;
-    let ptrs = m.ptrs;
-    let ints = m.ints;
-    let timers = m.timers;
-    let ports = m.ports;
-    Core {
-        regs: regs,
-        pc: m.pc,
-        ptrs: ptrs,
-        ints: ints,
-        timers: timers,
-        ports: ports,
-        pins: new,
-        mode: Mode::Running,
-        mark: true,
+        Mode::Sleep => WAKING[(p16 % 4) as usize],
+        Mode::Running | Mode::Hold => 0,
     }
 }
 
 // "In sleep or hold a step only looks for" the pin that wakes: by its level with P16 bit 3 set, else by its falling edge.
-// That is the whole step, and the mark says so.
+// That is the whole step, and the mark says so. One that wakes is "running again", and no latch is set.
+#[tactic(auto, unfolding(crate::specs::Look::waited))]
 pub fn waited(enabled: u8, m: Core, new: Pins) -> Looked
     ensures { result ≡ waited enabled m new }
 {
-    let mode = m.mode;
-    let by_level = bits::has_bit(m.ports.p16, 8);
+    let by_level = has_bit(m.ports.p16, 8);
+    let seen = Core {
+        pins: new,
+        mark: true,
+        ..m
+    };
     if wakes(by_level, enabled, m.pins, new) {
-        return Looked {
-            core: awake(m, new),
-            cycles: waking_cycles(mode, m.ports.p16),
-        };
-    }
-    let mut after = m;
-    after.pins = new;
-    after.mark = true;
-    Looked {
-        core: after,
-        cycles: 0,
+        Looked {
+            core: Core {
+                mode: Mode::Running,
+                ..seen
+            },
+            cycles: waking_cycles(m.mode, m.ports.p16),
+        }
+    } else {
+        Looked {
+            core: seen,
+            cycles: 0,
+        }
     }
 }
 
 pub fn is_running(mode: Mode) -> bool
     ensures { result ≡ is_running mode }
 {
-    match mode {
-        Mode::Running => true,
-        Mode::Sleep => false,
-        Mode::Hold => false,
-    }
+    matches!(mode, Mode::Running)
 }
 
 // What the look at a frame makes of any record.
+#[tactic(auto, unfolding(crate::specs::Look::looked))]
 pub fn look(options: Options, m: Core, new: Pins) -> Looked
     requires { (ValidInterrupts m.ints) × (ValidTimers m.timers) }
     ensures { result ≡ looked options m new }
 {
-    let mode = m.mode;
-    if is_running(mode) {
-        let d = options.device;
-        return Looked {
-            core: seen(d, m, new),
+    if is_running(m.mode) {
+        Looked {
+            core: seen(options.device, m, new),
             cycles: 0,
-        };
+        }
+    } else {
+        waited(options.wake, m, new)
     }
-    waited(options.wake, m, new)
 }

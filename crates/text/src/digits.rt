@@ -2,16 +2,10 @@
 ghost use Rattle.std.specs.Prelude.{◌≡◌, [], ◌∷◌, ◌+◌, ◌<◌, ◌≤◌, length};
 ghost use Rattle.laws.specs.Writing.{Wrote};
 ghost use Rattle.text.specs.Digits.{in_base, places_of};
-ghost use Rattle.text.specs.Digits.{digit as digit_of, decimal as decimalOf, blanks as blanksOf};
+ghost use Rattle.text.specs.Digits.{decimal as decimalOf, blanks as blanksOf};
 
-const DIGITS: [u8; 16] = *b"0123456789ABCDEF";
-
-fn digit(d: u32) -> u8
-    requires { d < 16 }
-    ensures { result ≡ digit_of d }
-{
-    DIGITS[d as usize]
-}
+use crate::text::digit;
+pub use crate::text::places;
 
 pub fn put(out: &mut [u8], from: usize, c: u8) -> usize
     requires { from < length out.old }
@@ -54,26 +48,6 @@ pub fn number(out: &mut [u8], from: usize, base: u32, places: u32, v: u32) -> us
     }
     let last = number(out, from, base, places - 1, v / base);
     put(out, last, digit(v % base))
-}
-
-// How many decimal digits v has.
-pub fn places(v: u32) -> u32
-    requires { v < 100000 }
-    ensures { result ≡ places_of v }
-{
-    if v < 10 {
-        return 1;
-    }
-    if v < 100 {
-        return 2;
-    }
-    if v < 1000 {
-        return 3;
-    }
-    if v < 10000 {
-        return 4;
-    }
-    5
 }
 
 pub fn decimal(out: &mut [u8], from: usize, v: u32) -> usize

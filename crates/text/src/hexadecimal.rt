@@ -1,28 +1,16 @@
 // Hexadecimal digits of either case.
 ghost use Rattle.std.specs.Prelude.{◌≡◌};
-ghost use Rattle.text.specs.Hexadecimal.{digit_of};
+ghost use Rattle.text.specs.Hexadecimal.{digit_to};
 
-// The value of a digit's character, 16 where it is none.
-pub fn digit(c: u8) -> u8
-    ensures { result ≡ digit_of c }
+// The value of a digit's character.
+#[tactic(auto, unfolding(crate::specs::Hexadecimal::digit_of))]
+pub fn digit(c: u8) -> Option<u8>
+    ensures { result ≡ digit_to 16 c }
 {
-    if c < b'0' {
-        return 16;
+    match c {
+        b'0'..=b'9' => Some(c - b'0'),
+        b'A'..=b'F' => Some(c - b'A' + 10),
+        b'a'..=b'f' => Some(c - b'a' + 10),
+        _ => None,
     }
-    if c <= b'9' {
-        return c - b'0';
-    }
-    if c < b'A' {
-        return 16;
-    }
-    if c <= b'F' {
-        return c - b'A' + 10;
-    }
-    if c < b'a' {
-        return 16;
-    }
-    if c <= b'f' {
-        return c - b'a' + 10;
-    }
-    16
 }

@@ -6,10 +6,10 @@ use native.Mathlib.Omega.{arith}
 use native.Mathlib.Nat.{le_refl}
 use lib.ListN.{take, length}
 use lib.Seq.{take-take, length-take-le}
+use Rattle.std.specs.Prelude.{Ok}
 use Rattle.sheet.specs.Code.{digits}
 use Rattle.sheet.specs.Reading.{read_bytes, bytes_of}
 use Rattle.sheet.specs.declared.Insn.{Insn}
-use Rattle.sheet.specs.declared.Read.TheVariants.{Row}
 use Rattle.sheet.proofs.Lengths.{past_length, row_enough}
 use Rattle.sheet.proofs.ReadAs.{short_row, nothing_read}
 use Rattle.writer.specs.Spelling.{spelling}
@@ -23,7 +23,7 @@ three n = n / 65536 % 256 ∷ n / 256 % 256 ∷ n % 256 ∷ []
 abbrev pub code_of : Insn → List ℕ
 code_of i = take (bytes_of i.row) (three (spelling i))
 
-module _ (i : Insn) (b0 b1 b2 : ℕ) (h0 : b0 < 256) (h1 : b1 < 256) (h2 : b2 < 256) (reads : read_bytes (b0 ∷ b1 ∷ b2 ∷ []) ≡ Row i) where
+module _ (i : Insn) (b0 b1 b2 : ℕ) (h0 : b0 < 256) (h1 : b1 < 256) (h2 : b2 < 256) (reads : read_bytes (b0 ∷ b1 ∷ b2 ∷ []) ≡ Ok i) where
   -- three bytes of which those past the row are 0 are what the instruction spells
   spelled_by : (n : ℕ) → bytes_of i.row ≡ n → number_of n (b0 / 16) (b0 % 16) (b1 / 16) (b1 % 16) (b2 / 16) (b2 % 16) ≡ (b0 * 256 + b1) * 256 + b2 → spelling i ≡ (b0 * 256 + b1) * 256 + b2
   spelled_by n e q =
@@ -39,10 +39,10 @@ module _ (i : Insn) (b0 b1 b2 : ℕ) (h0 : b0 < 256) (h1 : b1 < 256) (h2 : b2 < 
 
 -- a code, filled up with 0 to three bytes
 pub record Filled (i : Insn) (bs : List ℕ) : Type 0 where
-  pub reads : read_bytes (three (spelling i)) ≡ Row i
+  pub reads : read_bytes (three (spelling i)) ≡ Ok i
   pub code : bs ≡ code_of i
 
-filled : (i : Insn) (bs cs : List ℕ) → three (spelling i) ≡ cs → read_bytes cs ≡ Row i → bs ≡ take (bytes_of i.row) cs → Filled i bs
+filled : (i : Insn) (bs cs : List ℕ) → three (spelling i) ≡ cs → read_bytes cs ≡ Ok i → bs ≡ take (bytes_of i.row) cs → Filled i bs
 filled i bs cs e r q = record { reads = ap read_bytes e ∙ r; code = q ∙ ap (take (bytes_of i.row)) (sym e) }
 
 pub fill : (i : Insn) (bs : List ℕ) → CodeOf i bs → Filled i bs
@@ -79,7 +79,7 @@ bytes_take (suc n) [] h = tt
 bytes_take (suc n) (b ∷ bs) h = (h.0, bytes_take n bs h.1)
 
 -- bytes that read as an instruction have its code at their start
-started : (i : Insn) (b : ℕ) (bs : List ℕ) (n : ℕ) → bytes_of i.row ≡ n → n ≤ length (b ∷ bs) → AreBytes (b ∷ bs) → read_bytes (b ∷ bs) ≡ Row i → CodeOf i (take n (b ∷ bs))
+started : (i : Insn) (b : ℕ) (bs : List ℕ) (n : ℕ) → bytes_of i.row ≡ n → n ≤ length (b ∷ bs) → AreBytes (b ∷ bs) → read_bytes (b ∷ bs) ≡ Ok i → CodeOf i (take n (b ∷ bs))
 started i b bs zero e h k r =
     let some : 0 < bytes_of i.row = (short_row (digits (b ∷ bs)) i r).some in
     absurd (omega arith)
@@ -94,6 +94,6 @@ started i b bs (suc n) e h k r =
 pub left_bytes : (n b0 b1 b2 : ℕ) → b0 < 256 → b1 < 256 → b2 < 256 → AreBytes (take n (b0 ∷ b1 ∷ b2 ∷ []))
 left_bytes n b0 b1 b2 h0 h1 h2 = bytes_take n (b0 ∷ b1 ∷ b2 ∷ []) (h0, (h1, (h2, tt)))
 
-pub spelled_code_lem : (i : Insn) (bs : List ℕ) → AreBytes bs → read_bytes bs ≡ Row i → CodeOf i (take (bytes_of i.row) bs)
+pub spelled_code_lem : (i : Insn) (bs : List ℕ) → AreBytes bs → read_bytes bs ≡ Ok i → CodeOf i (take (bytes_of i.row) bs)
 spelled_code_lem i [] k r = absurd (nothing_read i r)
 spelled_code_lem i (b ∷ bs) k r = started i b bs (bytes_of i.row) refl (row_enough b bs i k.0 r) k r

@@ -10,13 +10,13 @@ use native.Mathlib.Numerals.{one-add}
 use lib.ListN.{take, drop}
 use lib.Dec.{T, T_not, eqb, eqb→eq}
 use borrow.Author.Tests.{lt-ltb, le-ltb}
+use Rattle.std.specs.Prelude.{Ok}
 use Rattle.laws.specs.Choice.{pick}
 use Rattle.laws.proofs.Computed.{both_left, both_right}
 use Rattle.sheet.specs.Code.{Group, #, all, fixed1, fixed2, fixed3, above2, has_digit, fits}
 use Rattle.sheet.specs.Table.{Code, Line, lines, line_at}
 use Rattle.sheet.specs.Reading.{insn, with_operands, code_of, row_number, row_with, read_digits, bytes_of}
 use Rattle.sheet.specs.declared.Insn.{Insn}
-use Rattle.sheet.specs.declared.Read.TheVariants.{Row}
 use Rattle.sheet.proofs.Winning.{At, here, there, line_at_lem, Fitting, winner_is}
 use Rattle.sheet.proofs.ReadAs.{row_of, row_with_lem}
 use Rattle.writer.specs.Spelling.{spelling}
@@ -127,17 +127,17 @@ module _ (a b c d e f : ℕ) (ha : a < 16) (hb : b < 16) (hc : c < 16) (hd : d <
       spells-by n bytes (fits k.groups ds) k (code_of (m ∷ ks) ds) (λ t. p.0 (digits_fit k.groups ds t))
       (λ t. spells-chosen n bytes (m ∷ ks) p.1 (⊎_elim (λ h. absurd (T_not (fits k.groups ds) t h)) (λ h. h) g))
 
-  spells-line : (i : Insn) (j : ℕ) (l : Line) → At lines j l → Fitting l.codes ds → row_with (1 + j) ds ≡ Row i → spelling i ≡ number_of (bytes_of (1 + j)) a b c d e f
+  spells-line : (i : Insn) (j : ℕ) (l : Line) → At lines j l → Fitting l.codes ds → row_with (1 + j) ds ≡ Ok i → spelling i ≡ number_of (bytes_of (1 + j)) a b c d e f
   spells-line i j l p g reads =
       let q : line_at (1 + j) ≡ l = ap line_at (one-add j) ∙ line_at_lem p in
       let w : i ≡ with_operands (1 + j) (code_of l.codes ds) ds = (row_with_lem (1 + j) ds i reads).insn ∙ ap (λ (x : Line). with_operands (1 + j) (code_of x.codes ds) ds) q in
       ap spelling w ∙ (spells-chosen (1 + j) l.bytes l.codes (spells_at 1 p every) g ∙ ap (λ (x : Line). number_of x.bytes a b c d e f) (sym q))
 
-  spells-number : (i : Insn) → read_digits ds ≡ Row i → spelling i ≡ number_of (bytes_of (row_number ds)) a b c d e f
+  spells-number : (i : Insn) → read_digits ds ≡ Ok i → spelling i ≡ number_of (bytes_of (row_number ds)) a b c d e f
   unfolding row_number
   spells-number i =
-      winner_is (λ (m : ℕ). row_with m ds ≡ Row i → spelling i ≡ number_of (bytes_of m) a b c d e f) ds lines 1
+      winner_is (λ (m : ℕ). row_with m ds ≡ Ok i → spelling i ≡ number_of (bytes_of m) a b c d e f) ds lines 1
       (λ reads. absurd ((row_with_lem 0 ds i reads).row refl)) (spells-line i)
 
-  pub spells : (i : Insn) → read_digits ds ≡ Row i → spelling i ≡ number_of (bytes_of i.row) a b c d e f
+  pub spells : (i : Insn) → read_digits ds ≡ Ok i → spelling i ≡ number_of (bytes_of i.row) a b c d e f
   spells i reads = spells-number i reads ∙ ap (λ (m : ℕ). number_of (bytes_of m) a b c d e f) (sym (row_of ds i reads))

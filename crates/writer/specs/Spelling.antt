@@ -1,12 +1,10 @@
 -- The digits that a row's object code has with given operands, read off the table: what the writer tries.
 use Rattle.std.specs.Prelude.{ℕ, zero, suc, ◌+◌, ◌-◌, ◌*◌, Bool, false, List, [], ◌∷◌, eqb, ltb}
 use Prim.Native.String.{String}
-use Rattle.laws.specs.Choice.{pick, both}
+use Rattle.laws.specs.Choice.{pick}
 use Rattle.sheet.specs.Code.{Group, #, all, fixed1, fixed2, fixed3, above2, has_sign}
 use Rattle.sheet.specs.Table.{Code, Line, line_at}
 use Rattle.sheet.specs.declared.Insn.{Insn}
-use Rattle.sheet.specs.declared.Read.{Read}
-use Rattle.sheet.specs.declared.Read.TheVariants.{Row, Unassigned, PastEnd}
 
 -- a group with 0 for the bits of operands
 abbrev pub fixed_of : Group → ℕ
@@ -62,11 +60,3 @@ far_spelled a = pick (ltb 4095 a) (0x55B000 + a) (0x57C000 + a)
 unfoldable pub spelling : Insn → ℕ
 unfolding line_at
 spelling i = pick (eqb i.row 49) (far_spelled i.a) (spelled_code (line_at i.row) i.a i.b)
-
-abbrev pub same_insn : Insn → Insn → Bool
-same_insn i j = both (eqb i.row j.row) (both (eqb i.a j.a) (eqb i.b j.b))
-
-abbrev pub reads_as : Insn → Read → Bool
-reads_as i (Row j) = same_insn i j
-reads_as i Unassigned = false
-reads_as i PastEnd = false

@@ -1,13 +1,13 @@
 // The writer: from an instruction to its bytes.
 #![tactic(auto)]
 
-ghost use Rattle.std.specs.Prelude.{◌≡◌, [], ◌∷◌, ◌<◌};
-ghost use Rattle.sheet.specs.Reading.{read_bytes};
-ghost use Rattle.writer.specs.Spelling.{spelling, placed, far_spelled, first_byte, second_byte, behind, same_insn, reads_as};
+ghost use Rattle.std.specs.Prelude.{◌≡◌, ◌<◌};
+ghost use Rattle.writer.specs.Spelling.{spelling, placed, far_spelled, first_byte, second_byte, behind};
 ghost use Rattle.sheet.specs.Table.{line_at};
 ghost use Rattle.writer.specs.Writing.{Writes};
 
-use sheet::{Insn, Read, rows};
+use numbers::Refusal;
+use sheet::{Insn, rows};
 
 // By a row's number, twelve to a line: its first byte and its second with 0 for the bits of operands.
 const FIRST: [u8; 108] = *b"\
@@ -74,12 +74,6 @@ pub struct Code {
     pub b2: u8,
 }
 
-#[derive(Clone, Copy)]
-pub enum Written {
-    Bytes(Code),
-    Refused,
-}
-
 // An operand with so many digits behind it.
 fn place(operand: u16, behind: u8) -> u64
     ensures { (result ≡ placed operand behind) × (result < 4294967296) }
@@ -98,73 +92,44 @@ fn spell_far(a: u16) -> u64
     ensures { result ≡ far_spelled a }
 {
     if 4095 < a {
-        return 0x55B000 + a as u64;
+        0x55B000 + a as u64
+    } else {
+        0x57C000 + a as u64
     }
-    0x57C000 + a as u64
 }
 
 // The six digits that an instruction of a row has, whether or not they are a code of it, as a number.
+#[tactic(auto, unfolding(crate::specs::Spelling::spelling))]
 fn spell(i: Insn) -> u64
     requires { i.row < 108 }
     ensures { result ≡ spelling i }
 {
-    let row = i.row;
-    if row == rows::SLBR {
+    if i.row == rows::SLBR {
         return spell_far(i.a);
     }
-    let first = first_byte(row) as u64;
-    let second = second_byte(row) as u64;
-    first * 65536 + (second + i.b as u64) * 256 + place(i.a, digits_behind(row))
-}
-
-// Whether two instructions are the same.
-fn same(i: Insn, j: Insn) -> bool
-    ensures { result ≡ same_insn i j }
-{
-    let row = i.row;
-    let a = i.a;
-    let b = i.b;
-    let other_row = j.row;
-    let other_a = j.a;
-    let other_b = j.b;
-    if row != other_row {
-        return false;
-    }
-    if a != other_a {
-        return false;
-    }
-    b == other_b
-}
-
-// Whether a code reads as the instruction.
-fn reads_as(i: Insn, b0: u8, b1: u8, b2: u8) -> bool
-    ensures { result ≡ reads_as i (read_bytes (b0 ∷ b1 ∷ b2 ∷ [])) }
-{
-    let Read::Row(j) = reader::decode(b0, b1, b2) else {
-        return false; // unassigned
-    };
-    same(i, j)
+    let first = first_byte(i.row) as u64;
+    let second = second_byte(i.row) as u64;
+    first * 65536 + (second + i.b as u64) * 256 + place(i.a, digits_behind(i.row))
 }
 
 // The public writer: an instruction has the code that it spells, if that reads as the instruction, and no other.
-pub fn write(i: Insn) -> Written
+pub fn write(i: Insn) -> Result<Code, Refusal>
     ensures { Writes i result }
 {
     if 107 < i.row {
-        return Written::Refused;
+        return Err(Refusal::NotToBeWritten);
     }
     let code = spell(i);
     let b0 = (code / 65536 % 256) as u8;
     let b1 = (code / 256 % 256) as u8;
     let b2 = (code % 256) as u8;
-    if reads_as(i, b0, b1, b2) {
-        let cost = sheet::timing(b0);
-        return Written::Bytes(Code {
-            len: cost.bytes,
-            b0: b0,
-            b1: b1,
-            b2: b2,
-        });
+    match reader::decode(b0, b1, b2) {
+        Ok(j) if j == i => Ok(Code {
+            len: sheet::timing(b0).bytes,
+            b0,
+            b1,
+            b2,
+        }),
+        _ => Err(Refusal::NotToBeWritten), // another row's code, or unassigned
     }
-    Written::Refused
 }

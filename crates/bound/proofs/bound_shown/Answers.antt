@@ -1,4 +1,6 @@
 -- `bound::bound_shown` meets its contract.
+use Rattle.std.proofs.Common.{Ok, Err}
+use Rattle.std.proofs.lemmas.Result.{err_from_is_err_and}
 use mathlib.Core.Path.{sym, ◌∙◌}
 use native.Mathlib.Omega.{arith}
 use Rattle.laws.proofs.Computed.{true→T}
@@ -29,8 +31,8 @@ overflow_cast-p3 c =
     let if2 = c.if-not-is_banked in
     let h = ((banked args.d args.p3).sound (true→T (sym is-banked.ensures ∙ if2.false))).0 in let n = also_nibble args.d 3 in omega arith
 
-pub found-found-requires : goal.found-found-requires
-found-found-requires c =
+pub found-requires : goal.found-requires
+found-requires c =
     let if1 = c.if-image-image_size in
     let image-size = c.image_size in
     let args = c.args in
@@ -39,13 +41,11 @@ found-found-requires c =
     let if3 = c.if-address-gt-LAST_ADDRESS in
     (rw (if1.false ∙ image-size.ensures) (window_fits args.d args.p3 (true→T (sym is-banked.ensures ∙ if2.false))), omega (arith, if3.false))
 
+pub returns-in_err-found : goal.returns-in_err-found
+returns-in_err-found c =
+    let p = err_from_is_err_and c.from_residual.result c.from_residual.ensures.1 in
+    let a = answers _ _ _ _ _ _ _ _ (Err _) (c.if-image-image_size.false ∙ c.image_size.ensures) (true→T (sym c.is_banked.ensures ∙ c.if-not-is_banked.false)) (omega (arith, c.if-address-gt-LAST_ADDRESS.false)) c.in_err-found.ensures in
+    rw (p.1, p.2) a
+
 pub returns : goal.returns
-returns c =
-    let answer = c.answer in
-    let found = c.found-found in
-    let if1 = c.if-image-image_size in
-    let image-size = c.image_size in
-    let is-banked = c.is_banked in
-    let if2 = c.if-not-is_banked in
-    let if3 = c.if-address-gt-LAST_ADDRESS in
-    rw answer.ensures (answers _ _ _ _ _ _ _ _ found.result (if1.false ∙ image-size.ensures) (true→T (sym is-banked.ensures ∙ if2.false)) (omega (arith, if3.false)) found.ensures)
+returns c = answers _ _ _ _ _ _ _ _ (Ok _) (c.if-image-image_size.false ∙ c.image_size.ensures) (true→T (sym c.is_banked.ensures ∙ c.if-not-is_banked.false)) (omega (arith, c.if-address-gt-LAST_ADDRESS.false)) c.in_ok-found.ensures

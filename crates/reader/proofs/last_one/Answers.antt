@@ -8,5 +8,5 @@ use Rattle.reader.proofs.last_one.Goals as goal
 pub returns-then-cost-lt2 : goal.returns-then-cost-lt2
 returns-then-cost-lt2 c = c.decode.ensures ∙ one-enough _ _ _ (search rules) (c.timing-cost.ensures.timed_from, c.timing-cost.ensures.none_from) (omega arith)
 
-pub returns : goal.returns
-returns c = one-past _ _ _ (search rules) (c.timing-cost.ensures.timed_from, c.timing-cost.ensures.none_from) (omega arith)
+pub returns-else-cost-lt2 : goal.returns-else-cost-lt2
+returns-else-cost-lt2 c = one-past _ _ _ (search rules) (c.timing-cost.ensures.timed_from, c.timing-cost.ensures.none_from) (omega arith)

@@ -11,5 +11,5 @@ returns-then-cost-lt3 c = c.decode.ensures ∙ two-enough _ _ _ (search rules) (
 pub returns-then-b1-eq12 : goal.returns-then-b1-eq12
 returns-then-b1-eq12 c = rw (eq-eqb _ _ c.if-b1-eq12.true) at (two_past _ _ _ (search rules) (c.timing-cost.ensures.timed_from, c.timing-cost.ensures.none_from) c.args.b1 (search rules) c.if-cost-lt3.false)
 
-pub returns : goal.returns
-returns c = rw (ne_eqb _ _ c.if-b1-eq12.false) at (two_past _ _ _ (search rules) (c.timing-cost.ensures.timed_from, c.timing-cost.ensures.none_from) c.args.b1 (search rules) c.if-cost-lt3.false)
+pub returns-else-b1-eq12 : goal.returns-else-b1-eq12
+returns-else-b1-eq12 c = rw (ne_eqb _ _ c.if-b1-eq12.false) at (two_past _ _ _ (search rules) (c.timing-cost.ensures.timed_from, c.timing-cost.ensures.none_from) c.args.b1 (search rules) c.if-cost-lt3.false)

@@ -3,7 +3,7 @@ use mathlib.Core.Path.{refl}
 use native.Mathlib.Omega.{arith}
 use Rattle.graph_search.proofs.Zeros.{marked_lt}
 use Rattle.routines_sums.proofs.Settling.{priced_at}
-use Rattle.routines_paths.specs.Paths.{first_short, second_short, written}
+use Rattle.routines_paths.specs.Paths.{first_short, second_short}
 use Rattle.routines_paths.proofs.Fits.{way_roomy, deep-short, deep_roomy}
 use Rattle.routines_paths.proofs.write_paths.Goals as goal
 
@@ -31,4 +31,4 @@ put_deep_way-requires c =
     (priced_at pre.4 pre.0, omega (arith, pre.4, lt), deep_roomy _ c.deep_way_len-m.ensures c.if-deep-m.false)
 
 pub returns : goal.returns
-returns c = written refl c.put_way.ensures c.put_deep_way.ensures
+returns c = record { first = c.put_way.ensures; second = c.put_deep_way.ensures }

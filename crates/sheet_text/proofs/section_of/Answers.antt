@@ -5,12 +5,12 @@ use native.Mathlib.Omega.{arith}
 use borrow.Author.Rules.{rules}
 use Rattle.sheet_text.proofs.section_of.Goals as goal
 
-pub returns-then-row-gt107 : goal.returns-then-row-gt107
-returns-then-row-gt107 c = (rw (no_section c.args.row c.if-row-gt107.true (search rules)), omega arith)
+pub returns-else-row-le107 : goal.returns-else-row-le107
+returns-else-row-le107 c = (rw (no_section c.args.row c.if-row-le107.false (search rules)), omega arith)
 
-pub returns : goal.returns
+pub returns-then-row-le107 : goal.returns-then-row-le107
 unfolding section_of
-returns c =
+returns-then-row-le107 c =
     let row = c.args.row in
     let is = section_at row (search rules) in
     (is, omega (arith, is, section_le row (search rules)))

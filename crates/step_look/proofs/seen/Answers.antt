@@ -1,11 +1,11 @@
 -- `step_look::seen` meets its contract.
 use Rattle.step_look.proofs.Looking.{counted_still}
 use Rattle.step_look.proofs.seen.Goals as goal
-
-pub returns-then-new-m : goal.returns-then-new-m
-returns-then-new-m c =
-    let args = c.args in
-    rw (counted_still args.d args.m args.new c.if-new-m.true c.if-new-eq0.true, ← c.requires.0.due)
+use Rattle.step_look.proofs.seen.Goals.{then-new-eq0+then-new-m, else-new-eq0}
 
 pub returns : goal.returns
-returns c = rw (c.with_latches-ints.ensures, c.counted-t.ensures)
+returns c =
+    elim c.if-new-eq0.branch [
+      | then-new-eq0+then-new-m w ↦ rw (w.timed-is, counted_still c.args.d c.args.m c.args.new w.if-new-m.true w.if-new-eq0.true, ← c.requires.0.due)
+      | else-new-eq0 w ↦ rw (w.timed-is, w.with_time-timed.ensures, w.counted.ensures)
+    ]

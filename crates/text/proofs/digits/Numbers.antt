@@ -72,6 +72,12 @@ places_up_to zero v h = omega (arith, places_one v (omega arith))
 places_up_to (suc k) v h =
     let e = pow-suc 10 (suc k) in up_to k v (places_up_to k (v / 10) (omega arith)) (dec_lt v 10)
 
+pub places_of_byte : (v : ℕ) → v < 256 → places_of v ≤ 3
+places_of_byte v h = places_up_to 2 v (omega arith)
+
+pub places_of_six : (v : ℕ) → v < 1000000 → places_of v ≤ 6
+places_of_six v h = places_up_to 5 v (omega arith)
+
 -- a text and the blanks that fill its column
 pub wrote_padded : {b m e : List ℕ} {from end r : ℕ} {text : List ℕ} (n : ℕ) → Wrote b m from end text → Wrote m e end r (blanks (from + n - end)) → Wrote b e from r (padded n text)
 wrote_padded {from = from} {end = end} {text = text} n w x =

@@ -1,5 +1,5 @@
 -- Where a script's first line ends, a character at a time; and a script by its first line.
-use mathlib.Core.Path.{◌≡◌, refl}
+use mathlib.Core.Path.{◌≡◌, refl, sym}
 use mathlib.Core.Bool.{Bool, true, false}
 use mathlib.Core.List.{List, [], ◌∷◌, ◌++◌}
 use Prim.Native.Nat.{ℕ, suc, ◌+◌, ◌<◌, ◌≤◌}
@@ -9,6 +9,13 @@ use native.Mathlib.Omega.{arith}
 use borrow.Author.Tests.{eq-eqb, ne_eqb}
 use lib.ListN.{length, get_or, take, drop, drop_of_length-le}
 use lib.Seq.{drop-cons}
+use Rattle.std.specs.Prelude.{cond, not, nat_lt, Some, None, position}
+use Rattle.std.specs.List.{position_or_len}
+use Rattle.std.proofs.lemmas.Grind.{common_steps}
+use Rattle.std.proofs.lemmas.List.Sums.{prefix_len-le-length}
+use Rattle.std.proofs.lemmas.Option.{cond_some}
+use Rattle.std.proofs.lemmas.List.Recursion.{is_position_or_len}
+use Rattle.laws.specs.Choice.{pick}
 use Rattle.text.specs.Script.{is_lf, on_first, lines_of, up_to}
 
 module _ (s : List ℕ) (i : ℕ) where
@@ -20,6 +27,10 @@ module _ (s : List ℕ) (i : ℕ) where
 
   pub ends-past : length s ≤ i → up_to (drop i s) ≡ 0
   ends-past h = rw (drop_of_length-le s h)
+
+up_to_step : (t : Bool) (n : ℕ) → pick t 0 (suc n) ≡ cond t 0 (1 + n)
+up_to_step true n = refl
+up_to_step false n = omega arith
 
 -- a script by its first line, whatever follows
 first_by : (c : ℕ) (s rest : List ℕ) (t : Bool) → is_lf c ≡ t → (up_to s < length s → lines_of (s ++ rest) ≡ take (up_to s) s ∷ lines_of (drop (suc (up_to s)) s ++ rest)) → up_to (c ∷ s) < length (c ∷ s) → lines_of (c ∷ (s ++ rest)) ≡ take (up_to (c ∷ s)) (c ∷ s) ∷ lines_of (drop (suc (up_to (c ∷ s))) (c ∷ s) ++ rest)
@@ -62,3 +73,13 @@ pub begins : (c : ℕ) (s rest : List ℕ) → up_to (c ∷ s) ≡ length (c ∷
 begins c [] rest h = one_begins c (lines_of rest) rest (no_lf c [] (is_lf c) refl h).0 refl
 begins c (d ∷ s) rest h =
     let n = no_lf c (d ∷ s) (is_lf c) refl h in more_begins c n.0 (begins d s rest n.1)
+
+-- what `position` finds
+up_to_position : (s : List ℕ) → up_to s ≡ position_or_len is_lf s
+up_to_position s = is_position_or_len up_to is_lf refl (λ c cs. up_to_step (is_lf c) (up_to cs)) s
+
+pub up_to_found : (s : List ℕ) (i : ℕ) → Some i ≡ position is_lf s → i ≡ up_to s
+up_to_found s i e = grind (arith, common_steps, up_to_position s, cond_some (nat_lt (position_or_len is_lf s) (length s)) (position_or_len is_lf s) i (sym e))
+
+pub up_to_end : (s : List ℕ) → None ≡ position is_lf s → up_to s ≡ length s
+up_to_end s e = grind (arith, common_steps, up_to_position s, prefix_len-le-length (λ c. not (is_lf c)) s)

@@ -8,7 +8,7 @@ use borrow.Author.Tests.{eq-eqb}
 use Rattle.laws.proofs.Computed.{true→T, both_left, both_right}
 use Rattle.text.specs.Same.{same_text}
 
-text_equal : (a b : List ℕ) → T (same_text a b) → a ≡ b
+pub text_equal : (a b : List ℕ) → T (same_text a b) → a ≡ b
 text_equal [] [] t = refl
 text_equal [] (d ∷ ds) t = absurd t
 text_equal (c ∷ cs) [] t = absurd t

@@ -1,4 +1,4 @@
--- The value of digits, a digit at a time and at most a bound: 8192 in this crate, since no image has more addresses or lines.
+-- The value of digits, a digit at a time and at most a bound.
 use mathlib.Core.Path.{◌≡◌, refl, sym, ◌∙◌}
 use mathlib.Core.Bool.{Bool, true, false}
 use mathlib.Core.List.{List, [], ◌∷◌}
@@ -12,14 +12,21 @@ use lib.Dec.{ltb}
 use lib.ListN.{length, get_or, drop, drop_of_length-le}
 use lib.Seq.{drop-cons}
 use Rattle.laws.specs.Choice.{pick}
-use Rattle.text.specs.Hexadecimal.{digit_of}
-use Rattle.text.specs.Words.{all_digits, is_number, value_after, word_value, number_of, word_address}
-use Rattle.text.specs.declared.words.Number.{Number}
-use Rattle.text.specs.declared.words.Number.TheVariants.{Value, Nothing}
-use Rattle.text.specs.declared.words.Address.{Address}
-use Rattle.text.specs.declared.words.Address.TheVariants.{At, Refused}
+use Rattle.text.specs.Hexadecimal.{digit_of, digit_to}
+use Rattle.text.specs.Words.{all_digits, is_number, value_after, word_value, number_up_to, number_of, word_address}
+use Rattle.std.specs.Prelude.{Option, Some, None}
+use Rattle.std.proofs.lemmas.Bool.{ltb-true}
+use Rattle.std.proofs.lemmas.Option.{cond_some}
+use Rattle.std.proofs.lemmas.Bool.Decides.{nat_tests}
 
-pub product_small : (v base : ℕ) → v ≤ 8192 → base ≤ 16 → v * base ≤ 131072
+-- what a digit to a base says
+pub digit_is : (base c d : ℕ) → Some d ≡ digit_to base c → (digit_of c < base) × (d ≡ digit_of c)
+digit_is base c d e = let h = cond_some (ltb (digit_of c) base) (digit_of c) d (sym e) in (ltb-true (digit_of c) base h.0, sym h.1)
+
+pub no_digit : (base c : ℕ) → None ≡ digit_to base c → base ≤ digit_of c
+no_digit base c e = grind (arith, nat_tests)
+
+pub product_small : (v base : ℕ) → v ≤ 1000000000000000000 → base ≤ 16 → v * base ≤ 16000000000000000000
 product_small v base g h = mul-le-mul g h
 
 -- digits make no value smaller, so the bound may be laid on at each of them
@@ -60,27 +67,27 @@ module _ {cap base : ℕ} {word : List ℕ} {v i : ℕ} (p : Parsed cap base wor
   pub parsed-value : length word ≤ i → min cap (word_value base word) ≡ v
   parsed-value l = p.value ∙ (rw (drop_of_length-le word l) (min-eq_right p.small))
 
-up_to_8192 : (t : Bool) (x v : ℕ) → pick t (Value (min 8192 x)) Nothing ≡ Value v → v ≤ 8192
-up_to_8192 true x v e = let f : v ≡ min 8192 x = cc in omega arith
-up_to_8192 false x v e = absurd (let z : ◌≡◌ {A = ℕ} 0 1 = cc in omega arith)
+up_to_most : (t : Bool) (most x v : ℕ) → pick t (Some (min most x)) None ≡ Some v → v ≤ most
+up_to_most true most x v e = let f : v ≡ min most x = cc in omega arith
+up_to_most false most x v e = absurd cc
 
-pub number_up_to_8192 : (base : ℕ) (word : List ℕ) (v : ℕ) → number_of base word ≡ Value v → v ≤ 8192
-unfolding number_of
-number_up_to_8192 base word v e = up_to_8192 (is_number base word) (word_value base word) v e
+pub number_up_to_8192 : (base : ℕ) (word : List ℕ) (v : ℕ) → number_of base word ≡ Some v → v ≤ 8192
+unfolding number_up_to
+number_up_to_8192 base word v e = up_to_most (is_number base word) 8192 (word_value base word) v e
 
 -- an address by the number that its digits make
-abbrev pub in_image : Number → Address
-in_image (Value v) = pick (ltb v 8192) (At v) Refused
-in_image Nothing = Refused
+abbrev pub in_image : Option ℕ → Option ℕ
+in_image (Some v) = pick (ltb v 8192) (Some v) None
+in_image None = None
 
-bounded_address : (v : ℕ) → Dec (v < 8192) → in_image (Value v) ≡ in_image (Value (min 8192 v))
+bounded_address : (v : ℕ) → Dec (v < 8192) → in_image (Some v) ≡ in_image (Some (min 8192 v))
 bounded_address v (yes b) = let e : min 8192 v ≡ v = omega arith in rw e
 bounded_address v (no b) = rw (le-ltb v 8192 (omega arith), le-ltb (min 8192 v) 8192 (omega arith))
 
-picked_address : (t : Bool) (v : ℕ) → pick t (in_image (Value v)) Refused ≡ in_image (pick t (Value (min 8192 v)) Nothing)
+picked_address : (t : Bool) (v : ℕ) → pick t (in_image (Some v)) None ≡ in_image (pick t (Some (min 8192 v)) None)
 picked_address true v = bounded_address v (dec_lt v 8192)
 picked_address false v = refl
 
 pub address_of_lem : (word : List ℕ) → length word ≤ 4 → in_image (number_of 16 word) ≡ word_address word
-unfolding number_of word_address
+unfolding number_up_to word_address
 address_of_lem word h = rw (le-leb (length word) 4 h) (sym (picked_address (is_number 16 word) (word_value 16 word)))

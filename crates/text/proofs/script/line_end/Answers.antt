@@ -1,25 +1,14 @@
--- `text::script::line_end` meets its contract: from i on the line's end is still to be found.
+-- `text::script::line_end` meets its contract.
 use native.Mathlib.Omega.{arith}
-use Rattle.text.proofs.script.Ends.{ends-here, ends-later, ends-past}
+use lib.ListN.{drop, length-drop}
+use Rattle.std.proofs.lemmas.List.{take_rest}
+use Rattle.text.proofs.script.Ends.{up_to_found, up_to_end}
 use Rattle.text.proofs.script.line_end.Goals as goal
 
-pub loop-i-init : goal.loop-i-init
-loop-i-init c = (omega arith, omega arith)
+pub returns-in-Some-clause-value : goal.returns-in-Some-clause-value
+returns-in-Some-clause-value c =
+    let e = rw take_rest at c.in-Some.ensures in omega (arith, up_to_found (drop c.args.from c.args.script.now) c.in-Some.i e)
 
-pub bounds-script-i : goal.bounds-script-i
-bounds-script-i c = omega arith
-
-pub returns-then-script-i-eq10 : goal.returns-then-script-i-eq10
-returns-then-script-i-eq10 c = record { value = omega (arith, ends-here c.args.script.now c.loop-i.i c.loop-i-test.true c.if-script-i-eq10.true); upper_bound = omega arith }
-
-pub overflow_add-i : goal.overflow_add-i
-overflow_add-i c = omega arith
-
-pub loop-i-smaller : goal.loop-i-smaller
-loop-i-smaller c = omega arith
-
-pub loop-i-preserved : goal.loop-i-preserved
-loop-i-preserved c = (omega (arith, ends-later c.args.script.now c.loop-i.i c.loop-i-test.true c.if-script-i-eq10.false), omega arith)
-
-pub returns : goal.returns
-returns c = record { value = omega (arith, ends-past c.args.script.now c.loop-i.i c.loop-i-test.false); upper_bound = omega arith }
+pub returns-in-None-clause-value : goal.returns-in-None-clause-value
+returns-in-None-clause-value c =
+    let e = rw take_rest at c.in-None.ensures in omega (arith, up_to_end (drop c.args.from c.args.script.now) e, length-drop c.args.from c.args.script.now)
