@@ -149,7 +149,7 @@ fn port<const N: usize>(out: &mut Text<N>, p: u32)
     ensures { out.new ≡ out.old ++ (characters "P" ++ decimalOf p) }
 {
     out.put(b'P');
-    out.decimal(p);
+    out.decimal(p as u64);
 }
 
 // A character of a mnemonic, or the operand for which it stands.
