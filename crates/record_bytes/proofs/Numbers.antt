@@ -21,9 +21,3 @@ four_bytes n h =
     let b1 : n % 65536 / 256 ≡ n / 256 % 256 = omega arith in
     let b3 : n / 65536 / 256 ≡ n / 16777216 % 256 = omega arith in
     rw (b0, b1, b3)
-
-abbrev pub flags_fit : (h : List ℕ) → Decision (FlagsFit h)
-flags_fit h =
-    restated (λ f. record { cf = f.0.0; zf = f.0.1; sf = f.1.0.0; ei = f.1.0.1; mode = f.1.1.0; mark = f.1.1.1 })
-    (λ f. ((f.cf, f.zf), ((f.sf, f.ei), (f.mode, f.mark))))
-    ((less (get_or h 24 0) 2 and less (get_or h 25 0) 2) and (less (get_or h 26 0) 2 and less (get_or h 27 0) 2) and (less (get_or h 36 0) 3 and less (get_or h 37 0) 2))
