@@ -149,7 +149,7 @@ fn port<const N: usize>(out: &mut Text<N>, p: u64)
     ensures { out.new ≡ out.old ++ (characters "P" ++ decimalOf p) }
 {
     out.put(b'P');
-    out.decimal(p as u64);
+    out.decimal(p);
 }
 
 // A character of a mnemonic, or the operand for which it stands.
