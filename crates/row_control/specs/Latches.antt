@@ -16,14 +16,12 @@ leaving m acc i n =
 
 abbrev pub latches_left : Core → Bool → ℕ → Turn
 latches_left m ei r = record {
-  stop = 0;
   cycles = 2;
   core = leaving m m.regs.acc (interrupts_of ei (bit_and m.ints.il r) m.ints.mask) 2;
 }
 
 abbrev pub exchanged : Core → Turn
 exchanged m = record {
-  stop = 0;
   cycles = 1;
   core = leaving m m.ints.mask (interrupts_of m.ints.ei m.ints.il m.regs.acc) 1;
 }

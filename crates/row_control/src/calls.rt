@@ -7,14 +7,14 @@ ghost use Rattle.sheet.specs.Flow.{call_entry};
 ghost use Rattle.record.specs.Stack.{CanPush, called};
 ghost use Rattle.record.specs.Valid.{Nibbles};
 ghost use Rattle.row.specs.Rows.{spent};
-ghost use Rattle.row.specs.Turns.{Gives};
+ghost use Rattle.row.specs.Turns.{turned};
 ghost use Rattle.row_control.specs.Groups.{calls};
 ghost use Rattle.row_control.specs.Turns.{Turns};
 
-use numbers::{ADDRESSES, STACK_LEVEL};
+use numbers::{ADDRESSES, Stop};
 use record::stack::can_push;
 use record::{Core, Ram};
-use row::{Turn, held, moved_on, stopped};
+use row::{Turn, held, moved_on};
 use sheet::rows;
 
 // "SCALL n: 8n + 6, but 86h for n = 0"
@@ -22,29 +22,26 @@ fn short_entry(n: u16) -> u16
     requires { n < addresses }
     ensures { result ≡ call_entry short n }
 {
-    if n == 0 {
-        return 0x86;
-    }
-    8 * n + 6
+    if n == 0 { 0x86 } else { 8 * n + 6 }
 }
 
 fn called(m: Core, ram: &mut Ram, ret: u16, target: u16) -> Turn
     requires { (Nibbles ram.old) × (CanPush m) × (ret < addresses) }
-    ensures { Gives (spent 2 (called (record { core = m; ram = ram.old }) ret target)) ram.new result }
+    ensures { turned result ram.new ≡ spent 2 (called (record { core = m; ram = ram.old }) ret target) }
 {
     moved_on(held(m, ram).call(ret, target), ram)
 }
 
 // "A call or acceptance lowers SP first, so SP must be 1 to 13."
-pub fn call(m: Core, ram: &mut Ram, row: u8, a: u16) -> Turn
+pub fn call(m: Core, ram: &mut Ram, row: u8, a: u16) -> Result<Turn, Stop>
     requires { (m.pc < addresses) × (Nibbles ram.old) × (among calls row ≡ true) × (a < addresses) }
     ensures { Turns m row a ram.old ram.new result }
 {
     if !can_push(m) {
-        return stopped(m, STACK_LEVEL);
+        return Err(Stop::StackLevel);
     }
     match row {
-        rows::LCALL => called(m, ram, (m.pc + 2) % ADDRESSES, a),
-        _ => called(m, ram, (m.pc + 1) % ADDRESSES, short_entry(a)),
+        rows::LCALL => Ok(called(m, ram, (m.pc + 2) % ADDRESSES, a)),
+        _ => Ok(called(m, ram, (m.pc + 1) % ADDRESSES, short_entry(a))),
     }
 }

@@ -7,7 +7,7 @@ ghost use Rattle.row_control.specs.Latches.{latches_left, exchanged};
 ghost use Rattle.row_control.specs.Turns.{Keeps};
 
 use numbers::ADDRESSES;
-use record::{Core, interrupts_of};
+use record::{Core, Registers, interrupts_of};
 use row::Turn;
 use sheet::rows;
 
@@ -16,15 +16,14 @@ fn latched(m: Core, ei: bool, r: u8) -> Turn
     requires { m.pc < addresses }
     ensures { result ≡ latches_left m ei r }
 {
-    let ints = interrupts_of(ei, m.ints.il & r, m.ints.mask);
-    let mut after = m;
-    after.regs.sf = true;
-    after.pc = (m.pc + 2) % ADDRESSES;
-    after.ints = ints;
     Turn {
-        stop: 0,
         cycles: 2,
-        core: after,
+        core: Core {
+            regs: Registers { sf: true, ..m.regs },
+            pc: (m.pc + 2) % ADDRESSES,
+            ints: interrupts_of(ei, m.ints.il & r, m.ints.mask),
+            ..m
+        },
     }
 }
 
@@ -33,16 +32,18 @@ fn exchanged(m: Core) -> Turn
     requires { m.pc < addresses }
     ensures { result ≡ exchanged m }
 {
-    let ints = interrupts_of(m.ints.ei, m.ints.il, m.regs.acc);
-    let mut after = m;
-    after.regs.acc = m.ints.mask;
-    after.regs.sf = true;
-    after.pc = (m.pc + 1) % ADDRESSES;
-    after.ints = ints;
     Turn {
-        stop: 0,
         cycles: 1,
-        core: after,
+        core: Core {
+            regs: Registers {
+                acc: m.ints.mask,
+                sf: true,
+                ..m.regs
+            },
+            pc: (m.pc + 1) % ADDRESSES,
+            ints: interrupts_of(m.ints.ei, m.ints.il, m.regs.acc),
+            ..m
+        },
     }
 }
 

@@ -5,22 +5,22 @@ ghost use Rattle.record.specs.Valid.{Nibbles};
 ghost use Rattle.row_control.specs.Groups.{returns};
 ghost use Rattle.row_control.specs.Turns.{Comes};
 
-use numbers::STACK_LEVEL;
+use numbers::Stop;
 use record::stack::can_pop;
 use record::{Core, Ram};
-use row::{Turn, held, moved_on, stopped};
+use row::{Turn, held, moved_on};
 use sheet::rows;
 
 // "RET and RTI read level SP, then raise it: 0 to 12."
-pub fn come_back(m: Core, ram: &mut Ram, row: u8) -> Turn
+pub fn come_back(m: Core, ram: &mut Ram, row: u8) -> Result<Turn, Stop>
     requires { (Nibbles ram.old) × (among returns row ≡ true) }
     ensures { Comes m row ram.old ram.new result }
 {
     if !can_pop(m) {
-        return stopped(m, STACK_LEVEL);
+        return Err(Stop::StackLevel);
     }
     match row {
-        rows::RET => moved_on(held(m, ram).pop(), ram),
-        _ => moved_on(held(m, ram).return_flags(), ram),
+        rows::RET => Ok(moved_on(held(m, ram).pop(), ram)),
+        _ => Ok(moved_on(held(m, ram).return_flags(), ram)),
     }
 }

@@ -3,6 +3,8 @@ use mathlib.Core.Path.{◌≡◌, refl, subst}
 use mathlib.Core.Bool.{true}
 use mathlib.Core.List.{List}
 use Prim.Native.Nat.{ℕ, ◌+◌, ◌<◌}
+use Rattle.std.specs.Prelude.{Result, Ok, Err}
+use Rattle.numbers.specs.declared.Stop.{Stop}
 use Rattle.laws.specs.Among.{among}
 use Rattle.device.specs.declared.Device.{Device}
 use Rattle.device.specs.declared.Options.{Options}
@@ -12,7 +14,7 @@ use Rattle.record.specs.declared.Core.{Core}
 use Rattle.row_registers.specs.Quiet.{Quiet, Low}
 use Rattle.row_ends.specs.declared.Act.{Act}
 use Rattle.row_ram.specs.Cells.{Does, Fits}
-use Rattle.row_pointers.specs.Pointed.{Leaves, Asks}
+use Rattle.row_pointers.specs.Pointed.{Leaves, Asks, loaded}
 use Rattle.row_pointers.specs.FromRom.{FromRom}
 use Rattle.row_pointers.specs.declared.Pointed.{Pointed}
 use Rattle.row_control.specs.Turns.{Turns}
@@ -36,27 +38,38 @@ module _ {d : Device} {m : Core} {i : Insn} {g : ℕ} (v : ValidCore d m) (h : I
 
 module _ (m : Core) (i : Insn) where
   -- a row of the ports
-  pub ported : (options : Options) (l k : List ℕ) (x : Turn) → Ported options m i.row i.a i.b l k x → Shifts options m i l k x
+  pub ported : (options : Options) (l k : List ℕ) (x : Result Turn Stop) → Ported options m i.row i.a i.b l k x → Shifts options m i l k x
   ported options l k x q = record { performs = λ rom. record { same = q.same rom } }
 
-  pub ported-by : (row : ℕ) (options : Options) (l k : List ℕ) (x : Turn) → i.row ≡ row → Ported options m row i.a i.b l k x → Shifts options m i l k x
+  pub ported-by : (row : ℕ) (options : Options) (l k : List ℕ) (x : Result Turn Stop) → i.row ≡ row → Ported options m row i.a i.b l k x → Shifts options m i l k x
   ported-by row options l k x e q = ported options l k x (rw e q)
 
-  pub settled : (x : Act) → Quiet m i.row i.a x → Settles m i x
+  pub settled : (x : Act) → Quiet m i.row i.a x → Settles m i (Ok x)
   settled x q = record { does = λ l. record { same = λ rom options. q.same rom options i.b l } }
 
-  pub loaded : (x : Act) → Leaves m i.row x m.ptrs m.timers → Settles m i x
-  loaded x q = record { does = λ l. record { same = λ rom options. q.same rom options i.a i.b l } }
+  pub loaded-settled : (x : Result Act Stop) → Leaves m i.row (loaded m x) → Settles m i x
+  loaded-settled (Ok x) q = record { does = λ l. record { same = λ rom options. q.same rom options i.a i.b l } }
+  loaded-settled (Err s) q = record { does = λ l. record { same = λ rom options. q.same rom options i.a i.b l } }
 
-  pub rom-read : (rom : ℕ → ℕ) (row : ℕ) (x : Pointed) → i.row ≡ row → FromRom m row (rom (0x1000 + m.ptrs.dp)) x → Points rom m i x
-  rom-read rom row x e q = record { performs = λ options l. record { same = rw e (q.same rom options i.a i.b l refl) } }
+  pub rom-read : (rom : ℕ → ℕ) (row : ℕ) (x : Pointed) → i.row ≡ row → FromRom m row (rom (0x1000 + m.ptrs.dp)) x → Points rom m i (Ok x)
+  rom-read rom row x e q = record { same = λ options l. rw e (q.same rom options i.a i.b l refl) }
 
-  pub pointed : (rom : ℕ → ℕ) (x : Pointed) → Leaves m i.row x.act x.ptrs x.timers → Points rom m i x
-  pointed rom x q = record { performs = λ options l. record { same = q.same rom options i.a i.b l } }
+  pub pointed : (rom : ℕ → ℕ) (x : Result Pointed Stop) → Leaves m i.row x → Points rom m i x
+  pointed rom x q = record { same = λ options l. q.same rom options i.a i.b l }
 
-  pub turned : (options : Options) (l k : List ℕ) (x : Turn) → Turns m i.row i.a l k x → Shifts options m i l k x
-  turned options l k x q = record { performs = λ rom. record { same = q.same rom options i.b } }
+  pub turns : (options : Options) (l k : List ℕ) (x : Result Turn Stop) → Turns m i.row i.a l k x → Shifts options m i l k x
+  turns options l k x q = record { performs = λ rom. record { same = q.same rom options i.b } }
 
-  -- a row that changes PC and the registers
-  pub acted : (rom : ℕ → ℕ) (options : Options) (l k : List ℕ) (x : Act) → Does m i.row i.a i.b l k x → Performs rom options m i l k (turn_of m x)
+  -- a row that changes PC and the registers, or stops
+  pub acted : (rom : ℕ → ℕ) (options : Options) (l k : List ℕ) (x : Act) → Does m i.row i.a i.b l k (Ok x) → Performs rom options m i l k (Ok (turn_of m x))
   acted rom options l k x d = record { same = d.same rom options }
+
+  pub stopped : (rom : ℕ → ℕ) (options : Options) (l k : List ℕ) (s : Stop) → Does m i.row i.a i.b l k (Err s) → Performs rom options m i l k (Err s)
+  stopped rom options l k s d = record { same = d.same rom options }
+
+  -- and leaves RAM as it was
+  pub settled_acted : (rom : ℕ → ℕ) (options : Options) (l : List ℕ) (x : Act) → Settles m i (Ok x) → Performs rom options m i l l (Ok (turn_of m x))
+  settled_acted rom options l x d = acted rom options l l x (d.does l)
+
+  pub settled_stopped : (rom : ℕ → ℕ) (options : Options) (l : List ℕ) (s : Stop) → Settles m i (Err s) → Performs rom options m i l l (Err s)
+  settled_stopped rom options l s d = stopped rom options l l s (d.does l)

@@ -1,10 +1,11 @@
 // The groups that leave RAM as it was and do not read it.
-ghost use Rattle.std.specs.Prelude.{◌≡◌, ◌+◌, ◌*◌, ◌%◌, ◌<◌, ◌≤◌, length};
-ghost use Rattle.device.specs.Device.{rom_of, window_end};
+ghost use Rattle.std.specs.Prelude.{◌≡◌, ◌+◌, ◌<◌, ◌≤◌};
+ghost use Rattle.device.specs.Device.{rom_of};
 ghost use Rattle.row_dispatch.specs.Groups.{InGroup};
 ghost use Rattle.row_dispatch.specs.Performs.{InRanges, Settles, Points};
 
-use device::in_image;
+use device::image::Window;
+use numbers::Stop;
 use record::Core;
 use row_ends::Act;
 use row_pointers::Pointed;
@@ -18,38 +19,37 @@ use row_registers::moves::moved;
 use sheet::Insn;
 
 // Registers, flags and PC from the registers, the pointers and the timers.
-pub fn quiet(m: Core, i: Insn, group: u8) -> Act
+pub fn quiet(m: Core, i: Insn, group: u8) -> Result<Act, Stop>
     requires { (InRanges m) × (InGroup group i) × (group < 6) }
     ensures { Settles m i result }
 {
     match group {
-        0 => moved(m, i.row, i.a as u8),
-        1 => made(m, i.row, i.a as u8),
-        2 => asked(m, i.row, i.a as u8),
-        3 => branched(m, i.row, i.a),
+        0 => Ok(moved(m, i.row, i.a as u8)),
+        1 => Ok(made(m, i.row, i.a as u8)),
+        2 => Ok(asked(m, i.row, i.a as u8)),
+        3 => Ok(branched(m, i.row, i.a)),
         4 => load_pointer(m, i.row),
         _ => load_timer(m, i.row),
     }
 }
 
-// The byte at 1000h + DP, in the bank that P3 shows.
-fn rom_byte(image: &[u8], m: Core) -> u8
-    requires { (window_end m.ports.p3 ≤ length image.now) × (m.ptrs.dp < 4096) }
-    ensures { result ≡ rom_of image.now m.ports.p3 (0x1000 + m.ptrs.dp) }
+// The byte at 1000h + DP.
+fn rom_byte(window: Window, m: Core) -> u8
+    requires { m.ptrs.dp < 4096 }
+    ensures { result ≡ rom_of window.entry.bytes.now window.entry.p3 (0x1000 + m.ptrs.dp) }
 {
-    let at = in_image(m.ports.p3, 0x1000 + m.ptrs.dp);
-    image[at]
+    window.byte(0x1000 + m.ptrs.dp)
 }
 
 // The rows that leave another pointer or timer.
-pub fn from_pointer(image: &[u8], m: Core, i: Insn, group: u8) -> Pointed
-    requires { (InRanges m) × (InGroup group i) × (window_end m.ports.p3 ≤ length image.now) × (14 ≤ group) × (group < 18) }
-    ensures { Points (rom_of image.now m.ports.p3) m i result }
+pub fn from_pointer(window: Window, m: Core, i: Insn, group: u8) -> Result<Pointed, Stop>
+    requires { (InRanges m) × (InGroup group i) × (14 ≤ group) × (group < 18) }
+    ensures { Points (rom_of window.entry.bytes.now window.entry.p3) m i result }
 {
     match group {
         14 => store_pointer(m, i.row),
         15 => store_timer(m, i.row),
-        16 => load_low(m, rom_byte(image, m)),
-        _ => load_high(m, rom_byte(image, m)),
+        16 => Ok(load_low(m, rom_byte(window, m))),
+        _ => Ok(load_high(m, rom_byte(window, m))),
     }
 }

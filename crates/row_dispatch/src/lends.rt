@@ -6,6 +6,7 @@ ghost use Rattle.row_dispatch.specs.Groups.{InGroup};
 ghost use Rattle.row_dispatch.specs.Performs.{InRanges, Shifts};
 
 use device::Options;
+use numbers::Stop;
 use record::{Core, Ram};
 use row::Turn;
 use row_control::calls::call;
@@ -24,7 +25,7 @@ use row_ram::write_y::write_by_y;
 use row_ram_pair::{exchange_pair, load_pair};
 use sheet::Insn;
 
-pub fn read(m: Core, ram: &Ram, i: Insn, group: u8) -> Act
+pub fn read(m: Core, ram: &Ram, i: Insn, group: u8) -> Result<Act, Stop>
     requires { (InRanges m) × (Nibbles ram.now) × (InGroup group i) × (6 ≤ group) × (group < 10) }
     ensures { Does m i.row i.a i.b ram.now ram.now result }
 {
@@ -36,7 +37,7 @@ pub fn read(m: Core, ram: &Ram, i: Insn, group: u8) -> Act
     }
 }
 
-pub fn write(m: Core, ram: &mut Ram, i: Insn, group: u8) -> Act
+pub fn write(m: Core, ram: &mut Ram, i: Insn, group: u8) -> Result<Act, Stop>
     requires { (InRanges m) × (Nibbles ram.old) × (InGroup group i) × (10 ≤ group) × (group < 14) }
     ensures { Does m i.row i.a i.b ram.old ram.new result }
 {
@@ -48,12 +49,12 @@ pub fn write(m: Core, ram: &mut Ram, i: Insn, group: u8) -> Act
     }
 }
 
-pub fn turn(options: Options, m: Core, ram: &mut Ram, i: Insn, group: u8) -> Turn
+pub fn turn(options: Options, m: Core, ram: &mut Ram, i: Insn, group: u8) -> Result<Turn, Stop>
     requires { (ValidCore options.device m) × (Nibbles ram.old) × (InGroup group i) × (18 ≤ group) × (group < 25) }
     ensures { Shifts options m i ram.old ram.new result }
 {
     match group {
-        18 => latch(m, i.row, i.a as u8),
+        18 => Ok(latch(m, i.row, i.a as u8)),
         19 => come_back(m, ram, i.row),
         20 => call(m, ram, i.row, i.a),
         21 => write_row(options, m, i.row, i.a as u8, i.b),

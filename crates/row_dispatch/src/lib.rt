@@ -4,15 +4,17 @@
 mod keeps;
 mod lends;
 
-ghost use Rattle.std.specs.Prelude.{◌≡◌, length, ◌<◌};
+ghost use Rattle.std.specs.Prelude.{◌≡◌, ◌<◌};
 ghost use Rattle.sheet.specs.Fields.{InFields};
-ghost use Rattle.device.specs.Device.{image_size, rom_of};
+ghost use Rattle.device.specs.Device.{rom_of};
 ghost use Rattle.row_dispatch.specs.Groups.{InGroup, Packs};
 ghost use Rattle.row_dispatch.specs.Performs.{Ready, Performs, turn_of, turn_by};
 
 use device::Options;
+use device::image::Window;
 use keeps::{from_pointer, quiet};
 use lends::{read, turn, write};
+use numbers::Stop;
 use record::{Core, Ram};
 use row::Turn;
 use row_ends::Act;
@@ -55,55 +57,47 @@ fn group_of(i: Insn) -> u8
 fn with_act(m: Core, x: Act) -> Turn
     ensures { result ≡ turn_of m x }
 {
-    let regs = x.regs;
-    let mut core = m;
-    core.regs = regs;
-    core.pc = x.pc;
     Turn {
-        stop: x.stop,
         cycles: x.cycles,
-        core: core,
+        core: Core {
+            regs: x.regs,
+            pc: x.pc,
+            ..m
+        },
     }
 }
 
 fn with_pointed(m: Core, x: Pointed) -> Turn
     ensures { result ≡ turn_by m x }
 {
-    let regs = x.act.regs;
-    let ptrs = x.ptrs;
-    let timers = x.timers;
-    let mut core = m;
-    core.regs = regs;
-    core.pc = x.act.pc;
-    core.ptrs = ptrs;
-    core.timers = timers;
     Turn {
-        stop: x.act.stop,
         cycles: x.act.cycles,
-        core: core,
+        core: Core {
+            regs: x.act.regs,
+            pc: x.act.pc,
+            ptrs: x.ptrs,
+            timers: x.timers,
+            ..m
+        },
     }
 }
 
-pub fn perform(image: &[u8], options: Options, m: Core, ram: &mut Ram, i: Insn) -> Turn
-    requires { (Ready options.device m ram.old i) × (length image.now ≡ image_size options.device) }
-    ensures { Performs (rom_of image.now m.ports.p3) options m i ram.old ram.new result }
+#[tactic(auto, using(crate::proofs::Arms::acted, crate::proofs::Arms::stopped, crate::proofs::Arms::settled_acted, crate::proofs::Arms::settled_stopped))]
+pub fn perform(
+    window: Window,
+    options: Options,
+    m: Core,
+    ram: &mut Ram,
+    i: Insn,
+) -> Result<Turn, Stop>
+    requires { Ready options.device m ram.old i }
+    ensures { Performs (rom_of window.entry.bytes.now window.entry.p3) options m i ram.old ram.new result }
 {
-    let group = group_of(i);
-    if group < 6 {
-        let act = quiet(m, i, group);
-        return with_act(m, act);
+    match group_of(i) {
+        group @ 0..6 => Ok(with_act(m, quiet(m, i, group)?)),
+        group @ 6..10 => Ok(with_act(m, read(m, ram, i, group)?)),
+        group @ 10..14 => Ok(with_act(m, write(m, ram, i, group)?)),
+        group @ 14..18 => Ok(with_pointed(m, from_pointer(window, m, i, group)?)),
+        group => turn(options, m, ram, i, group),
     }
-    if group < 10 {
-        let act = read(m, ram, i, group);
-        return with_act(m, act);
-    }
-    if group < 14 {
-        let act = write(m, ram, i, group);
-        return with_act(m, act);
-    }
-    if group < 18 {
-        let pointed = from_pointer(image, m, i, group);
-        return with_pointed(m, pointed);
-    }
-    turn(options, m, ram, i, group)
 }

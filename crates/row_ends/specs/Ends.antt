@@ -7,7 +7,7 @@ use Rattle.record.specs.declared.Core.{Core}
 use Rattle.row_ends.specs.declared.Act.{Act}
 
 abbrev pub goes_past : Core → Registers → ℕ → ℕ → Act
-goes_past m r n t = record { stop = 0; cycles = t; pc = (m.pc + n) % addresses; regs = r }
+goes_past m r n t = record { cycles = t; pc = (m.pc + n) % addresses; regs = r }
 
 -- - Z 1
 abbrev pub acc_loaded : Core → ℕ → ℕ → ℕ → Act
@@ -94,8 +94,4 @@ nothing m n t = goes_past m m.regs n t
 
 -- a branch that is taken
 abbrev pub jumped : Core → ℕ → ℕ → Act
-jumped m pc t = record { stop = 0; cycles = t; pc = pc; regs = record { acc = m.regs.acc; hr = m.regs.hr; lr = m.regs.lr; cf = m.regs.cf; zf = m.regs.zf; sf = true } }
-
--- a stop
-abbrev pub stopped : Core → ℕ → Act
-stopped m number = record { stop = number; cycles = 0; pc = m.pc; regs = m.regs }
+jumped m pc t = record { cycles = t; pc = pc; regs = record { acc = m.regs.acc; hr = m.regs.hr; lr = m.regs.lr; cf = m.regs.cf; zf = m.regs.zf; sf = true } }

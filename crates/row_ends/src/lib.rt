@@ -3,16 +3,15 @@
 
 ghost use Rattle.std.specs.Prelude.{◌≡◌, ◌<◌};
 ghost use Rattle.numbers.specs.Sizes.{addresses};
-ghost use Rattle.row_ends.specs.Ends.{acc_loaded, acc_hr_exchanged, acc_lr_exchanged, acc_summed, acc_lessened, acc_logical, acc_carried, acc_borrowed, hr_loaded, hr_summed, lr_loaded, lr_summed, lr_lessened, went_on, summed, lessened, logical, compared, cf_tested, tested, nothing, goes_past, jumped, stopped};
+ghost use Rattle.row_ends.specs.Ends.{acc_loaded, acc_hr_exchanged, acc_lr_exchanged, acc_summed, acc_lessened, acc_logical, acc_carried, acc_borrowed, hr_loaded, hr_summed, lr_loaded, lr_summed, lr_lessened, went_on, summed, lessened, logical, compared, cf_tested, tested, nothing, goes_past, jumped};
 
 use alu::Made;
 use numbers::ADDRESSES;
 use record::{Core, Registers};
 
-// What a row that touches the registers alone leaves: a stop or 0, its cycles, PC and the registers.
+// What a row that touches the registers alone leaves: its cycles, PC and the registers.
 #[derive(Clone, Copy)]
 pub struct Act {
-    pub stop: u8,
     pub cycles: u16,
     pub pc: u16,
     pub regs: Registers,
@@ -23,7 +22,6 @@ fn past(m: Core, r: Registers, n: u8, t: u16) -> Act
     ensures { result ≡ goes_past m r n t }
 {
     Act {
-        stop: 0,
         cycles: t,
         pc: (m.pc + n as u16) % ADDRESSES,
         regs: r,
@@ -35,11 +33,12 @@ pub fn acc_loaded(m: Core, v: u8, n: u8, t: u16) -> Act
     requires { m.pc < addresses }
     ensures { result ≡ acc_loaded m v n t }
 {
-    let zero = v == 0;
-    let mut r = m.regs;
-    r.acc = v;
-    r.zf = zero;
-    r.sf = true;
+    let r = Registers {
+        acc: v,
+        zf: v == 0,
+        sf: true,
+        ..m.regs
+    };
     past(m, r, n, t)
 }
 
@@ -48,12 +47,13 @@ pub fn acc_hr_exchanged(m: Core, n: u8, t: u16) -> Act
     requires { m.pc < addresses }
     ensures { result ≡ acc_hr_exchanged m n t }
 {
-    let zero = m.regs.hr == 0;
-    let mut r = m.regs;
-    r.acc = m.regs.hr;
-    r.hr = m.regs.acc;
-    r.zf = zero;
-    r.sf = true;
+    let r = Registers {
+        acc: m.regs.hr,
+        hr: m.regs.acc,
+        zf: m.regs.hr == 0,
+        sf: true,
+        ..m.regs
+    };
     past(m, r, n, t)
 }
 
@@ -61,12 +61,13 @@ pub fn acc_lr_exchanged(m: Core, n: u8, t: u16) -> Act
     requires { m.pc < addresses }
     ensures { result ≡ acc_lr_exchanged m n t }
 {
-    let zero = m.regs.lr == 0;
-    let mut r = m.regs;
-    r.acc = m.regs.lr;
-    r.lr = m.regs.acc;
-    r.zf = zero;
-    r.sf = true;
+    let r = Registers {
+        acc: m.regs.lr,
+        lr: m.regs.acc,
+        zf: m.regs.lr == 0,
+        sf: true,
+        ..m.regs
+    };
     past(m, r, n, t)
 }
 
@@ -75,11 +76,12 @@ pub fn acc_summed(m: Core, x: Made, n: u8, t: u16) -> Act
     requires { m.pc < addresses }
     ensures { result ≡ acc_summed m x n t }
 {
-    let zero = x.value == 0;
-    let mut r = m.regs;
-    r.acc = x.value;
-    r.zf = zero;
-    r.sf = !x.carry;
+    let r = Registers {
+        acc: x.value,
+        zf: x.value == 0,
+        sf: !x.carry,
+        ..m.regs
+    };
     past(m, r, n, t)
 }
 
@@ -88,11 +90,12 @@ pub fn acc_lessened(m: Core, x: Made, n: u8, t: u16) -> Act
     requires { m.pc < addresses }
     ensures { result ≡ acc_lessened m x n t }
 {
-    let zero = x.value == 0;
-    let mut r = m.regs;
-    r.acc = x.value;
-    r.zf = zero;
-    r.sf = x.carry;
+    let r = Registers {
+        acc: x.value,
+        zf: x.value == 0,
+        sf: x.carry,
+        ..m.regs
+    };
     past(m, r, n, t)
 }
 
@@ -102,10 +105,12 @@ pub fn acc_logical(m: Core, x: Made, n: u8, t: u16) -> Act
     ensures { result ≡ acc_logical m x n t }
 {
     let zero = x.value == 0;
-    let mut r = m.regs;
-    r.acc = x.value;
-    r.zf = zero;
-    r.sf = !zero;
+    let r = Registers {
+        acc: x.value,
+        zf: zero,
+        sf: !zero,
+        ..m.regs
+    };
     past(m, r, n, t)
 }
 
@@ -114,12 +119,13 @@ pub fn acc_carried(m: Core, x: Made, n: u8, t: u16) -> Act
     requires { m.pc < addresses }
     ensures { result ≡ acc_carried m x n t }
 {
-    let zero = x.value == 0;
-    let mut r = m.regs;
-    r.acc = x.value;
-    r.cf = x.carry;
-    r.zf = zero;
-    r.sf = !x.carry;
+    let r = Registers {
+        acc: x.value,
+        cf: x.carry,
+        zf: x.value == 0,
+        sf: !x.carry,
+        ..m.regs
+    };
     past(m, r, n, t)
 }
 
@@ -128,12 +134,13 @@ pub fn acc_borrowed(m: Core, x: Made, n: u8, t: u16) -> Act
     requires { m.pc < addresses }
     ensures { result ≡ acc_borrowed m x n t }
 {
-    let zero = x.value == 0;
-    let mut r = m.regs;
-    r.acc = x.value;
-    r.cf = x.carry;
-    r.zf = zero;
-    r.sf = x.carry;
+    let r = Registers {
+        acc: x.value,
+        cf: x.carry,
+        zf: x.value == 0,
+        sf: x.carry,
+        ..m.regs
+    };
     past(m, r, n, t)
 }
 
@@ -142,9 +149,11 @@ pub fn hr_loaded(m: Core, v: u8, n: u8, t: u16) -> Act
     requires { m.pc < addresses }
     ensures { result ≡ hr_loaded m v n t }
 {
-    let mut r = m.regs;
-    r.hr = v;
-    r.sf = true;
+    let r = Registers {
+        hr: v,
+        sf: true,
+        ..m.regs
+    };
     past(m, r, n, t)
 }
 
@@ -153,11 +162,12 @@ pub fn hr_summed(m: Core, x: Made, n: u8, t: u16) -> Act
     requires { m.pc < addresses }
     ensures { result ≡ hr_summed m x n t }
 {
-    let zero = x.value == 0;
-    let mut r = m.regs;
-    r.hr = x.value;
-    r.zf = zero;
-    r.sf = !x.carry;
+    let r = Registers {
+        hr: x.value,
+        zf: x.value == 0,
+        sf: !x.carry,
+        ..m.regs
+    };
     past(m, r, n, t)
 }
 
@@ -166,9 +176,11 @@ pub fn lr_loaded(m: Core, v: u8, n: u8, t: u16) -> Act
     requires { m.pc < addresses }
     ensures { result ≡ lr_loaded m v n t }
 {
-    let mut r = m.regs;
-    r.lr = v;
-    r.sf = true;
+    let r = Registers {
+        lr: v,
+        sf: true,
+        ..m.regs
+    };
     past(m, r, n, t)
 }
 
@@ -177,11 +189,12 @@ pub fn lr_summed(m: Core, x: Made, n: u8, t: u16) -> Act
     requires { m.pc < addresses }
     ensures { result ≡ lr_summed m x n t }
 {
-    let zero = x.value == 0;
-    let mut r = m.regs;
-    r.lr = x.value;
-    r.zf = zero;
-    r.sf = !x.carry;
+    let r = Registers {
+        lr: x.value,
+        zf: x.value == 0,
+        sf: !x.carry,
+        ..m.regs
+    };
     past(m, r, n, t)
 }
 
@@ -190,11 +203,12 @@ pub fn lr_lessened(m: Core, x: Made, n: u8, t: u16) -> Act
     requires { m.pc < addresses }
     ensures { result ≡ lr_lessened m x n t }
 {
-    let zero = x.value == 0;
-    let mut r = m.regs;
-    r.lr = x.value;
-    r.zf = zero;
-    r.sf = x.carry;
+    let r = Registers {
+        lr: x.value,
+        zf: x.value == 0,
+        sf: x.carry,
+        ..m.regs
+    };
     past(m, r, n, t)
 }
 
@@ -203,8 +217,10 @@ pub fn went_on(m: Core, n: u8, t: u16) -> Act
     requires { m.pc < addresses }
     ensures { result ≡ went_on m n t }
 {
-    let mut r = m.regs;
-    r.sf = true;
+    let r = Registers {
+        sf: true,
+        ..m.regs
+    };
     past(m, r, n, t)
 }
 
@@ -213,10 +229,11 @@ pub fn summed(m: Core, x: Made, n: u8, t: u16) -> Act
     requires { m.pc < addresses }
     ensures { result ≡ summed m x n t }
 {
-    let zero = x.value == 0;
-    let mut r = m.regs;
-    r.zf = zero;
-    r.sf = !x.carry;
+    let r = Registers {
+        zf: x.value == 0,
+        sf: !x.carry,
+        ..m.regs
+    };
     past(m, r, n, t)
 }
 
@@ -225,10 +242,11 @@ pub fn lessened(m: Core, x: Made, n: u8, t: u16) -> Act
     requires { m.pc < addresses }
     ensures { result ≡ lessened m x n t }
 {
-    let zero = x.value == 0;
-    let mut r = m.regs;
-    r.zf = zero;
-    r.sf = x.carry;
+    let r = Registers {
+        zf: x.value == 0,
+        sf: x.carry,
+        ..m.regs
+    };
     past(m, r, n, t)
 }
 
@@ -238,9 +256,11 @@ pub fn logical(m: Core, x: Made, n: u8, t: u16) -> Act
     ensures { result ≡ logical m x n t }
 {
     let zero = x.value == 0;
-    let mut r = m.regs;
-    r.zf = zero;
-    r.sf = !zero;
+    let r = Registers {
+        zf: zero,
+        sf: !zero,
+        ..m.regs
+    };
     past(m, r, n, t)
 }
 
@@ -250,10 +270,12 @@ pub fn compared(m: Core, x: Made, n: u8, t: u16) -> Act
     ensures { result ≡ compared m x n t }
 {
     let zero = x.value == 0;
-    let mut r = m.regs;
-    r.cf = x.carry;
-    r.zf = zero;
-    r.sf = !zero;
+    let r = Registers {
+        cf: x.carry,
+        zf: zero,
+        sf: !zero,
+        ..m.regs
+    };
     past(m, r, n, t)
 }
 
@@ -262,8 +284,10 @@ pub fn tested(m: Core, answer: bool, n: u8, t: u16) -> Act
     requires { m.pc < addresses }
     ensures { result ≡ tested m answer n t }
 {
-    let mut r = m.regs;
-    r.sf = answer;
+    let r = Registers {
+        sf: answer,
+        ..m.regs
+    };
     past(m, r, n, t)
 }
 
@@ -272,9 +296,11 @@ pub fn cf_tested(m: Core, cf: bool, answer: bool, n: u8, t: u16) -> Act
     requires { m.pc < addresses }
     ensures { result ≡ cf_tested m cf answer n t }
 {
-    let mut r = m.regs;
-    r.cf = cf;
-    r.sf = answer;
+    let r = Registers {
+        cf,
+        sf: answer,
+        ..m.regs
+    };
     past(m, r, n, t)
 }
 
@@ -283,33 +309,19 @@ pub fn nothing(m: Core, n: u8, t: u16) -> Act
     requires { m.pc < addresses }
     ensures { result ≡ nothing m n t }
 {
-    let r = m.regs;
-    past(m, r, n, t)
+    past(m, m.regs, n, t)
 }
 
 // A branch that is taken.
 pub fn jumped(m: Core, pc: u16, t: u16) -> Act
     ensures { result ≡ jumped m pc t }
 {
-    let mut r = m.regs;
-    r.sf = true;
     Act {
-        stop: 0,
         cycles: t,
-        pc: pc,
-        regs: r,
-    }
-}
-
-// A stop leaves PC and the registers as they were, and takes no cycles.
-pub fn stopped(m: Core, number: u8) -> Act
-    ensures { result ≡ stopped m number }
-{
-    let r = m.regs;
-    Act {
-        stop: number,
-        cycles: 0,
-        pc: m.pc,
-        regs: r,
+        pc,
+        regs: Registers {
+            sf: true,
+            ..m.regs
+        },
     }
 }

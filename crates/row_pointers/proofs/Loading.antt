@@ -3,6 +3,8 @@ use mathlib.Core.Path.{◌≡◌}
 use mathlib.Core.Bool.{true, false}
 use Prim.Native.Nat.{ℕ, ◌/◌, ◌%◌}
 use lib.Dec.{eqb}
+use Rattle.std.specs.Prelude.{Ok, Err}
+use Rattle.numbers.specs.declared.Stop.{Stop}
 use Rattle.sheet.specs.Table.{lines, line_at}
 use Rattle.alu.specs.Making.{made}
 use Rattle.alu.specs.Flags.{flag_after}
@@ -10,17 +12,17 @@ use Rattle.record.specs.Ram.{bank_of}
 use Rattle.record.specs.declared.Core.{Core}
 use Rattle.row.specs.Steps.{put_step}
 use Rattle.row.specs.Rows.{work_of}
-use Rattle.row_ends.specs.Ends.{acc_loaded, stopped}
+use Rattle.row_ends.specs.Ends.{acc_loaded}
 use Rattle.row_pointers.specs.Groups.{load_pointer, load_timer}
-use Rattle.row_pointers.specs.Pointed.{Leaves}
+use Rattle.row_pointers.specs.Pointed.{Leaves, loaded}
 use Rattle.laws.proofs.Among.{Each, end, ◌by◌&◌}
 
 -- ACC loaded with v
 abbrev pub Loads : Core → ℕ → ℕ → Type 0
-Loads m row v = Leaves m row (acc_loaded m v 2 2) m.ptrs m.timers
+Loads m row v = Leaves m row (loaded m (Ok (acc_loaded m v 2 2)))
 
 abbrev pub Stops : Core → ℕ → Type 0
-Stops m row = Leaves m row (stopped m 31) m.ptrs m.timers
+Stops m row = Leaves m row (Err Stop.AbsentRamAddress)
 
 module _ (m : Core) (bank : eqb (bank_of m) 0 ≡ true) where
   pub ldadpl : Loads m 88 (m.ptrs.dp % 16)

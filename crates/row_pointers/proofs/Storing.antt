@@ -3,6 +3,7 @@ use mathlib.Core.Path.{◌≡◌}
 use mathlib.Core.Bool.{true, false}
 use lib.Dec.{eqb}
 use Prim.Native.Nat.{ℕ}
+use Rattle.std.specs.Prelude.{Ok}
 use Rattle.sheet.specs.Operation.Part.{low, middle, high}
 use Rattle.sheet.specs.Table.{lines, line_at}
 use Rattle.alu.specs.Making.{made}
@@ -20,10 +21,10 @@ use Rattle.row_pointers.specs.Pointed.{Leaves}
 
 -- SP and DP, or TA and TB, as given
 abbrev pub Points : Core → ℕ → ℕ → ℕ → Type 0
-Points m row sp dp = Leaves m row (went_on m 2 2) (record { sp = sp; dp = dp }) m.timers
+Points m row sp dp = Leaves m row (Ok (record { act = went_on m 2 2; ptrs = record { sp = sp; dp = dp }; timers = m.timers }))
 
 abbrev pub Times : Core → ℕ → ℕ → ℕ → Type 0
-Times m row ta tb = Leaves m row (went_on m 2 2) m.ptrs (record { base = m.timers.base; ta = ta; tb = tb })
+Times m row ta tb = Leaves m row (Ok (record { act = went_on m 2 2; ptrs = m.ptrs; timers = record { base = m.timers.base; ta = ta; tb = tb } }))
 
 module _ (m : Core) (bank : eqb (bank_of m) 0 ≡ true) where
   pub stadpl : Points m 98 m.ptrs.sp (part_put low m.ptrs.dp m.regs.acc)

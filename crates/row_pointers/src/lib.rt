@@ -5,7 +5,11 @@ pub mod loads;
 pub mod rom;
 pub mod stores;
 
-use record::{Pointers, Timers};
+ghost use Rattle.row_pointers.specs.Pointed.{Banked};
+
+use numbers::Stop;
+use record::ram::bank_of;
+use record::{Core, Pointers, Timers};
 use row_ends::Act;
 
 // What a row that changes a pointer or a timer leaves.
@@ -14,4 +18,15 @@ pub struct Pointed {
     pub act: Act,
     pub ptrs: Pointers,
     pub timers: Timers,
+}
+
+// "Timer, DP and SP rows need P9.3 = 0, else 31."
+pub(crate) fn in_bank_0(m: Core) -> Result<(), Stop>
+    ensures { Banked m result }
+{
+    if bank_of(m) == 0 {
+        Ok(())
+    } else {
+        Err(Stop::AbsentRamAddress)
+    }
 }

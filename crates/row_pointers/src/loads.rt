@@ -1,20 +1,20 @@
-// The rows that load ACC from DP, SP, TA or TB. "Timer, DP and SP rows need P9.3 = 0, else 31."
-ghost use Rattle.std.specs.Prelude.{◌≡◌};
+// The rows that load ACC from DP, SP, TA or TB.
+ghost use Rattle.std.specs.Prelude.{Ok, ◌≡◌};
 ghost use Rattle.record.specs.Ram.{bank_of};
 ghost use Rattle.row_pointers.specs.Groups.{load_pointer, load_timer};
-ghost use Rattle.row_pointers.specs.Pointed.{Leaves, Asks};
+ghost use Rattle.row_pointers.specs.Pointed.{Leaves, Asks, loaded};
 
+use crate::in_bank_0;
 use bits::nibble_at;
-use numbers::ABSENT_RAM_ADDRESS;
+use numbers::Stop;
 use record::Core;
-use record::ram::bank_of;
-use row_ends::{Act, acc_loaded, stopped};
+use row_ends::{Act, acc_loaded};
 use sheet::rows;
 
 // The row that is none of those named is LDADPL.
 fn from_pointer(m: Core, row: u8) -> Act
     requires { (Asks load_pointer m row) × (bank_of m ≡ 0) }
-    ensures { Leaves m row result m.ptrs m.timers }
+    ensures { Leaves m row (loaded m (Ok result)) }
 {
     let p = m.ptrs;
     match row {
@@ -28,7 +28,7 @@ fn from_pointer(m: Core, row: u8) -> Act
 // The row that is none of those named is LDATAL.
 fn from_timer(m: Core, row: u8) -> Act
     requires { (Asks load_timer m row) × (bank_of m ≡ 0) }
-    ensures { Leaves m row result m.ptrs m.timers }
+    ensures { Leaves m row (loaded m (Ok result)) }
 {
     let t = m.timers;
     match row {
@@ -41,22 +41,18 @@ fn from_timer(m: Core, row: u8) -> Act
     }
 }
 
-pub fn load_pointer(m: Core, row: u8) -> Act
+pub fn load_pointer(m: Core, row: u8) -> Result<Act, Stop>
     requires { Asks load_pointer m row }
-    ensures { Leaves m row result m.ptrs m.timers }
+    ensures { Leaves m row (loaded m result) }
 {
-    if bank_of(m) == 0 {
-        return from_pointer(m, row);
-    }
-    stopped(m, ABSENT_RAM_ADDRESS)
+    in_bank_0(m)?;
+    Ok(from_pointer(m, row))
 }
 
-pub fn load_timer(m: Core, row: u8) -> Act
+pub fn load_timer(m: Core, row: u8) -> Result<Act, Stop>
     requires { Asks load_timer m row }
-    ensures { Leaves m row result m.ptrs m.timers }
+    ensures { Leaves m row (loaded m result) }
 {
-    if bank_of(m) == 0 {
-        return from_timer(m, row);
-    }
-    stopped(m, ABSENT_RAM_ADDRESS)
+    in_bank_0(m)?;
+    Ok(from_timer(m, row))
 }

@@ -4,36 +4,33 @@ ghost use Rattle.numbers.specs.Sizes.{addresses};
 ghost use Rattle.row_pointers.specs.FromRom.{FromRom};
 
 use crate::Pointed;
-use record::Core;
+use record::{Core, Pointers};
 use row_ends::acc_loaded;
 
+#[tactic(auto, using(crate::proofs::FromRom::ldax))]
 pub fn load_low(m: Core, byte: u8) -> Pointed
     requires { m.pc < addresses }
     ensures { FromRom m 3 byte result }
 {
-    let act = acc_loaded(m, byte % 16, 1, 2);
-    let ptrs = m.ptrs;
-    let timers = m.timers;
     Pointed {
-        act: act,
-        ptrs: ptrs,
-        timers: timers,
+        act: acc_loaded(m, byte % 16, 1, 2),
+        ptrs: m.ptrs,
+        timers: m.timers,
     }
 }
 
 // "DP + 1 wraps at 4096."
+#[tactic(auto, using(crate::proofs::FromRom::ldaxi))]
 pub fn load_high(m: Core, byte: u8) -> Pointed
     requires { (m.pc < addresses) × (m.ptrs.dp < 4096) }
     ensures { FromRom m 4 byte result }
 {
-    let act = acc_loaded(m, byte / 16, 1, 2);
-    let dp = (m.ptrs.dp + 1) % 4096;
-    let mut ptrs = m.ptrs;
-    ptrs.dp = dp;
-    let timers = m.timers;
     Pointed {
-        act: act,
-        ptrs: ptrs,
-        timers: timers,
+        act: acc_loaded(m, byte / 16, 1, 2),
+        ptrs: Pointers {
+            dp: (m.ptrs.dp + 1) % 4096,
+            ..m.ptrs
+        },
+        timers: m.timers,
     }
 }

@@ -1,17 +1,16 @@
-// The rows that store ACC in DP, SP, TA or TB. "Timer, DP and SP rows need P9.3 = 0, else 31."
-ghost use Rattle.std.specs.Prelude.{◌≡◌, ◌<◌};
+// The rows that store ACC in DP, SP, TA or TB.
+ghost use Rattle.std.specs.Prelude.{Ok, ◌≡◌, ◌<◌};
 ghost use Rattle.sheet.specs.Operation.Part.{low, middle, high};
 ghost use Rattle.record.specs.Ram.{bank_of};
 ghost use Rattle.row.specs.Places.{part_put};
 ghost use Rattle.row_ends.specs.Ends.{went_on};
 ghost use Rattle.row_pointers.specs.Groups.{store_pointer, store_timer};
-ghost use Rattle.row_pointers.specs.Pointed.{Leaves, Asks, stopped_with};
+ghost use Rattle.row_pointers.specs.Pointed.{Leaves, Asks};
 
-use crate::Pointed;
-use numbers::ABSENT_RAM_ADDRESS;
-use record::ram::bank_of;
+use crate::{Pointed, in_bank_0};
+use numbers::Stop;
 use record::{Core, Pointers, Timers};
-use row_ends::{stopped, went_on};
+use row_ends::went_on;
 use sheet::rows;
 
 fn low_put(n: u16, v: u8) -> u16
@@ -38,77 +37,82 @@ fn high_put(n: u16, v: u8) -> u16
 // The row that is none of those named is STADPL.
 fn into_pointer(m: Core, row: u8) -> Pointers
     requires { (Asks store_pointer m row) × (bank_of m ≡ 0) }
-    ensures { Leaves m row (went_on m 2 2) result m.timers }
+    ensures { Leaves m row (Ok (record { act = went_on m 2 2; ptrs = result; timers = m.timers })) }
 {
     let v = m.regs.acc;
-    let mut p = m.ptrs;
+    let dp = m.ptrs.dp;
     match row {
-        rows::STADPM => p.dp = middle_put(p.dp, v),
-        rows::STADPH => p.dp = high_put(p.dp, v),
-        rows::STASP => p.sp = v,
-        _ => p.dp = low_put(p.dp, v),
+        rows::STADPM => Pointers {
+            dp: middle_put(dp, v),
+            ..m.ptrs
+        },
+        rows::STADPH => Pointers {
+            dp: high_put(dp, v),
+            ..m.ptrs
+        },
+        rows::STASP => Pointers { sp: v, ..m.ptrs },
+        _ => Pointers {
+            dp: low_put(dp, v),
+            ..m.ptrs
+        },
     }
-    p
 }
 
 // The row that is none of those named is STATAL.
 fn into_timer(m: Core, row: u8) -> Timers
     requires { (Asks store_timer m row) × (bank_of m ≡ 0) }
-    ensures { Leaves m row (went_on m 2 2) m.ptrs result }
+    ensures { Leaves m row (Ok (record { act = went_on m 2 2; ptrs = m.ptrs; timers = result })) }
 {
     let v = m.regs.acc;
-    let mut t = m.timers;
+    let Timers { ta, tb, .. } = m.timers;
     match row {
-        rows::STATAM => t.ta = middle_put(t.ta, v),
-        rows::STATAH => t.ta = high_put(t.ta, v),
-        rows::STATBL => t.tb = low_put(t.tb, v),
-        rows::STATBM => t.tb = middle_put(t.tb, v),
-        rows::STATBH => t.tb = high_put(t.tb, v),
-        _ => t.ta = low_put(t.ta, v),
+        rows::STATAM => Timers {
+            ta: middle_put(ta, v),
+            ..m.timers
+        },
+        rows::STATAH => Timers {
+            ta: high_put(ta, v),
+            ..m.timers
+        },
+        rows::STATBL => Timers {
+            tb: low_put(tb, v),
+            ..m.timers
+        },
+        rows::STATBM => Timers {
+            tb: middle_put(tb, v),
+            ..m.timers
+        },
+        rows::STATBH => Timers {
+            tb: high_put(tb, v),
+            ..m.timers
+        },
+        _ => Timers {
+            ta: low_put(ta, v),
+            ..m.timers
+        },
     }
-    t
 }
 
-fn left(m: Core) -> Pointed
-    ensures { result ≡ stopped_with m }
-{
-    let ptrs = m.ptrs;
-    let timers = m.timers;
-    Pointed {
-        act: stopped(m, ABSENT_RAM_ADDRESS),
-        ptrs: ptrs,
-        timers: timers,
-    }
-}
-
-pub fn store_pointer(m: Core, row: u8) -> Pointed
+pub fn store_pointer(m: Core, row: u8) -> Result<Pointed, Stop>
     requires { Asks store_pointer m row }
-    ensures { Leaves m row result.act result.ptrs result.timers }
+    ensures { Leaves m row result }
 {
-    if bank_of(m) != 0 {
-        return left(m);
-    }
-    let ptrs = into_pointer(m, row);
-    let timers = m.timers;
-    Pointed {
+    in_bank_0(m)?;
+    Ok(Pointed {
         act: went_on(m, 2, 2),
-        ptrs: ptrs,
-        timers: timers,
-    }
+        ptrs: into_pointer(m, row),
+        timers: m.timers,
+    })
 }
 
-pub fn store_timer(m: Core, row: u8) -> Pointed
+pub fn store_timer(m: Core, row: u8) -> Result<Pointed, Stop>
     requires { Asks store_timer m row }
-    ensures { Leaves m row result.act result.ptrs result.timers }
+    ensures { Leaves m row result }
 {
-    if bank_of(m) != 0 {
-        return left(m);
-    }
-    let timers = into_timer(m, row);
-    let ptrs = m.ptrs;
-    Pointed {
+    in_bank_0(m)?;
+    Ok(Pointed {
         act: went_on(m, 2, 2),
-        ptrs: ptrs,
-        timers: timers,
-    }
+        ptrs: m.ptrs,
+        timers: into_timer(m, row),
+    })
 }

@@ -1,42 +1,35 @@
 -- Laws of the stops of the rows of ports: what a stop leaves, and 31 before 33 and 34.
 use Prim.Native.Nat.{ℕ}
 use mathlib.Core.Bool.{Bool, true, false}
-use mathlib.Core.List.{List}
 use mathlib.Core.Path.{◌≡◌, refl}
 use native.Mathlib.Decide.{ℕ_discrete}
 use lib.Dec.{eqb}
 use borrow.Author.Tests.{ne_eqb}
+use Rattle.numbers.specs.Numbered.{stop_number}
+use Rattle.numbers.specs.declared.Stop.{Stop}
 use Rattle.laws.specs.Choice.{pick, either}
 use Rattle.device.specs.Device.{reserved}
 use Rattle.device.specs.declared.Device.{Device}
 use Rattle.frame.specs.declared.Pins.{Pins}
 use Rattle.ports.specs.Ports.{with_latch, is_readable, read_port, is_writable, write_stop, write_port, ReadDone, WriteDone}
 use Rattle.ports.specs.declared.Ports.{Ports}
-use Rattle.record.specs.declared.Core.{Core}
 use Rattle.row.specs.Steps.{first_of}
-use Rattle.row.specs.Rows.{stops}
-use Rattle.record.specs.With.{assembled}
-use Rattle.row.specs.Turns.{done_as, stopped_turn}
-use Rattle.row.specs.declared.Turn.{Turn}
 
-put_stop_by : (t : Bool) (s : ℕ) (x : Turn) (m : Core) (l : List ℕ) → done_as (pick t x (stopped_turn m s)) l ≡ pick t (done_as x l) (stops s (assembled m l))
-put_stop_by true s x m l = refl
-put_stop_by false s x m l = refl
-
--- a stop of what is put
-pub put_stop : (s : ℕ) (x : Turn) (m : Core) (l : List ℕ) → done_as (pick (eqb s 0) x (stopped_turn m s)) l ≡ pick (eqb s 0) (done_as x l) (stops s (assembled m l))
-put_stop s x m l = put_stop_by (eqb s 0) s x m l
+-- a stop has a number of document 01's table
+pub named : (s : Stop) → eqb (stop_number s) 0 ≡ false
+named Stop.UnassignedCode = refl
+named Stop.AbsentRamAddress = refl
+named Stop.StackLevel = refl
+named Stop.AbsentPort = refl
+named Stop.ReservedValue = refl
+named Stop.PastEnd = refl
 
 alone_by : (s : ℕ) → Dec (s ≡ 0) → first_of s 0 ≡ s
 alone_by s (yes e) = rw e
 alone_by s (no ne) = rw (ne_eqb s 0 ne)
 
-alone : (s : ℕ) → first_of s 0 ≡ s
+pub alone : (s : ℕ) → first_of s 0 ≡ s
 alone s = alone_by s (ℕ_discrete s 0)
-
--- a stop of what is got
-pub got_stop_lem : (s : ℕ) (x : Turn) (m : Core) (l : List ℕ) → done_as (pick (eqb s 0) x (stopped_turn m s)) l ≡ pick (eqb (first_of (first_of s 0) 0) 0) (done_as x l) (stops (first_of (first_of s 0) 0) (assembled m l))
-got_stop_lem s x m l = rw (alone s, alone s) (put_stop s x m l)
 
 either_way : (P : ℕ → Type 0) (t : Bool) (s n : ℕ) → P s → P n → P (pick t s n)
 either_way P true s n p q = p

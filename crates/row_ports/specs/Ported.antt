@@ -1,6 +1,7 @@
 -- What a row of the ports gives, held against the table's definition, and what it asks.
-use Rattle.std.specs.Prelude.{ℕ, ◌<◌, true, List, ◌≡◌}
+use Rattle.std.specs.Prelude.{ℕ, ◌<◌, true, List, Result, ◌≡◌}
 use Rattle.numbers.specs.Sizes.{addresses}
+use Rattle.numbers.specs.declared.Stop.{Stop}
 use Rattle.laws.specs.Among.{among}
 use Rattle.device.specs.Device.{limit_of}
 use Rattle.device.specs.declared.Device.{Device}
@@ -17,21 +18,21 @@ use Rattle.row.specs.declared.Turn.{Turn}
 use Rattle.row_ports.specs.Groups.{writing, reading}
 
 -- the row with its operands takes RAM from l to k and gives what x says, whatever the ROM is
-pub record Ported (options : Options) (m : Core) (row a b : ℕ) (l k : List ℕ) (x : Turn) : Type 0 where
-  pub same : (rom : ℕ → ℕ) → done_as x k ≡ executed (record { rom = rom; options = options; insn = insn row a b }) (assembled m l)
+pub record Ported (options : Options) (m : Core) (row a b : ℕ) (l k : List ℕ) (x : Result Turn Stop) : Type 0 where
+  pub same : (rom : ℕ → ℕ) → done_as m x k ≡ executed (record { rom = rom; options = options; insn = insn row a b }) (assembled m l)
 
 -- and leaves RAM as it was, whatever RAM is
-pub record Writes (options : Options) (m : Core) (row a b : ℕ) (x : Turn) : Type 0 where
+pub record Writes (options : Options) (m : Core) (row a b : ℕ) (x : Result Turn Stop) : Type 0 where
   pub ported : (l : List ℕ) → Ported options m row a b l l x
 
-pub record Reads (options : Options) (m : Core) (row a b : ℕ) (x : Turn) : Type 0 where
+pub record Reads (options : Options) (m : Core) (row a b : ℕ) (x : Result Turn Stop) : Type 0 where
   pub ported : (l : List ℕ) → Ported options m row a b l l x
 
 -- INM and OUTM, which have no operand but p
-pub record ToCell (options : Options) (m : Core) (b : ℕ) (l k : List ℕ) (x : Turn) : Type 0 where
+pub record ToCell (options : Options) (m : Core) (b : ℕ) (l k : List ℕ) (x : Result Turn Stop) : Type 0 where
   pub ported : (a : ℕ) → Ported options m 75 a b l k x
 
-pub record FromCell (options : Options) (m : Core) (b : ℕ) (l : List ℕ) (x : Turn) : Type 0 where
+pub record FromCell (options : Options) (m : Core) (b : ℕ) (l : List ℕ) (x : Result Turn Stop) : Type 0 where
   pub ported : (a : ℕ) → Ported options m 78 a b l l x
 
 -- each latch holds a nibble

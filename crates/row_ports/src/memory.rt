@@ -3,45 +3,29 @@ ghost use Rattle.row_ports.specs.Ported.{ToCell, FromCell, ToCellFits, FromCellF
 
 use crate::ends::{left, written};
 use device::Options;
-use numbers::{ABSENT_RAM_ADDRESS, RAM_NIBBLES};
+use numbers::Stop;
 use ports::read_port;
 use record::ram::{at_hl, peek, poke};
 use record::{Core, Ram};
-use row::{Turn, stopped};
+use row::Turn;
 use row_ends::tested;
 
 // INM: - - Z'
-pub fn read_to_cell(options: Options, m: Core, ram: &mut Ram, b: u8) -> Turn
+pub fn read_to_cell(options: Options, m: Core, ram: &mut Ram, b: u8) -> Result<Turn, Stop>
     requires { ToCellFits options.device m b }
     ensures { ToCell options m b ram.old ram.new result }
 {
-    let d = options.device;
-    let at = at_hl(m);
-    let pins = m.pins;
-    let before = m.ports;
-    let r = read_port(d, options.sound, pins, before, b);
-    let stop = r.stop;
-    if at >= RAM_NIBBLES {
-        return stopped(m, ABSENT_RAM_ADDRESS);
-    }
-    if stop != 0 {
-        return stopped(m, stop);
-    }
-    poke(ram, at, r.value);
-    let ports = r.ports;
-    left(m, tested(m, r.value != 0, 2, 2), ports)
+    let at = at_hl(m)?;
+    let read = read_port(options.device, options.sound, m.pins, m.ports, b)?;
+    poke(ram, at, read.value);
+    Ok(left(m, tested(m, read.value != 0, 2, 2), read.ports))
 }
 
 // OUTM: - - 1
-pub fn write_from_cell(options: Options, m: Core, ram: &Ram, b: u8) -> Turn
+pub fn write_from_cell(options: Options, m: Core, ram: &Ram, b: u8) -> Result<Turn, Stop>
     requires { FromCellFits m b ram.now }
     ensures { FromCell options m b ram.now result }
 {
-    let at = at_hl(m);
-    if at < RAM_NIBBLES {
-        let d = options.device;
-        let v = peek(ram, at);
-        return written(d, m, b, v, 2);
-    }
-    stopped(m, ABSENT_RAM_ADDRESS)
+    let v = peek(ram, at_hl(m)?);
+    written(options.device, m, b, v, 2)
 }

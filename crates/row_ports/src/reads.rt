@@ -1,12 +1,13 @@
 // The rows that read or test a port, and leave ACC or SF by it.
 ghost use Rattle.std.specs.Prelude.{◌≡◌, ◌<◌};
-ghost use Rattle.row_ports.specs.Ends.{bit_answer, port_tested, port_loaded};
+ghost use Rattle.row_ports.specs.Ends.{Tells, bit_answer, port_tested, port_loaded};
 ghost use Rattle.row_ports.specs.Ported.{Reads, ReadFits, Readable};
 
-use crate::ends::after_read;
+use crate::ends::left;
 use alu::Made;
 use bits::has_bit;
 use device::Options;
+use numbers::Stop;
 use ports::read_port;
 use record::Core;
 use row::Turn;
@@ -19,44 +20,34 @@ fn answered(one: bool, v: u8, w: u8) -> bool
     requires { 0 < w }
     ensures { result ≡ bit_answer one v w }
 {
-    if one {
-        return has_bit(v, w);
-    }
-    !has_bit(v, w)
+    has_bit(v, w) == one
 }
 
 // - - *, by a row of so many bytes.
-fn port_tested(options: Options, m: Core, n: u8, w: u8, one: bool, bytes: u8) -> Turn
+fn port_tested(options: Options, m: Core, n: u8, w: u8, one: bool, bytes: u8) -> Result<Turn, Stop>
     requires { (Readable options.device m n) × (0 < w) }
-    ensures { result ≡ port_tested options m n w one bytes }
+    ensures { Tells m (port_tested options m n w one bytes) result }
 {
-    let d = options.device;
-    let pins = m.pins;
-    let ports = m.ports;
-    let r = read_port(d, options.sound, pins, ports, n);
-    let act = tested(m, answered(one, r.value, w), bytes, 2);
-    after_read(m, r, act)
+    let read = read_port(options.device, options.sound, m.pins, m.ports, n)?;
+    let act = tested(m, answered(one, read.value, w), bytes, 2);
+    Ok(left(m, act, read.ports))
 }
 
 // INA: - Z Z'
-fn port_loaded(options: Options, m: Core, n: u8) -> Turn
+fn port_loaded(options: Options, m: Core, n: u8) -> Result<Turn, Stop>
     requires { Readable options.device m n }
-    ensures { result ≡ port_loaded options m n }
+    ensures { Tells m (port_loaded options m n) result }
 {
-    let d = options.device;
-    let pins = m.pins;
-    let ports = m.ports;
-    let r = read_port(d, options.sound, pins, ports, n);
+    let read = read_port(options.device, options.sound, m.pins, m.ports, n)?;
     let moved = Made {
-        value: r.value,
+        value: read.value,
         carry: false,
     };
-    let act = acc_logical(m, moved, 2, 2);
-    after_read(m, r, act)
+    Ok(left(m, acc_logical(m, moved, 2, 2), read.ports))
 }
 
 // TFPL names port LR 3..2 + 4 and bit LR 1..0. The row that is none of those named is INA.
-pub fn read_row(options: Options, m: Core, row: u8, a: u8, b: u8) -> Turn
+pub fn read_row(options: Options, m: Core, row: u8, a: u8, b: u8) -> Result<Turn, Stop>
     requires { ReadFits options.device m row b }
     ensures { Reads options m row a b result }
 {

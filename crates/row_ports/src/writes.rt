@@ -1,11 +1,12 @@
 // The rows that write a port, whole or a bit of it.
 ghost use Rattle.std.specs.Prelude.{◌≡◌, ◌<◌};
-ghost use Rattle.row_ports.specs.Ends.{bit_set, bit_cleared};
+ghost use Rattle.row_ports.specs.Ends.{Tells, bit_set, bit_cleared};
 ghost use Rattle.row_ports.specs.Ported.{Writes, WriteFits, NibbleLatches, Held, Names};
 
 use crate::ends::written;
 use bits::{with_bit, without_bit};
 use device::{Device, Options};
+use numbers::Stop;
 use ports::{Ports, latch};
 use record::Core;
 use row::Turn;
@@ -21,26 +22,22 @@ fn held(p: Ports, n: u8) -> u8
 }
 
 // "Set and clear use the latch." A bit is named by its weight.
-fn bit_set(d: Device, m: Core, n: u8, w: u8, bytes: u8) -> Turn
+fn bit_set(d: Device, m: Core, n: u8, w: u8, bytes: u8) -> Result<Turn, Stop>
     requires { Names m n w }
-    ensures { result ≡ bit_set d m n w bytes }
+    ensures { Tells m (bit_set d m n w bytes) result }
 {
-    let ports = m.ports;
-    let v = held(ports, n);
-    written(d, m, n, with_bit(v, w), bytes)
+    written(d, m, n, with_bit(held(m.ports, n), w), bytes)
 }
 
-fn bit_cleared(d: Device, m: Core, n: u8, w: u8, bytes: u8) -> Turn
+fn bit_cleared(d: Device, m: Core, n: u8, w: u8, bytes: u8) -> Result<Turn, Stop>
     requires { Names m n w }
-    ensures { result ≡ bit_cleared d m n w bytes }
+    ensures { Tells m (bit_cleared d m n w bytes) result }
 {
-    let ports = m.ports;
-    let v = held(ports, n);
-    written(d, m, n, without_bit(v, w), bytes)
+    written(d, m, n, without_bit(held(m.ports, n), w), bytes)
 }
 
 // CLPL and SEPL name port LR 3..2 + 4 and bit LR 1..0. The row that is none of those named is OUTA.
-pub fn write_row(options: Options, m: Core, row: u8, a: u8, b: u8) -> Turn
+pub fn write_row(options: Options, m: Core, row: u8, a: u8, b: u8) -> Result<Turn, Stop>
     requires { WriteFits m row b }
     ensures { Writes options m row a b result }
 {

@@ -2,21 +2,22 @@
 use mathlib.Core.Path.{◌≡◌}
 use mathlib.Core.Bool.{false}
 use mathlib.Core.List.{List}
+use Rattle.std.specs.Prelude.{Err}
 use Prim.Native.Nat.{ℕ}
 use lib.Dec.{ltb}
+use Rattle.numbers.specs.declared.Stop.{Stop}
 use Rattle.sheet.specs.Table.{lines, line_at}
 use Rattle.alu.specs.Making.{made}
 use Rattle.record.specs.Ram.{at_hl, at_x, at_y}
 use Rattle.record.specs.declared.Core.{Core}
 use Rattle.row.specs.Steps.{put_step, exchange_step}
 use Rattle.row.specs.Rows.{work_of}
-use Rattle.row_ends.specs.Ends.{stopped}
 use Rattle.row_ram.specs.Groups.{read_by_hl, read_by_x, read_by_y, written_by_hl, written_by_x, written_by_y}
 use Rattle.row_ram.specs.Cells.{Does}
 use Rattle.laws.proofs.Among.{Each, end, ◌by◌&◌}
 
 abbrev pub Stopped : Core → ℕ → ℕ → List ℕ → ℕ → Type 0
-Stopped m a b l row = Does m row a b l l (stopped m 31)
+Stopped m a b l row = Does m row a b l l (Err Stop.AbsentRamAddress)
 
 module _ (m : Core) (a b : ℕ) (l : List ℕ) where
   pub absent-read-by-hl : ltb (at_hl m) 372 ≡ false → Each (Stopped m a b l) read_by_hl

@@ -8,11 +8,11 @@ ghost use Rattle.row_ram.specs.Cells.{Reads, Does, Fits};
 
 use alu::{and, minus, minus_cf, or, plus, plus_cf, xor};
 use bits::has_bit;
-use numbers::{ABSENT_RAM_ADDRESS, RAM_NIBBLES};
+use numbers::Stop;
 use record::ram::{at_hl, peek};
 use record::{Core, Ram};
 use row_ends::{
-    Act, acc_borrowed, acc_carried, acc_loaded, acc_logical, acc_summed, compared, stopped, tested,
+    Act, acc_borrowed, acc_carried, acc_loaded, acc_logical, acc_summed, compared, tested,
 };
 use row_registers::weight;
 use sheet::{Insn, rows};
@@ -38,14 +38,10 @@ fn reading(m: Core, row: u8, a: u8, v: u8) -> Act
 }
 
 // The row on the RAM that is lent.
-pub fn read_by_hl(m: Core, ram: &Ram, i: Insn) -> Act
+pub fn read_by_hl(m: Core, ram: &Ram, i: Insn) -> Result<Act, Stop>
     requires { Fits read_by_hl 16 m i ram.now }
     ensures { Does m i.row i.a i.b ram.now ram.now result }
 {
-    let at = at_hl(m);
-    if at < RAM_NIBBLES {
-        let v = peek(ram, at);
-        return reading(m, i.row, i.a as u8, v);
-    }
-    stopped(m, ABSENT_RAM_ADDRESS)
+    let at = at_hl(m)?;
+    Ok(reading(m, i.row, i.a as u8, peek(ram, at)))
 }

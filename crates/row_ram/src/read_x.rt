@@ -7,10 +7,10 @@ ghost use Rattle.row_ram.specs.Groups.{read_by_x};
 ghost use Rattle.row_ram.specs.Cells.{Reads, Does, Fits};
 
 use alu::minus;
-use numbers::{ABSENT_RAM_ADDRESS, RAM_NIBBLES};
+use numbers::Stop;
 use record::ram::{at_x, peek};
 use record::{Core, Ram};
-use row_ends::{Act, acc_loaded, compared, stopped};
+use row_ends::{Act, acc_loaded, compared};
 use sheet::{Insn, rows};
 
 // v is the nibble at x. The row that is none of those named is LDA.
@@ -25,14 +25,10 @@ fn reading(m: Core, row: u8, x: u16, v: u8) -> Act
 }
 
 // The row on the RAM that is lent.
-pub fn read_by_x(m: Core, ram: &Ram, i: Insn) -> Act
+pub fn read_by_x(m: Core, ram: &Ram, i: Insn) -> Result<Act, Stop>
     requires { Fits read_by_x 256 m i ram.now }
     ensures { Does m i.row i.a i.b ram.now ram.now result }
 {
-    let at = at_x(m, i.a);
-    if at < RAM_NIBBLES {
-        let v = peek(ram, at);
-        return reading(m, i.row, i.a, v);
-    }
-    stopped(m, ABSENT_RAM_ADDRESS)
+    let at = at_x(m, i.a)?;
+    Ok(reading(m, i.row, i.a, peek(ram, at)))
 }

@@ -8,10 +8,10 @@ ghost use Rattle.row_ram.specs.Cells.{Reads, Does, Fits};
 
 use alu::minus;
 use bits::has_bit;
-use numbers::{ABSENT_RAM_ADDRESS, RAM_NIBBLES};
+use numbers::Stop;
 use record::ram::{at_y, peek};
 use record::{Core, Ram};
-use row_ends::{Act, compared, stopped, tested};
+use row_ends::{Act, compared, tested};
 use row_registers::weight;
 use sheet::{Insn, rows};
 
@@ -28,14 +28,10 @@ fn reading(m: Core, row: u8, a: u8, v: u8) -> Act
 }
 
 // The row on the RAM that is lent.
-pub fn read_by_y(m: Core, ram: &Ram, i: Insn) -> Act
+pub fn read_by_y(m: Core, ram: &Ram, i: Insn) -> Result<Act, Stop>
     requires { Fits read_by_y 16 m i ram.now }
     ensures { Does m i.row i.a i.b ram.now ram.now result }
 {
-    let at = at_y(i.b);
-    if at < RAM_NIBBLES {
-        let v = peek(ram, at);
-        return reading(m, i.row, i.a as u8, v);
-    }
-    stopped(m, ABSENT_RAM_ADDRESS)
+    let at = at_y(i.b)?;
+    Ok(reading(m, i.row, i.a as u8, peek(ram, at)))
 }

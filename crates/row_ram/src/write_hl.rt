@@ -9,12 +9,10 @@ ghost use Rattle.row_ram.specs.Cells.{Stores, Does, Fits};
 use crate::Stored;
 use alu::{and, minus, or, plus};
 use bits::{with_bit, without_bit};
-use numbers::{ABSENT_RAM_ADDRESS, RAM_NIBBLES};
+use numbers::Stop;
 use record::ram::{at_hl, peek, poke};
 use record::{Core, Ram};
-use row_ends::{
-    Act, acc_loaded, lessened, logical, lr_lessened, lr_summed, stopped, summed, went_on,
-};
+use row_ends::{Act, acc_loaded, lessened, logical, lr_lessened, lr_summed, summed, went_on};
 use row_registers::weight;
 use sheet::{Insn, rows};
 
@@ -101,16 +99,12 @@ fn writing(m: Core, row: u8, a: u8, v: u8) -> Stored
 }
 
 // The row on the RAM that is lent.
-pub fn write_by_hl(m: Core, ram: &mut Ram, i: Insn) -> Act
+pub fn write_by_hl(m: Core, ram: &mut Ram, i: Insn) -> Result<Act, Stop>
     requires { Fits written_by_hl 16 m i ram.old }
     ensures { Does m i.row i.a i.b ram.old ram.new result }
 {
-    let at = at_hl(m);
-    if at < RAM_NIBBLES {
-        let v = peek(ram, at);
-        let s = writing(m, i.row, i.a as u8, v);
-        poke(ram, at, s.value);
-        return s.act;
-    }
-    stopped(m, ABSENT_RAM_ADDRESS)
+    let at = at_hl(m)?;
+    let stored = writing(m, i.row, i.a as u8, peek(ram, at));
+    poke(ram, at, stored.value);
+    Ok(stored.act)
 }

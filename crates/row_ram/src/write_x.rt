@@ -7,10 +7,10 @@ ghost use Rattle.row_ram.specs.Groups.{written_by_x};
 ghost use Rattle.row_ram.specs.Cells.{Stores, Does, Fits};
 
 use crate::Stored;
-use numbers::{ABSENT_RAM_ADDRESS, RAM_NIBBLES};
+use numbers::Stop;
 use record::ram::{at_x, peek, poke};
 use record::{Core, Ram};
-use row_ends::{Act, acc_loaded, stopped, went_on};
+use row_ends::{Act, acc_loaded, went_on};
 use sheet::{Insn, rows};
 
 // v is the nibble there. The row that is none of those named is STA.
@@ -31,16 +31,12 @@ fn writing(m: Core, row: u8, x: u16, v: u8) -> Stored
 }
 
 // The row on the RAM that is lent.
-pub fn write_by_x(m: Core, ram: &mut Ram, i: Insn) -> Act
+pub fn write_by_x(m: Core, ram: &mut Ram, i: Insn) -> Result<Act, Stop>
     requires { Fits written_by_x 256 m i ram.old }
     ensures { Does m i.row i.a i.b ram.old ram.new result }
 {
-    let at = at_x(m, i.a);
-    if at < RAM_NIBBLES {
-        let v = peek(ram, at);
-        let s = writing(m, i.row, i.a, v);
-        poke(ram, at, s.value);
-        return s.act;
-    }
-    stopped(m, ABSENT_RAM_ADDRESS)
+    let at = at_x(m, i.a)?;
+    let stored = writing(m, i.row, i.a, peek(ram, at));
+    poke(ram, at, stored.value);
+    Ok(stored.act)
 }

@@ -5,6 +5,7 @@ use mathlib.Core.List.{List}
 use Prim.Native.Nat.{ℕ}
 use lib.Dec.{ltb}
 use lib.ListN.{get_or, set}
+use Rattle.std.specs.Prelude.{Ok}
 use Rattle.sheet.specs.Table.{lines, line_at}
 use Rattle.alu.specs.Making.{made}
 use Rattle.alu.specs.Flags.{flag_after}
@@ -19,11 +20,11 @@ use Rattle.laws.proofs.Among.{Each, end, ◌by◌&◌}
 use Rattle.row_ram.proofs.Absent.{Stopped}
 
 module _ (m : Core) (a b : ℕ) (l : List ℕ) where
-  pub ldhl : ltb (at_x m a) 372 ≡ true → ltb (beside_x m a) 372 ≡ true → Does m 6 a b l l (hl_loaded m (get_or l (beside_x m a) 0) (get_or l (at_x m a) 0))
+  pub ldhl : ltb (at_x m a) 372 ≡ true → ltb (beside_x m a) 372 ≡ true → Does m 6 a b l l (Ok (hl_loaded m (get_or l (beside_x m a) 0) (get_or l (at_x m a) 0)))
   unfolding line_at lines work_of put_step made flag_after
   ldhl h g = record { same = λ rom options. rw (h, g) }
 
-  pub exhl : ltb (at_x m a) 372 ≡ true → ltb (beside_x m a) 372 ≡ true → Does m 46 a b l (set (set l (at_x m a) m.regs.lr) (beside_x m a) m.regs.hr) (hl_loaded m (get_or (set l (at_x m a) m.regs.lr) (beside_x m a) 0) (get_or l (at_x m a) 0))
+  pub exhl : ltb (at_x m a) 372 ≡ true → ltb (beside_x m a) 372 ≡ true → Does m 46 a b l (set (set l (at_x m a) m.regs.lr) (beside_x m a) m.regs.hr) (Ok (hl_loaded m (get_or (set l (at_x m a) m.regs.lr) (beside_x m a) 0) (get_or l (at_x m a) 0)))
   unfolding line_at lines work_of exchange_step flag_after
   exhl h g = record { same = λ rom options. rw (h, g) }
 

@@ -5,7 +5,7 @@ use Rattle.device.specs.declared.Options.{Options}
 use Rattle.sheet.specs.Reading.{insn}
 use Rattle.record.specs.With.{assembled, core_with_regs, core_with_pc}
 use Rattle.record.specs.declared.Core.{Core}
-use Rattle.row.specs.Rows.{Done, executed}
+use Rattle.row.specs.Rows.{Done, spent, executed}
 use Rattle.row_ends.specs.declared.Act.{Act}
 
 -- the scalars after a row that changes PC and the registers
@@ -13,7 +13,7 @@ abbrev pub after_act : Core → Act → Core
 after_act m x = core_with_pc (core_with_regs m x.regs) x.pc
 
 abbrev pub done_by : Core → Act → List ℕ → Done
-done_by m x l = record { stop = x.stop; cycles = x.cycles; machine = assembled (after_act m x) l }
+done_by m x l = spent x.cycles (assembled (after_act m x) l)
 
 -- the row with its operand gives what x says, whatever RAM, ROM, the options and the other operand are
 pub record Quiet (m : Core) (row a : ℕ) (x : Act) : Type 0 where

@@ -36,7 +36,8 @@ pub fn branched(m: Core, row: u8, a: u16) -> Act
     ensures { Quiet m row a result }
 {
     if m.regs.sf {
-        return taken(m, row, a);
+        taken(m, row, a)
+    } else {
+        passed(m, row, a)
     }
-    passed(m, row, a)
 }

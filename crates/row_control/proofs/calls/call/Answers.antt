@@ -8,7 +8,7 @@ use Rattle.row_control.proofs.Calling.{lcall, scall, stop}
 use Rattle.row_control.proofs.calls.call.Goals as goal
 
 pub returns-then-not-can_push : goal.returns-then-not-can_push
-returns-then-not-can_push c = rw c.stopped.ensures (stop _ _ _ _ (rw (← c.can_push.ensures) c.if-not-can_push.true) c.requires.2)
+returns-then-not-can_push c = stop _ _ _ _ (rw (← c.can_push.ensures) c.if-not-can_push.true) c.requires.2
 
 pub called-requires : goal.called-requires
 called-requires c = (c.requires.1, can-push (rw (← c.can_push.ensures) c.if-not-can_push.false), omega arith)

@@ -23,4 +23,4 @@ pub returns-in-16 : goal.returns-in-16
 returns-in-16 c = rom-read _ _ _ 3 _ (first rom_low _ (regrouped c.requires.0.core c.requires.1 16 c.in-16.is).row tt) (rw (← c.rom_byte.ensures) c.load_low.ensures)
 
 pub returns-in_default : goal.returns-in_default
-returns-in_default c = rom-read _ _ _ 4 _ (first rom_high _ (regrouped c.requires.0.core c.requires.1 17 (last (16 ∷ 15 ∷ 14 ∷ []) 14 18 17 tt c.args.group c.requires.3 c.requires.4 (search rules))).row tt) (rw (← c.rom_byte-in_default.ensures) c.load_high.ensures)
+returns-in_default c = rom-read _ _ _ 4 _ (first rom_high _ (regrouped c.requires.0.core c.requires.1 17 (last (16 ∷ 15 ∷ 14 ∷ []) 14 18 17 tt c.args.group c.requires.2 c.requires.3 (search rules))).row tt) (rw (← c.rom_byte-in_default.ensures) c.load_high.ensures)

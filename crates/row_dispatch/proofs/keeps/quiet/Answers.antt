@@ -4,7 +4,7 @@ use mathlib.Core.List.{[], ◌∷◌}
 use native.Mathlib.Omega.{arith}
 use borrow.Author.Rules.{rules}
 use Rattle.row_dispatch.proofs.Groups.{last}
-use Rattle.row_dispatch.proofs.Arms.{regrouped, low, asks, settled, loaded}
+use Rattle.row_dispatch.proofs.Arms.{regrouped, low, asks, settled, loaded-settled}
 use Rattle.row_dispatch.proofs.keeps.quiet.Goals as goal
 
 pub overflow_cast-i : goal.overflow_cast-i
@@ -47,7 +47,7 @@ pub returns-in-3 : goal.returns-in-3
 returns-in-3 c = settled _ _ _ c.branched.ensures
 
 pub returns-in-4 : goal.returns-in-4
-returns-in-4 c = loaded _ _ _ c.load_pointer.ensures
+returns-in-4 c = loaded-settled _ _ _ c.load_pointer.ensures
 
 pub returns-in_default : goal.returns-in_default
-returns-in_default c = loaded _ _ _ c.load_timer.ensures
+returns-in_default c = loaded-settled _ _ _ c.load_timer.ensures

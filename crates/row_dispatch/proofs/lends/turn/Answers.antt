@@ -6,7 +6,7 @@ use borrow.Author.Rules.{rules}
 use Rattle.row_dispatch.specs.Groups.{port_to_cell, cell_to_port}
 use Rattle.row_dispatch.proofs.Groups.{last}
 use Rattle.row.proofs.PlacesValid.{latch_low}
-use Rattle.row_dispatch.proofs.Arms.{regrouped, turned, ported, ported-by}
+use Rattle.row_dispatch.proofs.Arms.{regrouped, turns, ported, ported-by}
 use Rattle.row_dispatch.proofs.lends.turn.Goals as goal
 
 pub overflow_cast-i : goal.overflow_cast-i
@@ -34,13 +34,13 @@ pub read_row-requires : goal.read_row-requires
 read_row-requires c = let v = c.requires.0 in record { regs = v.regs; pc = v.pc; pins = v.pins.p4; port = c.requires.2.b; listed = (regrouped c.requires.0 c.requires.2 22 c.in-22.is).row }
 
 pub returns-in-18 : goal.returns-in-18
-returns-in-18 c = turned _ _ _ _ _ _ (c.latch.ensures.turns _)
+returns-in-18 c = turns _ _ _ _ _ _ (c.latch.ensures.turns _)
 
 pub returns-in-19 : goal.returns-in-19
-returns-in-19 c = turned _ _ _ _ _ _ (c.come_back.ensures.turns _)
+returns-in-19 c = turns _ _ _ _ _ _ (c.come_back.ensures.turns _)
 
 pub returns-in-20 : goal.returns-in-20
-returns-in-20 c = turned _ _ _ _ _ _ c.call.ensures
+returns-in-20 c = turns _ _ _ _ _ _ c.call.ensures
 
 pub returns-in-21 : goal.returns-in-21
 returns-in-21 c = ported _ _ _ _ _ _ (c.write_row.ensures.ported _)

@@ -1,16 +1,15 @@
 -- `row_ports::ends::written` meets its contract.
-use borrow.Author.Tests.{eq-eqb, ne_eqb}
+use Rattle.std.proofs.Common.{rules, ◌≡◌, Err}
 use Rattle.row_ports.specs.Ends.{written}
-use borrow.Author.Rules.{rules}
+use Rattle.row_ports.proofs.Stops.{named}
 use Rattle.row_ports.proofs.ends.written.Goals as goal
 
-pub returns-then-w-ne0 : goal.returns-then-w-ne0
+pub returns-in_err-ports : goal.returns-in_err-ports
 unfolding written
-returns-then-w-ne0 c = rw (c.stopped.ensures, ← c.write_port-w.ensures, ne_eqb _ _ c.if-w-ne0.true)
-
-pub wrote-requires : goal.wrote-requires
-wrote-requires c = (search rules, rw c.write_port-w.ensures)
+returns-in_err-ports c =
+    let stop : c.from_residual.result ≡ Err c.in_err-ports.field-0.0 = search rules in
+    λ l. rw (stop, ← c.in_err-ports.ensures, named)
 
 pub returns : goal.returns
 unfolding written
-returns c = rw (c.wrote.ensures, ← c.write_port-w.ensures, eq-eqb _ _ c.if-w-ne0.false)
+returns c = λ l. rw (c.wrote.ensures, ← c.in_ok-ports.ensures)

@@ -1,12 +1,9 @@
 -- `row_ram::read_x::read_by_x` meets its contract.
-use Rattle.sheet.specs.Operation.Cell.{by_x}
+use Rattle.std.proofs.Common.{rules}
 use Rattle.row_ram.specs.Groups.{read_by_x}
 use Rattle.row_ram.proofs.Absent.{absent-read-by-x}
-use Rattle.row_ram.proofs.Around.{read_there, stopped_there}
+use Rattle.row_ram.proofs.Around.{stopped_there}
 use Rattle.row_ram.proofs.read_x.read_by_x.Goals as goal
 
-pub returns-then-at-lt-RAM_NIBBLES : goal.returns-then-at-lt-RAM_NIBBLES
-returns-then-at-lt-RAM_NIBBLES c = read_there by_x _ _ _ _ _ _ _ _ c.at_x-at.ensures c.if-at-lt-RAM_NIBBLES.true c.peek-v.ensures c.reading.ensures
-
-pub returns : goal.returns
-returns c = stopped_there _ read_by_x _ _ _ _ _ _ _ c.at_x-at.ensures c.if-at-lt-RAM_NIBBLES.false c.stopped.ensures (absent-read-by-x _ _ _ _) c.requires.row
+pub returns-in_err-at : goal.returns-in_err-at
+returns-in_err-at c = stopped_there _ read_by_x _ _ _ _ _ _ _ (search rules) c.in_err-at.ensures (absent-read-by-x _ _ _ _) c.requires.row
