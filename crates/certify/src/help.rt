@@ -1,15 +1,10 @@
 // What the program answers to --help.
-use program::help::is_told;
+use program::help::Manual;
 
-// Whether the first word asked for the help or for the version, which are then written.
-pub fn is_asked(rt: &HostRuntime) -> bool {
-    is_told(
-        rt,
-        b"certify: a page about the interrupt handlers of an image, to be signed.
-
-usage: certify [--device NAME [--p3 N]] IMAGE
-
-  --device NAME  EM73862 (the default) or EM73P982
+pub const MANUAL: Manual<'static> = Manual {
+    purpose: b"certify: a page about the interrupt handlers of an image, to be signed.\n",
+    usage: b"usage: certify [--device NAME [--p3 N]] IMAGE\n",
+    rest: b"  --device NAME  EM73862 (the default) or EM73P982
   --p3 N         P3, decimal, with --device EM73P982 (the default is 0)
   IMAGE          a file of 8,192 bytes, of the EM73P982 of 16,384
   --help, -h     this text; --version the version. Each as the first word.
@@ -26,5 +21,4 @@ answers:
 The exit status is 0 also for a refusal: a script goes by the first word of
 the answer.
 ",
-    )
-}
+};

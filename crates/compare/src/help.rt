@@ -1,15 +1,10 @@
 // What the program answers to --help.
-use program::help::is_told;
+use program::help::Manual;
 
-// Whether the first word asked for the help or for the version, which are then written.
-pub fn is_asked(rt: &HostRuntime) -> bool {
-    is_told(
-        rt,
-        b"compare: whether a listing is what runner prints for an image and a script.
-
-usage: compare [--device NAME] IMAGE SCRIPT LISTING
-
-  --device NAME  EM73862 (the default) or EM73P982
+pub const MANUAL: Manual<'static> = Manual {
+    purpose: b"compare: whether a listing is what runner prints for an image and a script.\n",
+    usage: b"usage: compare [--device NAME] IMAGE SCRIPT LISTING\n",
+    rest: b"  --device NAME  EM73862 (the default) or EM73P982
   IMAGE          a file of 8,192 bytes, of the EM73P982 of 16,384
   SCRIPT         a file with a frame a line: three digits, of the EM73P982 four
   LISTING        the file to judge
@@ -30,5 +25,4 @@ A script that cannot be read is refused 03 too.
 The exit status is 0 also where they differ: a script goes by the first word of
 the answer.
 ",
-    )
-}
+};

@@ -1,15 +1,10 @@
 // What the program answers to --help.
-use program::help::is_told;
+use program::help::Manual;
 
-// Whether the first word asked for the help or for the version, which are then written.
-pub fn is_asked(rt: &HostRuntime) -> bool {
-    is_told(
-        rt,
-        b"flow: the flow of a handler as a picture, in Graphviz's DOT.
-
-usage: flow [--device NAME [--p3 N]] IMAGE ADDRESS
-
-  --device NAME  EM73862 (the default) or EM73P982
+pub const MANUAL: Manual<'static> = Manual {
+    purpose: b"flow: the flow of a handler as a picture, in Graphviz's DOT.\n",
+    usage: b"usage: flow [--device NAME [--p3 N]] IMAGE ADDRESS\n",
+    rest: b"  --device NAME  EM73862 (the default) or EM73P982
   --p3 N         P3, decimal, with --device EM73P982 (the default is 0)
   IMAGE          a file of 8,192 bytes, of the EM73P982 of 16,384
   ADDRESS        one to four hexadecimal digits
@@ -30,5 +25,4 @@ answers:
 The exit status is 0 also for a refusal: a script goes by the first word of
 the answer.
 ",
-    )
-}
+};

@@ -1,15 +1,10 @@
 // What the program answers to --help.
-use program::help::is_told;
+use program::help::Manual;
 
-// Whether the first word asked for the help or for the version, which are then written.
-pub fn is_asked(rt: &HostRuntime) -> bool {
-    is_told(
-        rt,
-        b"fromhex: the image that a text of Intel HEX gives.
-
-usage: fromhex [--device NAME] < TEXT
-
-  --device NAME  EM73862 (the default) or EM73P982
+pub const MANUAL: Manual<'static> = Manual {
+    purpose: b"fromhex: the image that a text of Intel HEX gives.\n",
+    usage: b"usage: fromhex [--device NAME] < TEXT\n",
+    rest: b"  --device NAME  EM73862 (the default) or EM73P982
   TEXT           data records and the end record; bytes that none gives are FF
   --help, -h     this text; --version the version. Each as the first word.
 
@@ -28,5 +23,4 @@ written:
 The exit status is 0 also for a refusal: a script goes by the size of what was
 written, which is 8,192 bytes, of the EM73P982 16,384, or none.
 ",
-    )
-}
+};

@@ -8,9 +8,6 @@ use Rattle.device.specs.declared.Device.TheVariants.{Em73862, Em73P982}
 use Rattle.text.specs.Digits.{characters}
 use Rattle.text.specs.Same.{same_text}
 use Rattle.text.specs.Words.{number_of, word_address}
-use Rattle.text.specs.declared.words.Address.{Address}
-use Rattle.text.specs.declared.words.Number.{Number}
-use Rattle.text.specs.declared.words.Number.TheVariants.{Value, Nothing}
 use Rattle.program.specs.declared.words.Chosen.{Chosen}
 
 -- a device, P3, and how many words stand before the image
@@ -28,9 +25,9 @@ unfoldable pub device_words : List ℕ → List ℕ → Option Chosen
 device_words one two = pick (same_text one (characters "--device")) (name_of two) (chosen Em73862 0 0)
 
 -- "an N that is no number: the usage line"; a device without P3 takes none
-abbrev pub with_p3 : Device → Number → Option Chosen
-with_p3 d (Value p3) = chosen d p3 4
-with_p3 d Nothing = None
+abbrev pub with_p3 : Device → Option ℕ → Option Chosen
+with_p3 d (Some p3) = chosen d p3 4
+with_p3 d None = None
 
 unfoldable pub p3_word : Device → List ℕ → Option Chosen
 p3_word d n = pick (among (also_writable d) 3) (with_p3 d (number_of 10 n)) None
@@ -50,5 +47,5 @@ abbrev pub bare_of : List ℕ → List ℕ
 bare_of word = pick (same_text (take 2 word) (characters "0x")) (drop 2 word) (pick (eqb (get_or word (length word - 1) 0) 104) (take (length word - 1) word) word)
 
 -- a sign needs a digit beside it
-unfoldable pub address_word : List ℕ → Address
+unfoldable pub address_word : List ℕ → Option ℕ
 address_word word = word_address (pick (ltb (length word) 2) word (bare_of word))

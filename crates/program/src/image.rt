@@ -1,29 +1,21 @@
 // The image that a program is given by a word of its command line, and the device and P3 that the words before it choose.
 // What is wrong with it is said in words on standard error, after the refusal's number on standard output.
-ghost use Rattle.std.specs.Prelude.{◌≡◌, ◌<◌, ◌≤◌, length, IfOk};
+ghost use Rattle.std.specs.Prelude.{◌≡◌, ◌<◌, length, IfOk};
 ghost use Rattle.numbers.specs.Sizes.{addresses};
-ghost use Rattle.device.specs.Device.{image_size, window_end};
+ghost use Rattle.device.specs.Device.{Banked};
 
 use crate::arguments::{arg, is_given, open_read};
 use crate::part::fill;
-use crate::streams::{Failure, STDERR_FILENO, explain, show};
+use crate::streams::{Failure, STDERR_FILENO, explain, refuse};
 use crate::words::{Chosen, address_word, device_words, window_words};
-use device::{Device, image_size, is_banked};
-use text::words::Address;
+use device::Device;
+use device::image::{Image, Window};
 
 // Room for the largest image and a byte more, so that a file that is too long shows.
 pub fn room() -> [u8; 16385]
     ensures { 16385 ≡ length result }
 {
     [0; 16385]
-}
-
-// Answers by a refusal's number. What is wrong is said in words then.
-fn refuse(answer: &[u8]) -> Failure {
-    match show(answer) {
-        Ok(()) => Failure::Refused,
-        Err(failure) => failure,
-    }
 }
 
 // Refuses the image, and says what is wrong with the file.
@@ -56,8 +48,8 @@ pub fn open_image<'a>(
     word: usize,
     usage: &[u8],
     room: &'a mut [u8],
-) -> Result<&'a [u8], Failure>
-    ensures { IfOk result (λ image. length image.now ≡ image_size d) }
+) -> Result<Image<'a>, Failure>
+    ensures { IfOk result (λ image. image.device ≡ d) }
 {
     if !is_given(rt, word) {
         explain(usage);
@@ -71,28 +63,28 @@ pub fn open_image<'a>(
     let Ok(size) = fill(&mut file, room) else {
         return Err(refuse_file(path, b": cannot be read\n"));
     };
-    if size != image_size(d) {
+    let Ok(image) = Image::of(d, &room[..size]) else {
         return Err(refuse_size(d, path, size));
-    }
-    Ok(&room[..size])
+    };
+    Ok(image)
 }
 
-// Opens the image whose window a P3 shows, after the words that choose the device and P3.
+// Opens the image that the word after the device and P3 names, and shows what P3 shows of it.
 pub fn open_window<'a>(
     rt: &HostRuntime,
     c: Chosen,
     usage: &[u8],
     room: &'a mut [u8],
-) -> Result<&'a [u8], Failure>
-    ensures { IfOk result (λ image. (length image.now ≡ image_size c.device) × (c.p3 < 256) × (window_end c.p3 ≤ length image.now)) }
+) -> Result<Window<'a>, Failure>
+    ensures { IfOk result (λ window. Banked c.device c.p3 × (window.p3 ≡ c.p3)) }
 {
     let image = open_image(rt, c.device, usize::from(c.before) + 1, usage, room)?;
-    if !is_banked(c.device, c.p3) {
+    let Ok(window) = image.shown(c.p3) else {
         let failure = refuse(b"refused 02\n");
         explain(b"--p3 is over 15, or its bits 1..0 are 3\n");
         return Err(failure);
-    }
-    Ok(image)
+    };
+    Ok(window)
 }
 
 // The address that a word names. A word that is no address of an image is refused, and it is said what one is.
@@ -100,7 +92,7 @@ pub fn address_at(rt: &HostRuntime, word: usize) -> Result<u16, Failure>
     ensures { IfOk result (λ at. at < addresses) }
 {
     let mut buffer = io::buffer();
-    let Address::At(at) = address_word(arg(rt, word, &mut buffer)) else {
+    let Some(at) = address_word(arg(rt, word, &mut buffer)) else {
         let failure = refuse(b"refused 20\n");
         explain(b"ADDRESS is one to four hexadecimal digits up to 1FFF, with 0x before them or h behind if you like\n");
         return Err(failure);

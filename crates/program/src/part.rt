@@ -31,6 +31,8 @@ pub fn fill<R: Read>(file: &mut R, buffer: &mut [u8]) -> Result<usize, Failure>
     Ok(done)
 }
 
+// The buffer, and from where to where of it is not used yet.
+#[derive(Drop)]
 pub struct Part {
     pub buffer: [u8; 65536],
     pub from: usize,

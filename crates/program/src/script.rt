@@ -1,5 +1,5 @@
 // A script on standard input, read in parts. Of a line that is not whole yet at most as many characters are kept as a frame has.
-ghost use Rattle.std.specs.Prelude.{◌≡◌, ◌+◌, ◌≤◌};
+ghost use Rattle.std.specs.Prelude.{◌≡◌, ◌+◌, ◌<◌, ◌≤◌, length, IfSome};
 ghost use Rattle.program.specs.Spans.{is_last};
 
 use crate::part::Part;
@@ -10,6 +10,14 @@ fn is_last(got: Result<usize, Failure>) -> Result<bool, Failure>
     ensures { result ≡ is_last got }
 {
     Ok(got? == 0)
+}
+
+// The first line of a part, without its LF, where it is whole.
+pub fn whole_line(part: &[u8]) -> Option<&[u8]>
+    ensures { IfSome result (λ line. length line.now < length part.now) }
+{
+    let end = part.iter().position(|c| *c == b'\n')?;
+    Some(&part[..end])
 }
 
 // After so many characters of the part were told: the rest of it, or more of the script where none were. Whether what no LF ends is the last line.

@@ -46,6 +46,19 @@ pub fn show(text: &[u8]) -> Result<(), Failure> {
     ending_of(false, io::write_all(STDOUT_FILENO, text))
 }
 
+// A number on standard output, decimal.
+pub fn show_decimal(n: u64) -> Result<(), Failure> {
+    ending_of(false, io::print_decimal(STDOUT_FILENO, n))
+}
+
+// Answers by a refusal, which is all that there is to answer.
+pub fn refuse(answer: &[u8]) -> Failure {
+    match show(answer) {
+        Ok(()) => Failure::Refused,
+        Err(failure) => failure,
+    }
+}
+
 // A text on standard error, where nothing is to be done about one that cannot be written.
 pub fn explain(text: &[u8]) {
     io::write_all(STDERR_FILENO, text);

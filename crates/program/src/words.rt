@@ -5,7 +5,7 @@ ghost use Rattle.program.specs.Words.{chosen, name_of, device_words, p3_word, wi
 
 use check::same;
 use device::{Device, also_writable};
-use text::words::{Address, Number, read_address, read_number};
+use text::words::{read_address, read_number};
 
 // The device, P3, and how many words stand before the image.
 #[derive(Clone, Copy)]
@@ -61,10 +61,7 @@ fn p3_word(d: Device, n: &[u8]) -> Option<Chosen>
     if !also_writable(d, 3) {
         return None;
     }
-    let Number::Value(p3) = read_number(n, 10) else {
-        return None;
-    };
-    made(d, p3, 4)
+    made(d, read_number(n, 10)?, 4)
 }
 
 // What the first four words choose, for a program that takes P3.
@@ -85,7 +82,7 @@ pub fn window_words(one: &[u8], two: &[u8], three: &[u8], four: &[u8]) -> Option
 
 // The address that a word names, with 0x before its digits or h behind them or neither.
 #[tactic(auto, unfolding(crate::specs::Words::address_word))]
-pub fn address_word(word: &[u8]) -> Address
+pub fn address_word(word: &[u8]) -> Option<u16>
     ensures { result ≡ address_word word.now }
 {
     let bare = match word {

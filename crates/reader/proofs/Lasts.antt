@@ -6,10 +6,9 @@ use native.Mathlib.Omega.{arith}
 use lib.Dec.{eqb}
 use Rattle.laws.specs.Choice.{pick}
 use Rattle.sheet.specs.Reading.{read_bytes, read_left}
-use Rattle.sheet.specs.Timing.{TimedFrom, NoneFrom}
+use Rattle.sheet.specs.Timing.{TimedFrom, NoneFrom, from}
 use Rattle.std.specs.Prelude.{Err}
 use Rattle.sheet.specs.declared.NoRow.{NoRow}
-use Rattle.sheet.proofs.FirstBytes.{from}
 use Rattle.sheet.proofs.Ends.{bytes_from_lem, read_behind, one_cut, two_cut}
 
 module _ (b n t : ℕ) (h : b < 256) (told : TimedFrom b n t × NoneFrom b n) where

@@ -27,11 +27,7 @@ pub struct Decoded {
 pub fn decode(b0: u8, b1: u8, b2: u8) -> Result<Insn, NoRow>
     ensures { result ≡ read_bytes (b0 ∷ b1 ∷ b2 ∷ []) }
 {
-    let insn = found(b0, b1, b2);
-    if insn.row == 0 {
-        return Err(NoRow::Unassigned);
-    }
-    Ok(insn)
+    found(b0, b1, b2).ok_or(NoRow::Unassigned)
 }
 
 // What the one byte is that is left at the last address.

@@ -1,15 +1,10 @@
 // What the program answers to --help.
-use program::help::is_told;
+use program::help::Manual;
 
-// Whether the first word asked for the help or for the version, which are then written.
-pub fn is_asked(rt: &HostRuntime) -> bool {
-    is_told(
-        rt,
-        b"runner: runs an image for a script of frames and prints a line for each step.
-
-usage: runner [--device NAME] IMAGE < SCRIPT
-
-  --device NAME  EM73862 (the default) or EM73P982
+pub const MANUAL: Manual<'static> = Manual {
+    purpose: b"runner: runs an image for a script of frames and prints a line for each step.\n",
+    usage: b"usage: runner [--device NAME] IMAGE < SCRIPT\n",
+    rest: b"  --device NAME  EM73862 (the default) or EM73P982
   IMAGE          a file of 8,192 bytes, of the EM73P982 of 16,384
   SCRIPT         a frame a line: three hexadecimal digits, of the EM73P982 four
   --help, -h     this text; --version the version. Each as the first word.
@@ -31,5 +26,4 @@ ends the run:
 The exit status is 0 also for a refusal or a stop: a script goes by the first
 word of the last line, and by its last.
 ",
-    )
-}
+};

@@ -1,15 +1,10 @@
 // What the program answers to --help.
-use program::help::is_told;
+use program::help::Manual;
 
-// Whether the first word asked for the help or for the version, which are then written.
-pub fn is_asked(rt: &HostRuntime) -> bool {
-    is_told(
-        rt,
-        b"screen: the display after a step of a script, 40 dots in each of 8 rows.
-
-usage: screen [--device NAME] [--pbm] IMAGE [STEP] < SCRIPT
-
-  --device NAME  EM73862 (the default) or EM73P982
+pub const MANUAL: Manual<'static> = Manual {
+    purpose: b"screen: the display after a step of a script, 40 dots in each of 8 rows.\n",
+    usage: b"usage: screen [--device NAME] [--pbm] IMAGE [STEP] < SCRIPT\n",
+    rest: b"  --device NAME  EM73862 (the default) or EM73P982
   --pbm          a picture as plain PBM, not signs: # on, . off
   IMAGE          a file of 8,192 bytes, of the EM73P982 of 16,384
   STEP           the step after which to look, decimal from 1 (the default is
@@ -27,5 +22,4 @@ A STEP past the end of the run answers nothing.
 The exit status is 0 also for a refusal: a script goes by the first word of
 the answer.
 ",
-    )
-}
+};

@@ -15,11 +15,11 @@ use Rattle.laws.proofs.Computed.{T→true, true→T, implies, below, at, where_a
 use Rattle.sheet.specs.Code.{digits}
 use Rattle.sheet.specs.Table.{Line, lines}
 use Rattle.sheet.specs.Reading.{Read, row_number, row_with, read_bytes, begin_code, begin_row, begin_some, too_few, read_left, bytes_of}
-use Rattle.sheet.specs.Timing.{TimedFrom, NoneFrom}
+use Rattle.sheet.specs.Timing.{TimedFrom, NoneFrom, from}
 use Rattle.sheet.specs.declared.Insn.{Insn}
 use Rattle.std.specs.Prelude.{Ok, Err}
 use Rattle.sheet.specs.declared.NoRow.{NoRow}
-use Rattle.sheet.proofs.FirstBytes.{from, first_byte_lem, same, same_of, none_from, yes_pick, no_pick, begin_of}
+use Rattle.sheet.proofs.FirstBytes.{first_byte_lem, same, same_of, none_from, yes_pick, no_pick, begin_of}
 use Rattle.sheet.proofs.Lengths.{read_same, bytes_read, number_enough}
 use Rattle.sheet.proofs.ReadAs.{has_row}
 use Rattle.sheet.proofs.Winning.{At, here, there, winner_is}

@@ -5,13 +5,13 @@ use mathlib.Core.List.{List, [], ◌∷◌, ◌++◌}
 use mathlib.Core.Logic.{inl, inr}
 use Prim.Native.Nat.{ℕ, ◌+◌, ◌/◌, ◌%◌, ◌<◌}
 use native.Mathlib.Numerals.{one-add}
-use lib.Dec.{T, eqb, eqb→eq, ltb}
+use lib.Dec.{T, eqb, eqb→eq}
 use Rattle.laws.specs.Choice.{both, pick}
 use Rattle.laws.proofs.Computed.{implies, modus, below, at, both_left, both_right, both_i}
 use Rattle.sheet.specs.Code.{Group, has_digit, fits, digits}
 use Rattle.sheet.specs.Table.{Code, Line, lines, line_at}
 use Rattle.sheet.specs.Reading.{row_number, begins, begin_code, begin_some}
-use Rattle.sheet.specs.Timing.{Timed, TimedFrom, NoneFrom}
+use Rattle.sheet.specs.Timing.{Timed, TimedFrom, NoneFrom, from}
 use Rattle.sheet.specs.declared.Cost.{Cost}
 use Rattle.sheet.proofs.Winning.{At, here, there, line_at_lem, Fitting, winner_is}
 
@@ -58,32 +58,6 @@ unfolding row_number
 timed h l n t ds a =
     winner_is (λ (m : ℕ). (m ≡ 0 → ⊥) → Timed m n t) (h ∷ l ∷ ds) lines 1 (λ ne. absurd (ne refl))
     (λ j r p f ne. timed_line n t j p (agree_at h l n t p a (begin_of r.codes (h ∷ l ∷ []) ds f)))
-
--- the bytes and cycles from a first byte b by the branches of `sheet::timing`
-abbrev costs : ℕ → ℕ → Cost
-costs n t = record { bytes = n; cycles = t }
-
-abbrev pub from4 : ℕ → Cost
-from4 b = pick (eqb b 0x4D) (costs 1 2) (pick (eqb b 0x4F) (costs 1 2) (costs 2 2))
-
-abbrev pub from5 : ℕ → Cost
-from5 b = pick (eqb b 0x54) (costs 0 0) (pick (eqb b 0x55) (costs 3 3) (pick (eqb b 0x57) (costs 3 3) (costs 1 1)))
-
-abbrev pub from6 : ℕ → Cost
-from6 b = pick (eqb b 0x63) (costs 2 2) (pick (ltb b 0x68) (costs 1 2) (costs 2 2))
-
-abbrev pub from7 : ℕ → Cost
-from7 b = pick (eqb b 0x77) (costs 0 0) (pick (eqb b 0x7A) (costs 0 0) (costs 1 1))
-
-abbrev from_rest : ℕ → Cost
-from_rest h = pick (eqb h 12) (costs 2 2) (pick (eqb h 14) (costs 1 2) (costs 1 1))
-
-abbrev pub from : ℕ → Cost
-from b =
-    pick (eqb (b / 16) 4) (from4 b)
-    (pick (eqb (b / 16) 5) (from5 b)
-    (pick (eqb (b / 16) 6) (from6 b)
-    (pick (eqb (b / 16) 7) (from7 b) (from_rest (b / 16)))))
 
 abbrev agreeing : ℕ → Bool
 agreeing b = agree lines (b / 16) (b % 16) (from b).bytes (from b).cycles

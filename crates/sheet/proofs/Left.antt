@@ -14,7 +14,7 @@ use Rattle.sheet.specs.Code.{Group, has_digit, fits, fixed_bits, digits}
 use Rattle.sheet.specs.Table.{Code, Line, lines}
 use Rattle.sheet.specs.Reading.{bits_fixed_if_fits, Winner, winner, row_number, read_bytes, begins, begin_code, begin_row, begin_some, too_few, read_left}
 use Rattle.sheet.proofs.Winning.{Fitting}
-use Rattle.sheet.proofs.FirstBytes.{from}
+use Rattle.sheet.specs.Timing.{from}
 use Rattle.sheet.proofs.Prefix.{wide_codes, wide}
 use Rattle.sheet.proofs.Lengths.{all_wide, all_wide_lem, length_digits}
 

@@ -13,7 +13,8 @@ use Rattle.sheet.specs.Table.{lines}
 use Rattle.sheet.specs.Reading.{row_number, read_bytes, bytes_of}
 use Rattle.sheet.specs.declared.Insn.{Insn}
 use Rattle.std.specs.Prelude.{Ok}
-use Rattle.sheet.proofs.FirstBytes.{from, first_byte_lem}
+use Rattle.sheet.proofs.FirstBytes.{first_byte_lem}
+use Rattle.sheet.specs.Timing.{from}
 use Rattle.sheet.proofs.ReadAs.{row_of, has_row}
 use Rattle.sheet.proofs.Prefix.{wide, same_read, row-wide}
 

@@ -1,5 +1,5 @@
 -- Where a branch or a call goes, by its operand and, of a branch, by the address of the row's own first byte.
-use Rattle.std.specs.Prelude.{ℕ, ◌+◌, ◌*◌, ◌/◌, eqb}
+use Rattle.std.specs.Prelude.{ℕ, ◌+◌, ◌*◌, ◌/◌, eqb, Option, Some, None}
 use Rattle.laws.specs.Choice.{pick}
 use Rattle.sheet.specs.Operation.{Operation, Target, Entry}
 use Rattle.sheet.specs.Operation.Operation.{work, branch, call, return, return_flag, IL⟵IL-and-r, no_operation}
@@ -20,14 +20,14 @@ call_entry long a = a
 call_entry short n = pick (eqb n 0) 0x86 (8 * n + 6)
 
 -- where a row goes by its operation; one that is no branch and no call goes nowhere
-abbrev pub goes_by : Operation → ℕ → ℕ → ℕ
-goes_by (work s t) at a = 0
-goes_by (branch t) at a = target_of t at a
-goes_by (call e) at a = call_entry e a
-goes_by return at a = 0
-goes_by return_flag at a = 0
-goes_by (IL⟵IL-and-r e) at a = 0
-goes_by no_operation at a = 0
+abbrev pub goes_by : Operation → ℕ → ℕ → Option ℕ
+goes_by (work s t) at a = None
+goes_by (branch t) at a = Some (target_of t at a)
+goes_by (call e) at a = Some (call_entry e a)
+goes_by return at a = None
+goes_by return_flag at a = None
+goes_by (IL⟵IL-and-r e) at a = None
+goes_by no_operation at a = None
 
-unfoldable pub goes_to : ℕ → Insn → ℕ
+unfoldable pub goes_to : ℕ → Insn → Option ℕ
 goes_to at i = goes_by (line_at i.row).operation at i.a

@@ -5,8 +5,8 @@
 pub mod flow;
 pub mod rows;
 
-ghost use Rattle.std.specs.Prelude.{◌≡◌, ◌/◌};
-ghost use Rattle.sheet.specs.Timing.{TimedFrom, NoneFrom};
+ghost use Rattle.std.specs.Prelude.{◌≡◌};
+ghost use Rattle.sheet.specs.Timing.{TimedFrom, NoneFrom, from4, from5, from6, from7, from_rest};
 ghost use Rattle.sheet.specs.Refusing.{refusal_of, stop_of};
 
 use numbers::{Refusal, Stop};
@@ -48,7 +48,7 @@ impl From<NoRow> for Stop {
     }
 }
 
-#[derive(Clone, Copy)]
+#[derive(Clone, Copy, PartialEq, Eq)]
 pub struct Cost {
     pub bytes: u8,
     pub cycles: u8,
@@ -57,74 +57,56 @@ pub struct Cost {
 fn costs(bytes: u8, cycles: u8) -> Cost
     ensures { result ≡ record { bytes = bytes; cycles = cycles } }
 {
-    Cost {
-        bytes: bytes,
-        cycles: cycles,
-    }
+    Cost { bytes, cycles }
 }
 
 // 0100: RTI and RET have no second byte.
 fn timing_4(first: u8) -> Cost
-    requires { first / 16 ≡ 4 }
-    ensures timed_from { TimedFrom first result.bytes result.cycles }
-    ensures none_from { NoneFrom first result.bytes }
+    ensures { result ≡ from4 first }
 {
     match first {
-        0x4D => costs(1, 2),
-        0x4F => costs(1, 2),
+        0x4D | 0x4F => costs(1, 2),
         _ => costs(2, 2),
     }
 }
 
 // 0101: SLBR; no row begins with 54h.
 fn timing_5(first: u8) -> Cost
-    requires { first / 16 ≡ 5 }
-    ensures timed_from { TimedFrom first result.bytes result.cycles }
-    ensures none_from { NoneFrom first result.bytes }
+    ensures { result ≡ from5 first }
 {
     match first {
         0x54 => costs(0, 0),
-        0x55 => costs(3, 3),
-        0x57 => costs(3, 3),
+        0x55 | 0x57 => costs(3, 3),
         _ => costs(1, 1),
     }
 }
 
 // 0110: the rows on latches and those from 68h up have a second byte.
 fn timing_6(first: u8) -> Cost
-    requires { first / 16 ≡ 6 }
-    ensures timed_from { TimedFrom first result.bytes result.cycles }
-    ensures none_from { NoneFrom first result.bytes }
+    ensures { result ≡ from6 first }
 {
-    if first == 0x63 {
-        return costs(2, 2);
+    match first {
+        0x63 => costs(2, 2),
+        ..0x68 => costs(1, 2),
+        _ => costs(2, 2),
     }
-    if first < 0x68 {
-        return costs(1, 2);
-    }
-    costs(2, 2)
 }
 
 // 0111: no row begins with 77h or 7Ah.
 fn timing_7(first: u8) -> Cost
-    requires { first / 16 ≡ 7 }
-    ensures timed_from { TimedFrom first result.bytes result.cycles }
-    ensures none_from { NoneFrom first result.bytes }
+    ensures { result ≡ from7 first }
 {
     match first {
-        0x77 => costs(0, 0),
-        0x7A => costs(0, 0),
+        0x77 | 0x7A => costs(0, 0),
         _ => costs(1, 1),
     }
 }
 
 // The other high digits. Apart from those, so that the reader is small enough for the compiler to put it into each call.
-fn timing_other(first: u8) -> Cost
-    requires { (first / 16 ≡ 4 → ⊥) × (first / 16 ≡ 5 → ⊥) × (first / 16 ≡ 6 → ⊥) × (first / 16 ≡ 7 → ⊥) }
-    ensures timed_from { TimedFrom first result.bytes result.cycles }
-    ensures none_from { NoneFrom first result.bytes }
+fn timing_other(high: u8) -> Cost
+    ensures { result ≡ from_rest high }
 {
-    match first / 16 {
+    match high {
         12 => costs(2, 2),
         14 => costs(1, 2),
         _ => costs(1, 1),
@@ -141,6 +123,6 @@ pub fn timing(first: u8) -> Cost
         5 => timing_5(first),
         6 => timing_6(first),
         7 => timing_7(first),
-        _ => timing_other(first),
+        high => timing_other(high),
     }
 }

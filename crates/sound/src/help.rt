@@ -1,15 +1,10 @@
 // What the program answers to --help.
-use program::help::is_told;
+use program::help::Manual;
 
-// Whether the first word asked for the help or for the version, which are then written.
-pub fn is_asked(rt: &HostRuntime) -> bool {
-    is_told(
-        rt,
-        b"sound: the state of the sound pin after each command on standard input.
-
-usage: sound < COMMANDS
-
-  COMMANDS       a command a line:
+pub const MANUAL: Manual<'static> = Manual {
+    purpose: b"sound: the state of the sound pin after each command on standard input.\n",
+    usage: b"usage: sound < COMMANDS\n",
+    rest: b"  COMMANDS       a command a line:
                  p30 N, p24 N, p23 N   a write of the port, N decimal 0 to 15
                  advance N             so many pulses of the basic frequency
                  sleep, wake, reset
@@ -26,5 +21,4 @@ answers:
 The exit status is 0 also for a refusal: a script goes by the first word of
 the answer.
 ",
-    )
-}
+};

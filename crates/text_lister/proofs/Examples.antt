@@ -3,19 +3,19 @@ use mathlib.Core.Path.{◌≡◌, refl}
 use mathlib.Core.List.{List, [], ◌∷◌}
 use Prim.Native.Nat.{ℕ}
 use Rattle.device.specs.Device.{rom_of}
-use Rattle.sheet.specs.Reading.{read_bytes, row_number, row_with, begin_some}
+use Rattle.std.specs.Prelude.{Ok, Err}
+use Rattle.sheet.specs.Reading.{Read, read_bytes, row_number, row_with, begin_some}
 use Rattle.sheet.specs.Table.{line_at}
-use Rattle.sheet.specs.declared.Read.{Read}
-use Rattle.sheet.specs.declared.Read.TheVariants.{Row, Unassigned, PastEnd}
+use Rattle.sheet.specs.declared.NoRow.{NoRow}
 use Rattle.text.specs.Digits.{characters, digit, in_base, places_of}
 use Rattle.sheet.specs.Flow.{goes_to}
 use Rattle.notation.specs.Notation.{sign, row_text}
 use Rattle.text_lister.specs.Listing.{line_of}
 
 abbrev code_text : ℕ → Read → List ℕ
-code_text at (Row i) = row_text at i
-code_text at Unassigned = characters "refused 30"
-code_text at PastEnd = characters "refused 35"
+code_text at (Ok i) = row_text at i
+code_text at (Err NoRow.Unassigned) = characters "refused 30"
+code_text at (Err NoRow.PastEnd) = characters "refused 35"
 
 -- a code of two bytes that stands at 0014h
 abbrev shown : ℕ → ℕ → List ℕ

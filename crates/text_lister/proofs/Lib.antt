@@ -1,3 +1,4 @@
+pub mod Bytes
 pub mod Costs
 pub mod Sweeps
 pub mod Examples

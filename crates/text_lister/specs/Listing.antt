@@ -1,13 +1,15 @@
 -- The lister's lines, and its sweep over an image. Sentences in quotation marks are of docs/PROGRAMS.md.
-use Rattle.std.specs.Prelude.{ℕ, zero, suc, ◌+◌, List, [], ◌∷◌, ◌++◌, ltb, take}
+use Rattle.std.specs.Prelude.{ℕ, zero, suc, ◌+◌, List, [], ◌∷◌, ◌++◌, ltb, take, Result, Ok, Err}
 use Rattle.numbers.specs.Sizes.{addresses}
 use Rattle.laws.specs.Choice.{pick}
-use Rattle.sheet.specs.Reading.{read_at, fetched, bytes_of, cycles_of}
+use Rattle.numbers.specs.Numbered.{refusal_number}
+use Rattle.sheet.specs.Reading.{Read, read_at, fetched, bytes_of, cycles_of}
+use Rattle.sheet.specs.Refusing.{refusal_of}
 use Rattle.sheet.specs.declared.Insn.{Insn}
-use Rattle.sheet.specs.declared.Read.{Read}
-use Rattle.sheet.specs.declared.Read.TheVariants.{Row, Unassigned, PastEnd}
-use Rattle.reader.specs.Answer.{stop_of}
+use Rattle.sheet.specs.declared.NoRow.{NoRow}
+use Rattle.reader.specs.declared.Decoded.{Decoded}
 use Rattle.text.specs.Digits.{characters, joined, in_base, hex, blanks, padded}
+use Rattle.text.specs.Refusal.{refused_text}
 use Rattle.notation.specs.Notation.{row_text}
 
 -- "the row's bytes in two digits each with one blank between"
@@ -31,12 +33,11 @@ row_columns rom at i n t =
 
 -- "An unassigned code is one line with its first byte in the bytes' column and `refused 30` in the row's, nothing after"; "one whose bytes pass the end of the image is shown in the same way with `refused 35`"
 abbrev pub refused_columns : ℕ → ℕ → List ℕ
-refused_columns b n = joined (padded 8 (hex 2 b) ∷ blanks 2 ∷ characters "refused " ∷ in_base 10 2 n ∷ [])
+refused_columns b n = joined (padded 8 (hex 2 b) ∷ blanks 2 ∷ refused_text n ∷ [])
 
 abbrev pub code_columns : (ℕ → ℕ) → ℕ → Read → List ℕ
-code_columns rom at (Row i) = row_columns rom at i (bytes_of i.row) (cycles_of i.row)
-code_columns rom at Unassigned = refused_columns (rom at) (stop_of Unassigned)
-code_columns rom at PastEnd = refused_columns (rom at) (stop_of PastEnd)
+code_columns rom at (Ok i) = row_columns rom at i (bytes_of i.row) (cycles_of i.row)
+code_columns rom at (Err why) = refused_columns (rom at) (refusal_number (refusal_of why))
 
 -- "the address in four digits; two blanks"
 abbrev pub columns_of : (ℕ → ℕ) → ℕ → List ℕ
@@ -45,11 +46,15 @@ columns_of rom at = hex 4 at ++ (blanks 2 ++ code_columns rom at (read_at rom at
 unfoldable pub line_of : (ℕ → ℕ) → ℕ → List ℕ
 line_of rom at = columns_of rom at ++ characters "\n"
 
+-- a row with its bytes and its cycles
+abbrev pub decoded_of : Read → Result Decoded NoRow
+decoded_of (Ok i) = Ok (record { insn = i; bytes = bytes_of i.row; cycles = cycles_of i.row })
+decoded_of (Err why) = Err why
+
 -- where the sweep goes on: after a row, and after what is none "at the next byte"
 abbrev pub sweep_next : ℕ → Read → ℕ
-sweep_next at (Row i) = at + bytes_of i.row
-sweep_next at Unassigned = at + 1
-sweep_next at PastEnd = at + 1
+sweep_next at (Ok i) = at + bytes_of i.row
+sweep_next at (Err why) = at + 1
 
 -- "one row a line, as a sweep from ADDRESS (default 0000) for COUNT lines (decimal, default and at most to the end of the image)"
 unfoldable pub swept_lines : (ℕ → ℕ) → ℕ → ℕ → List ℕ

@@ -1,35 +1,42 @@
--- One sign more and one line more, written behind those that are right; and a picture goes by its dots alone.
-use Prim.Native.Nat.{ℕ, zero, suc, ◌+◌, ◌<◌, ◌≤◌}
-use mathlib.Core.Path.{◌≡◌, refl}
+-- One sign more and one line more, and a picture goes by its dots alone.
+use Prim.Native.Nat.{ℕ, zero, suc, ◌+◌, ◌<◌}
+use mathlib.Core.Path.{◌≡◌, refl, sym}
 use mathlib.Core.Bool.{Bool}
-use mathlib.Core.List.{List, [], ◌∷◌, ◌++◌}
+use mathlib.Core.List.{List, [], ◌∷◌, ◌++◌, append_assoc, append-nil}
 use native.Mathlib.Numerals.{add-one}
 use native.Mathlib.Omega.{arith}
-use lib.ListN.{length}
-use Rattle.laws.specs.Writing.{Wrote}
-use Rattle.laws.proofs.Writing.{wrote_none, wrote_then}
 use Rattle.text_screen.specs.Screen.{sign_of, signs_of, lines_of}
 use Rattle.text_screen.specs.declared.Form.{Form}
 
-module _ {b : List ℕ} {from : ℕ} (form : Form) (within : from ≤ length b) where
-  pub no_sign : (dot : ℕ → Bool) → Wrote b b from from (signs_of form dot 0)
+signs_more : (form : Form) (dot : ℕ → Bool) (n : ℕ) → signs_of form dot (n + 1) ≡ signs_of form dot n ++ (sign_of form (dot n) ∷ [])
+unfolding signs_of
+signs_more form dot n = rw (add-one) refl
+
+lines_more : (form : Form) (dot : ℕ → ℕ → Bool) (n : ℕ) → lines_of form dot (n + 1) ≡ lines_of form dot n ++ (signs_of form (dot n) 40 ++ (10 ∷ []))
+unfolding lines_of
+lines_more form dot n = rw (add-one) refl
+
+module _ (form : Form) (old : List ℕ) where
+  pub no_sign : (dot : ℕ → Bool) → old ≡ old ++ signs_of form dot 0
   unfolding signs_of
-  no_sign dot = wrote_none within
+  no_sign dot = sym (append-nil old)
 
-  pub no_line : (dot : ℕ → ℕ → Bool) → Wrote b b from from (lines_of form dot 0)
+  pub no_line : (dot : ℕ → ℕ → Bool) → old ≡ old ++ lines_of form dot 0
   unfolding lines_of
-  no_line dot = wrote_none within
+  no_line dot = sym (append-nil old)
 
-module _ {b m e : List ℕ} {from r q : ℕ} (form : Form) (n : ℕ) where
-  pub one-sign : (dot : ℕ → Bool) {sign : ℕ} → Wrote b m from r (signs_of form dot n) → sign ≡ sign_of form (dot n) → Wrote m e r q (sign ∷ [])
-      → Wrote b e from q (signs_of form dot (n + 1))
-  unfolding signs_of
-  one-sign dot before right last = rw (add-one) (wrote_then before (rw right at last))
+  pub one_sign : (dot : ℕ → Bool) (n : ℕ) (out new : List ℕ) (sign : ℕ) → out ≡ old ++ signs_of form dot n → sign ≡ sign_of form (dot n) → new ≡ out ++ (sign ∷ [])
+      → new ≡ old ++ signs_of form dot (n + 1)
+  one_sign dot n out new sign before right last = rw (last, before, right, signs_more form dot n) (append_assoc old (signs_of form dot n) (sign_of form (dot n) ∷ []))
 
-  pub one_line : (dot : ℕ → ℕ → Bool) → Wrote b m from r (lines_of form dot n) → Wrote m e r q (signs_of form (dot n) 40 ++ (10 ∷ []))
-      → Wrote b e from q (lines_of form dot (n + 1))
-  unfolding lines_of
-  one_line dot before last = rw (add-one) (wrote_then before last)
+  pub one_line : (dot : ℕ → ℕ → Bool) (n : ℕ) (out new : List ℕ) → out ≡ old ++ lines_of form dot n → new ≡ out ++ (signs_of form (dot n) 40 ++ (10 ∷ []))
+      → new ≡ old ++ lines_of form dot (n + 1)
+  one_line dot n out new before last = rw (last, before, lines_more form dot n) (append_assoc old (lines_of form dot n) (signs_of form (dot n) 40 ++ (10 ∷ [])))
+
+  -- a picture after its opening
+  pub picture : (f g : ℕ → ℕ → Bool) (a out new : List ℕ) → lines_of form f 8 ≡ lines_of form g 8 → out ≡ old ++ a → new ≡ out ++ lines_of form f 8
+      → new ≡ old ++ (a ++ lines_of form g 8)
+  picture f g a out new same before last = rw (last, before, same) (append_assoc old a (lines_of form g 8))
 
 same_signs : (form : Form) (f g : ℕ → Bool) (n : ℕ) → ((s : ℕ) → s < n → f s ≡ g s) → signs_of form f n ≡ signs_of form g n
 unfolding signs_of

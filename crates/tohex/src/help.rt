@@ -1,15 +1,10 @@
 // What the program answers to --help.
-use program::help::is_told;
+use program::help::Manual;
 
-// Whether the first word asked for the help or for the version, which are then written.
-pub fn is_asked(rt: &HostRuntime) -> bool {
-    is_told(
-        rt,
-        b"tohex: the text of an image as Intel HEX.
-
-usage: tohex [--device NAME] IMAGE
-
-  --device NAME  EM73862 (the default) or EM73P982
+pub const MANUAL: Manual<'static> = Manual {
+    purpose: b"tohex: the text of an image as Intel HEX.\n",
+    usage: b"usage: tohex [--device NAME] IMAGE\n",
+    rest: b"  --device NAME  EM73862 (the default) or EM73P982
   IMAGE          a file of 8,192 bytes, of the EM73P982 of 16,384
   --help, -h     this text; --version the version. Each as the first word.
 
@@ -21,5 +16,4 @@ answers:
 The exit status is 0 also for a refusal: a script goes by the first word of
 the answer.
 ",
-    )
-}
+};

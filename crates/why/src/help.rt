@@ -1,15 +1,10 @@
 // What the program answers to --help.
-use program::help::is_told;
+use program::help::Manual;
 
-// Whether the first word asked for the help or for the version, which are then written.
-pub fn is_asked(rt: &HostRuntime) -> bool {
-    is_told(
-        rt,
-        b"why: tells for each step why an interrupt was taken or not.
-
-usage: why [--device NAME] IMAGE [STEP] < SCRIPT
-
-  --device NAME  EM73862 (the default) or EM73P982
+pub const MANUAL: Manual<'static> = Manual {
+    purpose: b"why: tells for each step why an interrupt was taken or not.\n",
+    usage: b"usage: why [--device NAME] IMAGE [STEP] < SCRIPT\n",
+    rest: b"  --device NAME  EM73862 (the default) or EM73P982
   IMAGE          a file of 8,192 bytes, of the EM73P982 of 16,384
   STEP           the only step to tell of, decimal from 1
   SCRIPT         a frame a line: three hexadecimal digits, of the EM73P982 four
@@ -26,5 +21,4 @@ EI clear; nothing latched; masked, stack level or accepted, and the sources.
 The exit status is 0 also for a refusal: a script goes by the first word of
 the last line.
 ",
-    )
-}
+};

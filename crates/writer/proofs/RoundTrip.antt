@@ -16,7 +16,7 @@ use Rattle.device.specs.Device.{image_size, rom_of, is_banked}
 use Rattle.sheet.specs.Reading.{Read, insn, read_left, left, read_at, bytes_of}
 use Rattle.sheet.specs.declared.Insn.{Insn}
 use Rattle.sheet.specs.declared.NoRow.{NoRow}
-use Rattle.sheet.proofs.FirstBytes.{from}
+use Rattle.sheet.specs.Timing.{from}
 use Rattle.sheet.proofs.ReadAs.{nothing_read}
 use Rattle.sheet.proofs.Lengths.{bytes_read, past_length}
 use Rattle.sheet.proofs.Left.{read_enough}

@@ -92,23 +92,24 @@ fn spell_far(a: u16) -> u64
     ensures { result ≡ far_spelled a }
 {
     if 4095 < a {
-        return 0x55B000 + a as u64;
+        0x55B000 + a as u64
+    } else {
+        0x57C000 + a as u64
     }
-    0x57C000 + a as u64
 }
 
 // The six digits that an instruction of a row has, whether or not they are a code of it, as a number.
+#[tactic(auto, unfolding(crate::specs::Spelling::spelling))]
 fn spell(i: Insn) -> u64
     requires { i.row < 108 }
     ensures { result ≡ spelling i }
 {
-    let row = i.row;
-    if row == rows::SLBR {
+    if i.row == rows::SLBR {
         return spell_far(i.a);
     }
-    let first = first_byte(row) as u64;
-    let second = second_byte(row) as u64;
-    first * 65536 + (second + i.b as u64) * 256 + place(i.a, digits_behind(row))
+    let first = first_byte(i.row) as u64;
+    let second = second_byte(i.row) as u64;
+    first * 65536 + (second + i.b as u64) * 256 + place(i.a, digits_behind(i.row))
 }
 
 // The public writer: an instruction has the code that it spells, if that reads as the instruction, and no other.

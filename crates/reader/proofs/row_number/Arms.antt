@@ -6,14 +6,14 @@ use mathlib.Core.Logic.{◌⊎◌, inl, inr}
 use Prim.Native.Nat.{ℕ, ◌+◌, ◌*◌, ◌/◌, ◌%◌, ◌<◌, ◌≤◌}
 use native.Mathlib.Omega.{arith}
 use lib.Dec.{T, eqb, eqb→eq, ltb, leb, le→leb}
-use borrow.Author.Tests.{eq-eqb, not-true}
+use borrow.Author.Tests.{eq-eqb}
 use Rattle.laws.specs.Choice.{pick}
-use Rattle.laws.proofs.Computed.{below, where_at, rest_at, implies, modus, out, NoKey, true→T, T→true}
+use Rattle.laws.proofs.Computed.{below, where_at, rest_at, implies, modus, out, NoKey, true→T}
 use Rattle.sheet.specs.Reading.{Read, insn, row_number, row_with, read_digits}
 use Rattle.sheet.specs.declared.Insn.{Insn}
-use Rattle.std.specs.Prelude.{Ok, Err}
+use Rattle.std.specs.Prelude.{Option, Some, None, Ok, Err}
 use Rattle.sheet.specs.declared.NoRow.{NoRow}
-use Rattle.reader.specs.Found.{as_read, no_row, direct, direct_by_four, far}
+use Rattle.reader.specs.Found.{as_read, direct, direct_by_four, far}
 
 -- a code has the row n
 pub row_is : (n : ℕ) (ds : List ℕ) → T (eqb (row_number ds) n) → row_with n ds ≡ read_digits ds
@@ -55,18 +55,18 @@ pub whole : (b : ℕ) → b / 16 * 16 + b % 16 ≡ b
 whole b = omega arith
 
 -- a direct x, as the reader and as the table has it
-as_direct : (n x : ℕ) (t : Bool) → T (not (eqb n 0)) → as_read (pick t (insn n x 0) no_row) ≡ pick t (Ok (insn n x 0)) (Err NoRow.Unassigned)
-as_direct n x true t = ap (λ (b : Bool). pick b (Err NoRow.Unassigned) (Ok (insn n x 0))) (not-true (eqb n 0) (T→true (not (eqb n 0)) t))
-as_direct n x false t = refl
+as_direct : (n x : ℕ) (t : Bool) → as_read (pick t (Some (insn n x 0)) None) ≡ pick t (Ok (insn n x 0)) (Err NoRow.Unassigned)
+as_direct n x true = refl
+as_direct n x false = refl
 
-pub direct_reads : (n x b : ℕ) → T (not (eqb n 0)) → x ≡ b → as_read (direct n b) ≡ pick (ltb x 0xF4) (Ok (insn n x 0)) (Err NoRow.Unassigned)
-direct_reads n x b t e = subst⁻¹ (λ (y : ℕ). as_read (direct n b) ≡ pick (ltb y 0xF4) (Ok (insn n y 0)) (Err NoRow.Unassigned)) e (as_direct n b (ltb b 0xF4) t)
+pub direct_reads : (n x b : ℕ) → x ≡ b → as_read (direct n b) ≡ pick (ltb x 0xF4) (Ok (insn n x 0)) (Err NoRow.Unassigned)
+direct_reads n x b e = subst⁻¹ (λ (y : ℕ). as_read (direct n b) ≡ pick (ltb y 0xF4) (Ok (insn n y 0)) (Err NoRow.Unassigned)) e (as_direct n b (ltb b 0xF4))
 
 mod_mod : (b : ℕ) → b % 16 % 4 ≡ b % 4
 mod_mod b = omega arith
 
-module _ (l n : ℕ) (ds : List ℕ) (is_row : T (not (eqb n 0))) (reads : (h m : ℕ) → row_with n (4 ∷ l ∷ h ∷ m ∷ ds) ≡ pick (ltb (h * 16 + m) 0xF4) (Ok (insn n (h * 16 + m) 0)) (Err NoRow.Unassigned)) (none : (h m : ℕ) → row_with 0 (4 ∷ l ∷ h ∷ m ∷ ds) ≡ (Err NoRow.Unassigned)) where
-  as-aligned : (b : ℕ) (t : Bool) → (T t → as_read (direct n b) ≡ read_digits (4 ∷ l ∷ b / 16 ∷ b % 16 ∷ ds)) → (T (not t) → Err NoRow.Unassigned ≡ read_digits (4 ∷ l ∷ b / 16 ∷ b % 16 ∷ ds)) → as_read (pick t (direct n b) no_row) ≡ read_digits (4 ∷ l ∷ b / 16 ∷ b % 16 ∷ ds)
+module _ (l n : ℕ) (ds : List ℕ) (reads : (h m : ℕ) → row_with n (4 ∷ l ∷ h ∷ m ∷ ds) ≡ pick (ltb (h * 16 + m) 0xF4) (Ok (insn n (h * 16 + m) 0)) (Err NoRow.Unassigned)) (none : (h m : ℕ) → row_with 0 (4 ∷ l ∷ h ∷ m ∷ ds) ≡ (Err NoRow.Unassigned)) where
+  as-aligned : (b : ℕ) (t : Bool) → (T t → as_read (direct n b) ≡ read_digits (4 ∷ l ∷ b / 16 ∷ b % 16 ∷ ds)) → (T (not t) → Err NoRow.Unassigned ≡ read_digits (4 ∷ l ∷ b / 16 ∷ b % 16 ∷ ds)) → as_read (pick t (direct n b) None) ≡ read_digits (4 ∷ l ∷ b / 16 ∷ b % 16 ∷ ds)
   as-aligned b true p q = p tt
   as-aligned b false p q = q tt
 
@@ -74,16 +74,16 @@ module _ (l n : ℕ) (ds : List ℕ) (is_row : T (not (eqb n 0))) (reads : (h m 
   pub aligned-reads : (b : ℕ) → b < 256 → T (below 16 (λ m. implies (eqb (m % 4) 0) (eqb (row_number (4 ∷ l ∷ b / 16 ∷ m ∷ ds)) n))) → T (below 16 (λ m. implies (not (eqb (m % 4) 0)) (eqb (row_number (4 ∷ l ∷ b / 16 ∷ m ∷ ds)) 0))) → as_read (direct_by_four n b) ≡ read_digits (4 ∷ l ∷ b / 16 ∷ b % 16 ∷ ds)
   aligned-reads b below256 yes-row no_row_lem =
       as-aligned b (eqb (b % 4) 0)
-      (λ t. direct_reads n (b / 16 * 16 + b % 16) b is_row (whole b) ∙ (sym (reads (b / 16) (b % 16)) ∙ row_is n (4 ∷ l ∷ b / 16 ∷ b % 16 ∷ ds) (where_at (λ m. eqb (m % 4) 0) (λ m. eqb (row_number (4 ∷ l ∷ b / 16 ∷ m ∷ ds)) n) 16 yes-row (b % 16) (omega arith) (true→T (eq-eqb (b % 16 % 4) 0 (omega (arith, eqb→eq (b % 4) 0 t)))))))
+      (λ t. direct_reads n (b / 16 * 16 + b % 16) b (whole b) ∙ (sym (reads (b / 16) (b % 16)) ∙ row_is n (4 ∷ l ∷ b / 16 ∷ b % 16 ∷ ds) (where_at (λ m. eqb (m % 4) 0) (λ m. eqb (row_number (4 ∷ l ∷ b / 16 ∷ m ∷ ds)) n) 16 yes-row (b % 16) (omega arith) (true→T (eq-eqb (b % 16 % 4) 0 (omega (arith, eqb→eq (b % 4) 0 t)))))))
       (λ t. sym (none (b / 16) (b % 16)) ∙ row_is 0 (4 ∷ l ∷ b / 16 ∷ b % 16 ∷ ds) (where_at (λ m. not (eqb (m % 4) 0)) (λ m. eqb (row_number (4 ∷ l ∷ b / 16 ∷ m ∷ ds)) 0) 16 no_row_lem (b % 16) (omega arith) (subst⁻¹ (λ (m : ℕ). T (not (eqb m 0))) (mod_mod b) t)))
 
-as_far : (t : Bool) (i : Insn) (r : Read) → (T t → as_read i ≡ r) → (T (not t) → Err NoRow.Unassigned ≡ r) → as_read (pick t i no_row) ≡ r
+as_far : (t : Bool) (i : Option Insn) (r : Read) → (T t → as_read i ≡ r) → (T (not t) → Err NoRow.Unassigned ≡ r) → as_read (pick t i None) ≡ r
 as_far true i r p q = p tt
 as_far false i r p q = q tt
 
 -- SLBR: a second byte 1100 aaaa, and any other
 pub far_reads : (l upper b1 b2 : ℕ) (ds : List ℕ) → b1 < 256 → ((m h n : ℕ) → Ok (insn 49 (((upper * 16 + m) * 16 + h) * 16 + n) 0) ≡ read_digits (5 ∷ l ∷ 12 ∷ m ∷ h ∷ n ∷ ds)) → ((k m : ℕ) → Err NoRow.Unassigned ≡ row_with 0 (5 ∷ l ∷ k ∷ m ∷ b2 / 16 ∷ b2 % 16 ∷ ds)) → T (below 16 (λ k. implies (not (eqb k 12)) (eqb (row_number (5 ∷ l ∷ k ∷ b1 % 16 ∷ b2 / 16 ∷ b2 % 16 ∷ ds)) 0))) → as_read (far upper b1 b2) ≡ read_digits (5 ∷ l ∷ b1 / 16 ∷ b1 % 16 ∷ b2 / 16 ∷ b2 % 16 ∷ ds)
 far_reads l upper b1 b2 ds below256 reads none no_row_lem =
-    as_far (eqb (b1 / 16) 12) (insn 49 (upper * 4096 + b1 % 16 * 256 + b2) 0) _
+    as_far (eqb (b1 / 16) 12) (Some (insn 49 (upper * 4096 + b1 % 16 * 256 + b2) 0)) _
     (λ t. rw (eqb→eq (b1 / 16) 12 t) (ap (λ (a : ℕ). Ok (insn 49 a 0)) (omega arith) ∙ reads (b1 % 16) (b2 / 16) (b2 % 16)))
     (λ t. none (b1 / 16) (b1 % 16) ∙ row_is 0 (5 ∷ l ∷ b1 / 16 ∷ b1 % 16 ∷ b2 / 16 ∷ b2 % 16 ∷ ds) (where_at (λ k. not (eqb k 12)) (λ k. eqb (row_number (5 ∷ l ∷ k ∷ b1 % 16 ∷ b2 / 16 ∷ b2 % 16 ∷ ds)) 0) 16 no_row_lem (b1 / 16) (omega arith) t))

@@ -4,4 +4,4 @@ use Rattle.program.proofs.Addresses.{address_lt}
 use Rattle.program.proofs.image.address_at.Goals as goal
 
 pub returns : goal.returns
-returns c = address_lt _ (sym c.address_word.ensures ∙ c.in-At.is)
+returns c = address_lt _ (sym c.address_word.ensures ∙ c.in-Some.is)

@@ -24,13 +24,13 @@ pub returns-in-11 : goal.returns-in-11
 returns-in-11 c ds = rw (c.with_both-in-11.ensures, c.in-11.is) (unfold row_number row_with in refl)
 
 pub returns-in-12 : goal.returns-in-12
-returns-in-12 c ds = rw (c.by_aligned_x.ensures, c.in-12.is) (aligned-reads 12 46 ds tt (unfold row_with in λ h m. refl) (unfold row_with in λ h m. refl) c.args.b1 (omega arith) (unfold row_number in tt) (unfold row_number in tt))
+returns-in-12 c ds = rw (c.by_aligned_x.ensures, c.in-12.is) (aligned-reads 12 46 ds (unfold row_with in λ h m. refl) (unfold row_with in λ h m. refl) c.args.b1 (omega arith) (unfold row_number in tt) (unfold row_number in tt))
 
 pub returns-in-13 : goal.returns-in-13
 returns-in-13 c ds = rw (c.with_both-in-13.ensures, c.in-13.is) (unfold row_number row_with in refl)
 
 pub returns-in-14 : goal.returns-in-14
-returns-in-14 c ds = rw (c.by_aligned_x-in-14.ensures, c.in-14.is) (aligned-reads 14 6 ds tt (unfold row_with in λ h m. refl) (unfold row_with in λ h m. refl) c.args.b1 (omega arith) (unfold row_number in tt) (unfold row_number in tt))
+returns-in-14 c ds = rw (c.by_aligned_x-in-14.ensures, c.in-14.is) (aligned-reads 14 6 ds (unfold row_with in λ h m. refl) (unfold row_with in λ h m. refl) c.args.b1 (omega arith) (unfold row_number in tt) (unfold row_number in tt))
 
 pub returns-in-15 : goal.returns-in-15
 returns-in-15 c ds = rw (c.with_both-in-15.ensures, c.in-15.is) (unfold row_number row_with in refl)

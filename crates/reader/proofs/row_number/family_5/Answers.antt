@@ -14,4 +14,4 @@ pub returns-in-7 : goal.returns-in-7
 returns-in-7 c ds = rw (c.far_branch-in-7.ensures, c.in-7.is) (far_reads 7 0 c.args.b1 c.args.b2 ds (omega arith) (unfold row_number row_with in λ m h n. refl) (unfold row_with in λ k m. refl) (unfold row_number in tt))
 
 pub returns-in_default : goal.returns-in_default
-returns-in_default c ds = rw c.with_both.ensures (c.row_5.ensures (c.args.b1 / 16 ∷ c.args.b1 % 16 ∷ c.args.b2 / 16 ∷ c.args.b2 % 16 ∷ ds))
+returns-in_default c ds = rw c.numbered.ensures (c.row_5.ensures (c.args.b1 / 16 ∷ c.args.b1 % 16 ∷ c.args.b2 / 16 ∷ c.args.b2 % 16 ∷ ds))

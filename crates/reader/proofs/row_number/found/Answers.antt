@@ -21,10 +21,10 @@ pub returns-in-6 : goal.returns-in-6
 returns-in-6 c ds = rw c.in-6.is (c.family_6.ensures (c.args.b2 / 16 ∷ c.args.b2 % 16 ∷ ds))
 
 pub returns-in-7 : goal.returns-in-7
-returns-in-7 c ds = rw (c.with_both.ensures, c.in-7.is) (c.row_7.ensures (c.args.b1 / 16 ∷ c.args.b1 % 16 ∷ c.args.b2 / 16 ∷ c.args.b2 % 16 ∷ ds))
+returns-in-7 c ds = rw (c.numbered.ensures, c.in-7.is) (c.row_7.ensures (c.args.b1 / 16 ∷ c.args.b1 % 16 ∷ c.args.b2 / 16 ∷ c.args.b2 % 16 ∷ ds))
 
 pub returns-in-8 : goal.returns-in-8
-returns-in-8 c ds = rw (c.with_both-in-8.ensures, c.in-8.is) (unfold row_number row_with in refl)
+returns-in-8 c ds = rw (c.with_both.ensures, c.in-8.is) (unfold row_number row_with in refl)
 
 pub returns-in-9 : goal.returns-in-9
 returns-in-9 c ds = rw (c.with_both-in-9.ensures, c.in-9.is) (unfold row_number row_with in refl)

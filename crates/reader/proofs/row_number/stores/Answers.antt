@@ -11,7 +11,7 @@ use borrow.Author.Tests.{lt-ltb}
 use Rattle.reader.proofs.row_number.stores.Goals as goal
 
 pub returns-then-b1-lt244 : goal.returns-then-b1-lt244
-returns-then-b1-lt244 c ds = rw c.with_both.ensures (unfold row_with in (sym (rw (lt-ltb c.args.b1 0xF4 c.if-b1-lt244.true) at (sym (direct_reads 9 _ c.args.b1 tt (whole c.args.b1)))) ∙ row_is 9 _ (where_at (λ k. ltb k 0xF4) (λ k. eqb (row_number (6 ∷ 9 ∷ k / 16 ∷ k % 16 ∷ ds)) 9) 256 (unfold row_number in tt) c.args.b1 (omega arith) (lt→ltb _ _ c.if-b1-lt244.true))))
+returns-then-b1-lt244 c ds = rw c.with_both.ensures (unfold row_with in (sym (rw (lt-ltb c.args.b1 0xF4 c.if-b1-lt244.true) at (sym (direct_reads 9 _ c.args.b1 (whole c.args.b1)))) ∙ row_is 9 _ (where_at (λ k. ltb k 0xF4) (λ k. eqb (row_number (6 ∷ 9 ∷ k / 16 ∷ k % 16 ∷ ds)) 9) 256 (unfold row_number in tt) c.args.b1 (omega arith) (lt→ltb _ _ c.if-b1-lt244.true))))
 
-pub returns : goal.returns
-returns c ds = rw c.with_both-2.ensures (c.row_69.ensures ds)
+pub returns-else-b1-lt244 : goal.returns-else-b1-lt244
+returns-else-b1-lt244 c ds = rw c.numbered.ensures (c.row_69.ensures ds)
