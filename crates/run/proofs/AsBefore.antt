@@ -11,7 +11,7 @@ use Rattle.step.specs.Step.{step_of}
 use Rattle.device.specs.declared.Options.{Options}
 use Rattle.step.proofs.StepValid.{step-unmarked}
 use Rattle.step.proofs.AsBefore.{step_as_before}
-use Rattle.run.specs.Run.{RunPaper, run_over, run_of}
+use Rattle.run.specs.Run.{run_over, run_of}
 use Rattle.run.specs.Before.{run_over_before, run_before, RunAsBefore}
 use Rattle.run.proofs.Rest.{completes-on}
 

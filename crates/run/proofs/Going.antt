@@ -5,16 +5,15 @@ use mathlib.Core.List.{List, ◌∷◌, ◌++◌}
 use Prim.Native.Nat.{ℕ, ◌+◌, ◌*◌, ◌^◌, ◌<◌, ◌≤◌}
 use native.Mathlib.Omega.{arith}
 use native.Mathlib.Nat.{zero-add}
-use lib.ListN.{length, take, drop}
+use lib.ListN.{length, drop}
 use lib.Seq.{take-length, take-append_seam, drop-append_seam}
 use borrow.Author.Tests.{eq-eqb, ne_eqb, eqb-true}
 use Rattle.std.specs.Prelude.{Option, Some, None}
 use Rattle.std.proofs.Common.{length-append}
 use Rattle.std.specs.Option.{is_some}
 use Rattle.laws.specs.Choice.{both}
-use Rattle.numbers.specs.Numbered.{stop_number}
 use Rattle.numbers.specs.declared.Stop.{Stop}
-use Rattle.frame.specs.Frame.{PinsInRange, is_frame, are_frames, chars_at, frames_of, is_frame_at, pins_of}
+use Rattle.frame.specs.Frame.{PinsInRange, is_frame, are_frames, chars_at, frames_of, pins_of}
 use Rattle.frame.specs.declared.Pins.{Pins}
 use Rattle.frame.proofs.Characters.{both_first, both_second, in_range}
 use Rattle.frame.proofs.Sequence.{are-next, frames-rest, frames-next, frames-end}
@@ -23,7 +22,7 @@ use Rattle.record.specs.declared.Core.{Core}
 use Rattle.record.specs.declared.Machine.{Machine}
 use Rattle.row.specs.Rows.{Done}
 use Rattle.record.specs.With.{assembled}
-use Rattle.step.specs.Advance.{stop_or_0, done_by, Advances}
+use Rattle.step.specs.Advance.{stop_or_0, Advances}
 use Rattle.step.specs.Step.{step_of}
 use Rattle.step.specs.declared.Advanced.{Advanced}
 use Rattle.device.specs.Device.{digits_of, frame_size}

@@ -58,12 +58,7 @@ fn run_frames(image: &[u8], options: Options, m: Machine, frames: &[u8]) -> Ran
 }
 
 // The public run.
-pub fn run(
-    image: &[u8],
-    options: Options,
-    m: Machine,
-    frames: &[u8],
-) -> Result<Ran, Refusal>
+pub fn run(image: &[u8], options: Options, m: Machine, frames: &[u8]) -> Result<Ran, Refusal>
     ensures { RunOf image.now options m frames.now (paper_of m result) }
 {
     judged(image, options.device, m)?;

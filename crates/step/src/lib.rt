@@ -89,12 +89,7 @@ pub fn judged(image: &[u8], d: Device, m: Machine) -> Result<(), Refusal>
 }
 
 // The public step.
-pub fn step(
-    image: &[u8],
-    options: Options,
-    m: Machine,
-    frame: &[u8],
-) -> Result<Stepped, Refusal>
+pub fn step(image: &[u8], options: Options, m: Machine, frame: &[u8]) -> Result<Stepped, Refusal>
     ensures { StepOf image.now options m frame.now (paper_of m result) }
 {
     judged(image, options.device, m)?;

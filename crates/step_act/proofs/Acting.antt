@@ -1,5 +1,5 @@
 -- From what the parts give to what the definitions of a turn say.
-use mathlib.Core.Path.{◌≡◌, refl, sym, ap, subst, ◌∙◌}
+use mathlib.Core.Path.{◌≡◌, refl, sym, subst, ◌∙◌}
 use mathlib.Core.Bool.{true, false}
 use mathlib.Core.List.{List}
 use Prim.Native.Nat.{ℕ, ◌<◌}
@@ -12,16 +12,15 @@ use Rattle.sheet.specs.Reading.{read_at}
 use Rattle.sheet.specs.Refusing.{stop_of}
 use Rattle.sheet.specs.declared.Insn.{Insn}
 use Rattle.sheet.specs.declared.NoRow.{NoRow}
-use Rattle.ports.specs.declared.Mode.{Mode}
 use Rattle.record.specs.Stack.{can_push, accepted}
 use Rattle.record.specs.Valid.{Valid}
 use Rattle.record.specs.With.{assembled}
 use Rattle.record.specs.declared.Core.{Core}
-use Rattle.row.specs.Rows.{Done, spent, stops}
-use Rattle.row.specs.Turns.{turned, done_as, Gives}
+use Rattle.row.specs.Rows.{Done, spent}
+use Rattle.row.specs.Turns.{turned, Gives}
 use Rattle.row.specs.declared.Turn.{Turn}
 use Rattle.row_dispatch.specs.Performs.{Performs}
-use Rattle.step_act.specs.Act.{source_of, accept_of, run_read, run_one, accept_or_run, core_in, core_after, after_time, act_of}
+use Rattle.step_act.specs.Act.{source_of, accept_of, run_read, run_one, accept_or_run, core_after, act_of}
 use Rattle.step_act.proofs.Stops.{Agrees, none_passes}
 
 module _ (m : Core) (l : List ℕ) (source : ℕ) where

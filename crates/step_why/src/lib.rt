@@ -48,7 +48,12 @@ fn why_seen(m: Core) -> Reason
     requires { ValidInterrupts m.ints }
     ensures { result ≡ why_seen m }
 {
-    let Interrupts { ei, il, mask, due: _ } = m.ints;
+    let Interrupts {
+        ei,
+        il,
+        mask,
+        due: _,
+    } = m.ints;
     if !ei {
         return Reason::Disabled;
     }
@@ -84,12 +89,7 @@ pub fn why_of(options: Options, m: Core, new: Pins) -> Reason
 }
 
 // The public call.
-pub fn why(
-    image: &[u8],
-    options: Options,
-    m: Machine,
-    frame: &[u8],
-) -> Result<Reason, Refusal>
+pub fn why(image: &[u8], options: Options, m: Machine, frame: &[u8]) -> Result<Reason, Refusal>
     ensures { WhyAnswer image.now options m frame.now (paper_of result) }
 {
     judged(image, options.device, m)?;

@@ -1,5 +1,4 @@
 -- `run::run_frames` meets its contract.
-use Prim.Native.Nat.{◌≤◌}
 use mathlib.Core.Path.{sym, ap, ◌∙◌}
 use native.Mathlib.Omega.{arith}
 use Rattle.device.specs.Device.{in_image}

@@ -1,5 +1,4 @@
 -- `step_act::act` meets its contract.
-use mathlib.Core.Path.{◌∙◌}
 use Rattle.device.specs.Device.{in_image}
 use Rattle.std.proofs.lemmas.Result.{err_from_is_err_and}
 use Rattle.step_act.proofs.ActValid.{turn-valid}

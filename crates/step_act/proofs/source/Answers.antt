@@ -1,8 +1,6 @@
 -- `step_act::source` meets its contract.
 use Prim.Native.Nat.{ℕ, ◌<◌}
-use mathlib.Core.Path.{subst, sym, ap, ◌∙◌}
-use Rattle.bits.specs.Bits.{OneOfSix}
-use Rattle.due.specs.Due.{latch_of_source}
+use mathlib.Core.Path.{subst, sym}
 use Rattle.due.proofs.Sources.{number_lt, number_tells}
 use Rattle.step_act.specs.Act.{source_of}
 use Rattle.step_act.proofs.source.Goals as goal

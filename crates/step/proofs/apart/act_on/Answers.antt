@@ -12,6 +12,6 @@ returns-then-not-m c = rw c.acted.ensures (acts _ _ _ _ _ _ (sym c.is_running.en
 pub returns-else-is_running : goal.returns-else-is_running
 returns-else-is_running c =
     elim c.else-is_running.branch [
-      else-is_running-via-then-is_running+else-not-m w ↦ idles _ _ _ _ (rw w.if-not-m.false (both_false _))
-    | else-is_running-via-else-is_running w ↦ idles _ _ _ _ (rw (← c.is_running.ensures, w.if-is_running.false))
+      | else-is_running-via-then-is_running+else-not-m w ↦ idles _ _ _ _ (rw w.if-not-m.false (both_false _))
+      | else-is_running-via-else-is_running w ↦ idles _ _ _ _ (rw (← c.is_running.ensures, w.if-is_running.false))
     ]
