@@ -1,5 +1,5 @@
 -- Laws of single bits: what setting and clearing one keeps, the highest of six, and bits joined. The bit at i has the weight 2 ^ i.
-use mathlib.Core.Path.{◌≡◌, ap, subst, ◌∙◌}
+use mathlib.Core.Path.{◌≡◌, refl, ap, subst, ◌∙◌}
 use mathlib.Core.Bool.{Bool, true, false}
 use Prim.Native.Nat.{ℕ, suc, ◌+◌, ◌-◌, ◌*◌, ◌/◌, ◌%◌, ◌^◌, ◌<◌, ◌≤◌}
 use native.Mathlib.Nat.{div-eq_of_lt, mod-lt, suc-mul, pow-suc, mod-eq_of_lt}
@@ -10,6 +10,7 @@ use lib.Pow.{pow-add, pow_pos, shr_lt, split}
 use lib.Arith.{digits_lt}
 use lib.Bits.{bit_or, or_shifted}
 use borrow.Author.Tests.{eqb-true, ne_eqb, le-leb, lt-ltb}
+use Rattle.std.specs.Int.{from_bool}
 use Rattle.laws.specs.Choice.{pick, both}
 use Rattle.laws.proofs.Computed.{below, implies, at, where_at, true→T, both_left, both_right, both_i}
 use Rattle.bits.specs.Bits.{has_bit, with_bit, without_bit, highest_bit, bit_of}
@@ -90,6 +91,11 @@ highest n k hn hk low high =
 -- k bits joined to a number that was shifted up by k, within w bits
 pub joined : (w k n b : ℕ) → n * 2 ^ k < 2 ^ w → b < 2 ^ k → bit_or (n * 2 ^ k % 2 ^ w) b ≡ n * 2 ^ k + b
 joined w k n b h l = ap (λ (m : ℕ). bit_or m b) (mod-eq_of_lt h) ∙ or_shifted n k b l
+
+-- std's number of a truth value
+pub from_bool_is : (b : Bool) → from_bool b ≡ bit_of b
+from_bool_is true = refl
+from_bool_is false = refl
 
 pub bit_of_lt : (b : Bool) → bit_of b < 2
 bit_of_lt true = omega arith

@@ -4,15 +4,14 @@ use mathlib.Core.Bool.{Bool, true, false}
 use mathlib.Core.List.{List, [], ◌∷◌, ◌++◌, append_assoc, append-nil}
 use Prim.Native.Nat.{ℕ, suc, ◌+◌, ◌-◌, ◌<◌, ◌≤◌}
 use native.Mathlib.Decide.{ℕ_discrete}
-use native.Mathlib.Numerals.{add-one}
 use native.Mathlib.Omega.{arith}
 use borrow.Author.Tests.{eqb-false, eq-eqb, ne_eqb}
 use lib.Dec.{eqb}
 use lib.ListN.{length, get_or, take, drop, length-append, length-drop, get_or-append}
-use lib.Seq.{split_at, take_all, take-append-le, take-length, take-suc, drop-cons, drop-length, get_or_at, append_snoc}
+use lib.Seq.{split_at, take_all, take-append-le, take-length, drop-cons, drop-length, get_or_at}
 use Rattle.laws.specs.Choice.{pick}
 use Rattle.text.specs.Script.{is_lf}
-use Rattle.compare_lines.specs.Lines.{cut, is_blank, differ_from}
+use Rattle.compare_lines.specs.Lines.{cut, differ_from}
 use Rattle.compare_lines.specs.Left.{plain, OneLine, clash, spaced_from, spaced_of, blanks_in, left_of, Placed, Runs, Hears}
 use Rattle.compare_lines.specs.declared.Compared.TheVariants.{Differs}
 use Rattle.compare_lines.specs.declared.Phase.{Phase}
@@ -85,29 +84,6 @@ module _ (n : ℕ) {line : List ℕ} (o : OneLine line) (at : ℕ) (h : at < len
   pub judged-parts : (n ≡ 1 → ⊥) → clash (get_or line at 0) (get_or rest 0 0) ≡ false → (field : ℕ) (f g : Form) (r : Phase) → field ≡ 1 + blanks_in (take at line) → ((x : List ℕ) → spaced_from 7 true (take at line ++ x) ≡ spaced_of f x) → ((x : List ℕ) → spaced_of f (rest ++ x) ≡ spaced_of g x) → left_of r n line ours more ≡ Differs n (pick (spaced_of g more) field 0) → left_of (Matching at) n line ours (rest ++ more) ≡ left_of r n line ours more
   judged-parts m e field f g r q s t l =
       field-parts m e ∙ rw (l, q, s (rest ++ more), t more)
-
-blanks_by : (c : ℕ) (s : List ℕ) (t : Bool) → is_blank c ≡ t → blanks_in (c ∷ s) ≡ blanks_in (c ∷ []) + blanks_in s
-blanks_by c s true e = rw e (omega arith)
-blanks_by c s false e = rw e (omega arith)
-
-one_blank : (c : ℕ) (t : Bool) → is_blank c ≡ t → blanks_in (c ∷ []) ≤ 1
-one_blank c true e = rw e (omega arith)
-one_blank c false e = rw e (omega arith)
-
-pub at_most_one : (c : ℕ) → blanks_in (c ∷ []) ≤ 1
-at_most_one c = one_blank c (is_blank c) refl
-
-pub blanks_next : (s : List ℕ) (i : ℕ) → i < length s → blanks_in (drop i s) ≡ blanks_in (get_or s i 0 ∷ []) + blanks_in (drop (i + 1) s)
-blanks_next s i h = rw (add-one i, drop-cons s i 0 h) (blanks_by (get_or s i 0) (drop (suc i) s) (is_blank (get_or s i 0)) refl)
-
--- a character more of theirs is ours
-pub run_next : (line part : List ℕ) (at i here : ℕ) → here ≡ at + i → here < length line → i < length part → get_or line here 0 ≡ get_or part i 0 → ((rest : List ℕ) → take at line ++ (part ++ rest) ≡ take here line ++ (drop i part ++ rest)) → (rest : List ℕ) → take at line ++ (part ++ rest) ≡ take (here + 1) line ++ (drop (i + 1) part ++ rest)
-run_next line part at i here q h k e g rest =
-    g rest ∙ rw (drop-cons part i 0 k, add-one here, add-one i, take-suc line here 0 h, ← e) (sym (append_snoc (take here line) (get_or line here 0) (drop (suc i) part ++ rest)))
-
-pub picked_itself : (t : Bool) → pick t true false ≡ t
-picked_itself true = refl
-picked_itself false = refl
 
 pub rest_of : (k : ℕ) (part : List ℕ) → take (length part - k) (drop k part) ≡ drop k part
 rest_of k part = take_all (length part - k) (drop k part) (omega (arith, length-drop k part))

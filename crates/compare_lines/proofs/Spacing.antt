@@ -1,19 +1,15 @@
 -- The spacing of a line, judged a character at a time, is that of its parts.
-use mathlib.Core.Path.{◌≡◌, refl, sym, ◌∙◌}
+use mathlib.Core.Path.{◌≡◌, refl, sym}
 use mathlib.Core.Bool.{Bool, true, false, not}
-use mathlib.Core.List.{List, [], ◌∷◌, ◌++◌}
-use Prim.Native.Nat.{ℕ, zero, suc, ◌+◌, ◌-◌, ◌<◌}
-use native.Mathlib.Numerals.{add-one}
+use mathlib.Core.List.{List, [], ◌∷◌}
+use Prim.Native.Nat.{ℕ, zero, suc, ◌-◌}
 use native.Mathlib.Omega.{arith}
 use lib.Dec.{eqb, eqb-suc-zero}
-use lib.ListN.{length, get_or, drop}
-use lib.Seq.{drop-cons}
 use Rattle.laws.specs.Choice.{pick, both, either}
 use Rattle.laws.proofs.Choices.{both_false}
 use Rattle.text.specs.Script.{is_lf, on_first}
 use Rattle.compare_lines.specs.Lines.{Line, on_line, cut, is_blank, parts_of, full, full_parts, spaced}
-use Rattle.compare_lines.specs.Left.{spaced_from, spaced_of}
-use Rattle.compare_lines.specs.declared.Form.{Form}
+use Rattle.compare_lines.specs.Left.{spaced_from}
 
 -- a line has a part at least
 pub record Headed (parts : List (List ℕ)) : Type 0 where
@@ -74,8 +70,3 @@ first_spaced_lem left empty (c ∷ cs) =
 
 pub spaced_first : (text : List ℕ) (line : Line) (others : List Line) → cut text ≡ line ∷ others → spaced line ≡ spaced_from 7 true text
 spaced_first text line others q = rw (first_spaced_lem 7 true text, q, (headed line.text).so)
-
--- the spacing after a character more of a text
-pub judged_next : (text : List ℕ) (i l m : ℕ) (e f : Bool) (form : Form) → i < length text → ((rest : List ℕ) → spaced_from l e (text ++ rest) ≡ spaced_from m f (drop i text ++ rest)) → ((rest : List ℕ) → spaced_from m f (get_or text i 0 ∷ rest) ≡ spaced_of form rest) → (rest : List ℕ) → spaced_from l e (text ++ rest) ≡ spaced_of form (drop (i + 1) text ++ rest)
-judged_next text i l m e f form h g k rest =
-    g rest ∙ (rw (add-one i, drop-cons text i 0 h) (k (drop (suc i) text ++ rest)))

@@ -1,11 +1,11 @@
 // Document 02, Q-13: a line of ours against a part of their listing, which is not held: where in our line theirs has come to, or which field differs and how the line is spaced so far.
 #![tactic(auto)]
 
-ghost use Rattle.std.specs.Prelude.{◌≡◌, true, false, List, [], ◌∷◌, ◌++◌, ℕ, suc, ◌+◌, ◌<◌, ◌≤◌, length, get_or};
+ghost use Rattle.std.specs.Prelude.{◌≡◌, true, false, List, [], ◌∷◌, ◌++◌, ℕ, ◌+◌, ◌<◌, ◌≤◌, length, get_or};
 ghost use Rattle.laws.specs.Choice.{pick};
 ghost use Rattle.compare_lines.specs.Left.{spaced_from, spaced_of, left_of, OneLine, blanks_in, clash, settled, Placed, Runs, Hears, Heeds, CutShort, Onward};
 
-#[derive(Clone, Copy)]
+#[derive(Clone, Copy, PartialEq, Eq)]
 pub enum Compared {
     ImageOfAnotherSize,
     NotAFrame,
@@ -14,7 +14,7 @@ pub enum Compared {
 }
 
 // How a line is spaced: not known yet, so many blanks being left and the present field being empty or not; right; or wrong.
-#[derive(Clone, Copy)]
+#[derive(Clone, Copy, PartialEq, Eq)]
 pub enum Form {
     Open { left: u8, empty: bool },
     Spaced,
@@ -22,7 +22,7 @@ pub enum Form {
 }
 
 // How far our present line is compared: theirs is ours up to a place; a field differs, and their spacing is judged; or all is known.
-#[derive(Clone, Copy)]
+#[derive(Clone, Copy, PartialEq, Eq)]
 pub enum Phase {
     Matching { at: usize },
     Judging { field: u8, left: u8, empty: bool },
@@ -42,91 +42,33 @@ pub struct Turned {
     pub line: u64,
 }
 
-fn after_blank(left: u8, empty: bool) -> Form
-    ensures { (rest : List ℕ) → spaced_from left empty (32 ∷ rest) ≡ spaced_of result rest }
-{
-    if empty {
-        return Form::Broken;
-    }
-    if left == 0 {
-        return Form::Broken;
-    }
-    Form::Open {
-        left: left - 1,
-        empty: true,
-    }
-}
-
-fn at_end(left: u8, empty: bool) -> Form
-    ensures { (rest : List ℕ) → spaced_from left empty (10 ∷ rest) ≡ spaced_of result rest }
-{
-    if empty {
-        return Form::Broken;
-    }
-    if left == 0 {
-        return Form::Spaced;
-    }
-    Form::Broken
-}
-
+// The spacing after one character more.
 fn after(left: u8, empty: bool, c: u8) -> Form
     ensures { (rest : List ℕ) → spaced_from left empty (c ∷ rest) ≡ spaced_of result rest }
 {
-    if c == b'\n' {
-        return at_end(left, empty);
-    }
-    if c == b' ' {
-        return after_blank(left, empty);
-    }
-    Form::Open {
-        left: left,
-        empty: false,
+    match c {
+        b'\n' if !empty && left == 0 => Form::Spaced,
+        b' ' if !empty && left > 0 => Form::Open {
+            left: left - 1,
+            empty: true,
+        },
+        b'\n' | b' ' => Form::Broken,
+        _ => Form::Open { left, empty: false },
     }
 }
 
 // The spacing after some characters more.
-fn judge_open(left: u8, empty: bool, text: &[u8]) -> Form
-    ensures { (rest : List ℕ) → spaced_from left empty (text.now ++ rest) ≡ spaced_of result rest }
+fn judge(start: Form, text: &[u8]) -> Form
+    ensures { (rest : List ℕ) → spaced_of start (text.now ++ rest) ≡ spaced_of result rest }
 {
-    let mut blanks = left;
-    let mut none = empty;
-    let mut i = 0;
-    while i < text.len() {
-        let form = after(blanks, none, text[i]);
-        match form {
-            Form::Open { left: l, empty: e } => {
-                blanks = l;
-                none = e;
-            }
-            Form::Spaced => return Form::Spaced,
-            Form::Broken => return Form::Broken,
-        }
-        i += 1;
+    let mut form = start;
+    for c in text {
+        let Form::Open { left, empty } = form else {
+            return form;
+        };
+        form = after(left, empty, *c);
     }
-    Form::Open {
-        left: blanks,
-        empty: none,
-    }
-}
-
-fn judge(form: Form, text: &[u8]) -> Form
-    ensures { (rest : List ℕ) → spaced_of form (text.now ++ rest) ≡ spaced_of result rest }
-{
-    match form {
-        Form::Open { left, empty } => judge_open(left, empty, text),
-        Form::Spaced => Form::Spaced,
-        Form::Broken => Form::Broken,
-    }
-}
-
-fn field_on(field: u8, c: u8) -> u8
-    requires { field < 255 }
-    ensures { result ≡ field + blanks_in (c ∷ []) }
-{
-    if c == b' ' {
-        return field + 1;
-    }
-    field
+    form
 }
 
 // In which field the character after a text of ours is.
@@ -135,10 +77,10 @@ fn field_after(text: &[u8]) -> u8
     ensures { result ≡ 1 + blanks_in text.now }
 {
     let mut field = 1;
-    let mut i = 0;
-    while i < text.len() {
-        field = field_on(field, text[i]);
-        i += 1;
+    for c in text {
+        if *c == b' ' {
+            field += 1;
+        }
     }
     field
 }
@@ -148,31 +90,19 @@ fn equal_run(line: &[u8], at: usize, part: &[u8]) -> usize
     requires { at ≤ length line.now }
     ensures { Runs line.now at part.now result }
 {
-    let mut i = 0;
-    let mut here = at;
-    while i < part.len() {
-        if here == line.len() {
+    for (i, c) in part.iter().enumerate() {
+        if at + i == line.len() || line[at + i] != *c {
             return i;
         }
-        if line[here] != part[i] {
-            return i;
-        }
-        i += 1;
-        here += 1;
     }
-    i
+    part.len()
 }
 
+// Whether one line ends where the other has one more field.
 fn clashes(a: u8, c: u8) -> bool
     ensures { result ≡ clash a c }
 {
-    if a == b' ' {
-        return c == b'\n';
-    }
-    if a == b'\n' {
-        return c == b' ';
-    }
-    false
+    matches!((a, c), (b' ', b'\n') | (b'\n', b' '))
 }
 
 fn phase_of(field: u8, form: Form) -> Phase
@@ -180,12 +110,8 @@ fn phase_of(field: u8, form: Form) -> Phase
     ensures by_index_2 { (size : ℕ) → Placed result size }
 {
     match form {
-        Form::Open { left, empty } => Phase::Judging {
-            field: field,
-            left: left,
-            empty: empty,
-        },
-        Form::Spaced => Phase::Found { field: field },
+        Form::Open { left, empty } => Phase::Judging { field, left, empty },
+        Form::Spaced => Phase::Found { field },
         Form::Broken => Phase::Found { field: 0 },
     }
 }
@@ -196,19 +122,16 @@ fn part_ways(n: u64, line: &[u8], at: usize, rest: &[u8]) -> Phase
     ensures by_index { (ours more : List ℕ) → left_of (Phase.Matching at) n line.now ours (rest.now ++ more) ≡ left_of result n line.now ours more }
     ensures by_index_2 { (size : ℕ) → Placed result size }
 {
-    if n == 1 {
+    if n == 1 || clashes(line[at], rest[0]) {
         return Phase::Found { field: 0 };
     }
-    if clashes(line[at], rest[0]) {
-        return Phase::Found { field: 0 };
-    }
-    let field = field_after(&line[..at]);
+    let before = &line[..at];
     let start = Form::Open {
         left: 7,
         empty: true,
     };
-    let form = judge(start, &line[..at]);
-    phase_of(field, judge(form, rest))
+    let form = judge(start, before);
+    phase_of(field_after(before), judge(form, rest))
 }
 
 fn match_on(n: u64, line: &[u8], at: usize, part: &[u8]) -> Heard
@@ -217,13 +140,7 @@ fn match_on(n: u64, line: &[u8], at: usize, part: &[u8]) -> Heard
 {
     let k = equal_run(line, at, part);
     let here = at + k;
-    if here == line.len() {
-        return Heard {
-            phase: Phase::Matching { at: here },
-            used: k,
-        };
-    }
-    if k == part.len() {
+    if here == line.len() || k == part.len() {
         return Heard {
             phase: Phase::Matching { at: here },
             used: k,
@@ -242,15 +159,12 @@ pub fn hear(phase: Phase, n: u64, line: &[u8], part: &[u8]) -> Heard
 {
     match phase {
         Phase::Matching { at } => match_on(n, line, at, part),
-        Phase::Judging { field, left, empty } => {
-            let form = judge_open(left, empty, part);
-            Heard {
-                phase: phase_of(field, form),
-                used: part.len(),
-            }
-        }
-        Phase::Found { field } => Heard {
-            phase: Phase::Found { field: field },
+        Phase::Judging { field, left, empty } => Heard {
+            phase: phase_of(field, judge(Form::Open { left, empty }, part)),
+            used: part.len(),
+        },
+        Phase::Found { .. } => Heard {
+            phase,
             used: part.len(),
         },
     }
@@ -262,14 +176,9 @@ pub fn cut_short(phase: Phase, size: usize) -> Phase
     ensures { CutShort phase size result }
 {
     match phase {
-        Phase::Matching { at } => {
-            if at == size {
-                return Phase::Matching { at: at };
-            }
-            Phase::Found { field: 0 }
-        }
-        Phase::Judging { field, left, empty } => Phase::Found { field: 0 },
-        Phase::Found { field } => Phase::Found { field: field },
+        Phase::Matching { at } if at != size => Phase::Found { field: 0 },
+        Phase::Judging { .. } => Phase::Found { field: 0 },
+        Phase::Matching { .. } | Phase::Found { .. } => phase,
     }
 }
 
@@ -279,23 +188,13 @@ pub fn heed(phase: Phase, n: u64, line: &[u8], part: &[u8], last: bool) -> Heard
     ensures { Heeds phase n line.now part.now last result }
 {
     let heard = hear(phase, n, line, part);
-    let used = heard.used;
-    let now = heard.phase;
-    if last {
-        if used < part.len() {
-            return Heard {
-                phase: now,
-                used: used,
-            };
+    if last && heard.used == part.len() {
+        Heard {
+            phase: cut_short(heard.phase, line.len()),
+            ..heard
         }
-        return Heard {
-            phase: cut_short(now, line.len()),
-            used: used,
-        };
-    }
-    Heard {
-        phase: now,
-        used: used,
+    } else {
+        heard
     }
 }
 
@@ -305,32 +204,21 @@ pub fn onward(phase: Phase, n: u64, size: usize) -> Turned
     ensures { Onward phase n size result }
 {
     match phase {
-        Phase::Matching { at } => Turned {
+        Phase::Matching { .. } => Turned {
             phase: Phase::Matching { at: 0 },
             line: n + 1,
         },
-        Phase::Judging { field, left, empty } => Turned {
-            phase: Phase::Judging {
-                field: field,
-                left: left,
-                empty: empty,
-            },
-            line: n,
-        },
-        Phase::Found { field } => Turned {
-            phase: Phase::Found { field: field },
-            line: n,
-        },
+        Phase::Judging { .. } | Phase::Found { .. } => Turned { phase, line: n },
     }
 }
 
+// Whether nothing of our line is waited for.
 pub fn is_settled(phase: Phase, size: usize) -> bool
     ensures { result ≡ settled phase size }
 {
     match phase {
         Phase::Matching { at } => at == size,
-        Phase::Judging { field, left, empty } => true,
-        Phase::Found { field } => true,
+        Phase::Judging { .. } | Phase::Found { .. } => true,
     }
 }
 
@@ -346,17 +234,10 @@ pub fn verdict(phase: Phase, n: u64, size: usize, more: bool) -> Compared
         };
     }
     match phase {
-        Phase::Matching { at } => {
-            if at < size {
-                return Compared::Differs { line: n, field: 0 };
-            }
-            Compared::Same
-        }
-        Phase::Judging { field, left, empty } => Compared::Differs { line: n, field: 0 },
-        Phase::Found { field } => Compared::Differs {
-            line: n,
-            field: field,
-        },
+        Phase::Matching { at } if at < size => Compared::Differs { line: n, field: 0 },
+        Phase::Matching { .. } => Compared::Same,
+        Phase::Judging { .. } => Compared::Differs { line: n, field: 0 },
+        Phase::Found { field } => Compared::Differs { line: n, field },
     }
 }
 
@@ -366,6 +247,5 @@ pub fn finish(phase: Phase, n: u64, line: &[u8], rest: &[u8]) -> Compared
     ensures { left_of phase n line.now [] rest.now ≡ result }
 {
     let heard = hear(phase, n, line, rest);
-    let now = heard.phase;
-    verdict(now, n, line.len(), heard.used < rest.len())
+    verdict(heard.phase, n, line.len(), heard.used < rest.len())
 }

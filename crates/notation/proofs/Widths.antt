@@ -10,6 +10,7 @@ use Rattle.laws.proofs.Computed.{below, at as at_row}
 use Rattle.sheet.specs.Table.{line_at}
 use Rattle.sheet.specs.declared.Insn.{Insn}
 use Rattle.text.specs.Digits.{in_base, places_of}
+use Rattle.std.specs.Prelude.{unwrap_or}
 use Rattle.sheet.specs.Flow.{goes_to}
 use Rattle.notation.specs.Notation.{is, sign, spelled, mnemonic_of, row_text}
 use Rattle.text.proofs.digits.Numbers.{digits_length, places_up_to}
@@ -36,7 +37,7 @@ sign_width at i c h =
     (of_pick (is "b" c) _ _ _ _ (omega (arith, digits_length 10 1 i.a))
     (of_pick (is "p" c) _ _ _ _ (omega (arith, digits_length 10 (places_of i.b) i.b, places_up_to 2 i.b (omega arith)))
     (of_pick (is "r" c) _ _ _ _ (digits_and 2 6 i.a 66)
-    (of_pick (is "a" c) _ _ _ _ (digits_and 16 4 (goes_to at i) 104) (omega arith)))))))
+    (of_pick (is "a" c) _ _ _ _ (digits_and 16 4 (unwrap_or (goes_to at i) 0) 104) (omega arith)))))))
 
 abbrev widths : List ℕ → ℕ
 widths [] = 0

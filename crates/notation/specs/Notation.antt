@@ -1,5 +1,5 @@
 -- A row in the notation of sheet 000: its mnemonic, with each operand in the place of its letter. Sentences in quotation marks are of docs/PROGRAMS.md.
-use Rattle.std.specs.Prelude.{ℕ, Bool, List, [], ◌∷◌, ◌++◌, eqb}
+use Rattle.std.specs.Prelude.{ℕ, Bool, List, [], ◌∷◌, ◌++◌, eqb, unwrap_or}
 use Prim.Native.Char.{Char, code}
 use Rattle.laws.specs.Choice.{pick}
 use Rattle.sheet.specs.Flow.{goes_to}
@@ -20,7 +20,7 @@ sign at i c =
     (pick (is "b" c) (in_base 10 1 i.a)
     (pick (is "p" c) (characters "P" ++ decimal i.b)
     (pick (is "r" c) (binary 6 i.a ++ characters "B")
-    (pick (is "a" c) (hex 4 (goes_to at i) ++ characters "h")
+    (pick (is "a" c) (hex 4 (unwrap_or (goes_to at i) 0) ++ characters "h")
     (c ∷ [])))))))
 
 abbrev pub spelled : ℕ → Insn → List ℕ → List ℕ

@@ -167,7 +167,7 @@ fn sign<const N: usize>(out: &mut Text<N>, at: u16, insn: Insn, c: u8)
         b'b' => out.number(10, 1, a),
         b'p' => port(out, b),
         b'r' => marked(out, 2, 6, a, b'B'),
-        b'a' => marked(out, 16, 4, goes_to(at, insn), b'h'),
+        b'a' => marked(out, 16, 4, goes_to(at, insn).unwrap_or(0), b'h'),
         _ => out.put(c),
     }
 }

@@ -1,33 +1,26 @@
 -- Numbers in two bytes and in four, flags and modes: that what the code makes of the bytes has those bytes.
-use Prim.Native.Nat.{ℕ, zero, suc, ◌+◌, ◌*◌, ◌/◌, ◌%◌, ◌<◌}
+use Prim.Native.Nat.{ℕ, zero, suc, ◌+◌, ◌*◌, ◌/◌, ◌%◌, ◌^◌, ◌<◌}
 use mathlib.Core.Path.{◌≡◌, refl}
 use mathlib.Core.List.{List, [], ◌∷◌, ◌++◌}
 use native.Mathlib.Omega.{arith}
 use lib.Dec.{eqb}
 use lib.ListN.{get_or}
 use Rattle.laws.proofs.Decided.{Decision, less, ◌and◌, restated}
-use Rattle.bits.specs.Bits.{bit_of}
+use Rattle.std.specs.Int.{w16, w32, to_le_bytes}
 use Rattle.record_bytes.specs.Layout.{two, four}
 use Rattle.record_bytes.specs.Unpacked.{FlagsFit}
 
-pub two_of : (a b : ℕ) → a < 256 → two (a + 256 * b) ≡ a ∷ b ∷ []
+pub two_bytes : (n : ℕ) → n < 2 ^ 16 → to_le_bytes w16 n ≡ two n
 unfolding two
-two_of a b h =
-    let low : (a + 256 * b) % 256 ≡ a = omega arith in
-    let high : (a + 256 * b) / 256 ≡ b = omega arith in
-    rw (low, high)
+two_bytes n h = let high : n / 256 % 256 ≡ n / 256 = omega arith in rw high
 
-pub four_of : (a b : ℕ) → a < 65536 → four (a + 65536 * b) ≡ two a ++ two b
-unfolding four
-four_of a b h =
-    let low : (a + 65536 * b) % 65536 ≡ a = omega arith in
-    let high : (a + 65536 * b) / 65536 ≡ b = omega arith in
-    rw (low, high)
-
-pub flag_of : (b : ℕ) → b < 2 → bit_of (eqb b 1) ≡ b
-flag_of zero h = refl
-flag_of (suc zero) h = refl
-flag_of (suc (suc b)) h = absurd (omega arith)
+pub four_bytes : (n : ℕ) → n < 2 ^ 32 → to_le_bytes w32 n ≡ four n
+unfolding two four
+four_bytes n h =
+    let b0 : n % 65536 % 256 ≡ n % 256 = omega arith in
+    let b1 : n % 65536 / 256 ≡ n / 256 % 256 = omega arith in
+    let b3 : n / 65536 / 256 ≡ n / 16777216 % 256 = omega arith in
+    rw (b0, b1, b3)
 
 abbrev pub flags_fit : (h : List ℕ) → Decision (FlagsFit h)
 flags_fit h =

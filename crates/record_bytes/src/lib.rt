@@ -8,9 +8,7 @@ ghost use Rattle.bits.specs.Bits.{bit_of};
 ghost use Rattle.record_bytes.specs.Layout.{head_size, record_size, two, four, mode_number, nibbles_of, others_of, head_of, Holds};
 ghost use Rattle.record_bytes.specs.Unpacked.{FlagsFit, RegistersAt, InterruptsAt, TimersAt, PortsAt, Unpacks};
 
-use bits::bit_of;
 use frame::Pins;
-use laws::both;
 use numbers::RAM_NIBBLES;
 use ports::{Mode, Ports};
 use record::{Core, Interrupts, Machine, Pointers, Ram, Registers, Timers};
@@ -21,18 +19,7 @@ pub const RECORD_BYTES: usize = 416;
 // How many of them come before RAM.
 const HEAD_BYTES: usize = 44;
 
-fn low(n: u16) -> u8
-    ensures { result ≡ n % 256 }
-{
-    (n % 256) as u8
-}
-
-fn high(n: u16) -> u8
-    ensures { result ≡ n / 256 }
-{
-    (n / 256) as u8
-}
-
+#[tactic(auto, unfolding(crate::specs::Layout::mode_number))]
 fn mode_number(mode: Mode) -> u8
     ensures { result ≡ mode_number mode }
 {
@@ -44,6 +31,7 @@ fn mode_number(mode: Mode) -> u8
 }
 
 // Bytes 0 to 15.
+#[tactic(auto, unfolding(crate::specs::Layout::latch_bytes, crate::specs::Layout::nibbles_of))]
 fn nibbles_of(m: Core) -> [u8; 16]
     ensures { result ≡ nibbles_of m }
 {
@@ -68,35 +56,38 @@ fn nibbles_of(m: Core) -> [u8; 16]
 }
 
 // Bytes 16 to 43.
+#[tactic(auto, unfolding(crate::specs::Layout::two, crate::specs::Layout::four, crate::specs::Layout::others_of))]
 fn others_of(m: Core) -> [u8; 28]
     ensures { result ≡ others_of m }
 {
-    let mode = m.mode;
-    let base_low = (m.timers.base % 65536) as u16;
-    let base_high = (m.timers.base / 65536) as u16;
+    let [pc_low, pc_high] = m.pc.to_le_bytes();
+    let [dp_low, dp_high] = m.ptrs.dp.to_le_bytes();
+    let [ta_low, ta_high] = m.timers.ta.to_le_bytes();
+    let [tb_low, tb_high] = m.timers.tb.to_le_bytes();
+    let [base_0, base_1, base_2, base_3] = m.timers.base.to_le_bytes();
     [
-        low(m.pc),
-        high(m.pc),
-        low(m.ptrs.dp),
-        high(m.ptrs.dp),
-        low(m.timers.ta),
-        high(m.timers.ta),
-        low(m.timers.tb),
-        high(m.timers.tb),
-        bit_of(m.regs.cf),
-        bit_of(m.regs.zf),
-        bit_of(m.regs.sf),
-        bit_of(m.ints.ei),
+        pc_low,
+        pc_high,
+        dp_low,
+        dp_high,
+        ta_low,
+        ta_high,
+        tb_low,
+        tb_high,
+        u8::from(m.regs.cf),
+        u8::from(m.regs.zf),
+        u8::from(m.regs.sf),
+        u8::from(m.ints.ei),
         m.ints.il,
-        low(base_low),
-        high(base_low),
-        low(base_high),
-        high(base_high),
+        base_0,
+        base_1,
+        base_2,
+        base_3,
         m.pins.p0,
         m.pins.p8,
         m.pins.p4,
-        mode_number(mode),
-        bit_of(m.mark),
+        mode_number(m.mode),
+        u8::from(m.mark),
         m.ints.due,
         m.ports.p3,
         m.ports.p5,
@@ -118,25 +109,23 @@ pub fn pack(m: Machine, out: &mut [u8])
     requires { length out.old ≡ record_size }
     ensures { Holds out.new m }
 {
-    let core = m.core;
-    let ram = m.ram;
-    let nibbles = nibbles_of(core);
-    let others = others_of(core);
-    put(out, 0, &nibbles);
-    put(out, 16, &others);
-    put(out, HEAD_BYTES, &ram);
+    put(out, 0, &nibbles_of(m.core));
+    put(out, 16, &others_of(m.core));
+    put(out, HEAD_BYTES, &m.ram);
 }
 
+#[tactic(auto, unfolding(crate::specs::Layout::two))]
 fn from_two(a: u8, b: u8) -> u16
     ensures { two result ≡ a ∷ b ∷ [] }
 {
-    a as u16 + 256 * (b as u16)
+    u16::from_le_bytes([a, b])
 }
 
+#[tactic(auto, unfolding(crate::specs::Layout::two, crate::specs::Layout::four))]
 fn from_four(a: u8, b: u8, c: u8, d: u8) -> u32
     ensures { four result ≡ a ∷ b ∷ c ∷ d ∷ [] }
 {
-    from_two(a, b) as u32 + 65536 * (from_two(c, d) as u32)
+    u32::from_le_bytes([a, b, c, d])
 }
 
 fn flag(b: u8) -> bool
@@ -146,6 +135,7 @@ fn flag(b: u8) -> bool
     b == 1
 }
 
+#[tactic(auto, unfolding(crate::specs::Layout::mode_number))]
 fn mode_of(b: u8) -> Mode
     requires { b < 3 }
     ensures { mode_number result ≡ b }
@@ -160,10 +150,12 @@ fn mode_of(b: u8) -> Mode
 fn flags_fit(head: &[u8; HEAD_BYTES]) -> bool
     ensures { Decides result (FlagsFit head.now) }
 {
-    let carry_zero = both(head[24] < 2, head[25] < 2);
-    let status_enable = both(head[26] < 2, head[27] < 2);
-    let mode_mark = both(head[36] < 3, head[37] < 2);
-    both(carry_zero, both(status_enable, mode_mark))
+    head[24] < 2
+        && head[25] < 2
+        && head[26] < 2
+        && head[27] < 2
+        && head[36] < 3
+        && head[37] < 2
 }
 
 fn ports_of(head: &[u8; HEAD_BYTES]) -> Ports

@@ -1,14 +1,15 @@
 -- What the bounder says of an answer, and a line of its path, as characters. Sentences in quotation marks are of docs/PROGRAMS.md.
-use Rattle.std.specs.Prelude.{ℕ, ◌-◌, List, [], ◌∷◌, ◌++◌, length}
+use Rattle.std.specs.Prelude.{ℕ, ◌-◌, List, [], ◌∷◌, ◌++◌, length, Result, Ok, Err}
 use Rattle.numbers.specs.ComesBack.{image_of_another_size, record_outside_the_ranges, address_over_8191, excluded_instruction_reachable, repetition_reachable, path_buffer_too_short, recursion_reachable, bound_over_65535}
 use Rattle.device.specs.declared.Device.{Device}
-use Rattle.sheet.specs.Reading.{read_at, cycles_of}
-use Rattle.sheet.specs.declared.Read.{Read}
+use Rattle.sheet.specs.Reading.{Read, read_at, cycles_of}
 use Rattle.text.specs.Digits.{characters, hex, decimal, blanks}
 use Rattle.text.specs.Refusal.{refused_text}
 use Rattle.notation.specs.Names.{source_name}
 use Rattle.text_lister.specs.Listing.{columns_of}
-use Rattle.bound.specs.declared.Bounded.{Bounded}
+use Rattle.routines_bound.specs.declared.Greatest.{Greatest}
+use Rattle.routines_bound.specs.declared.Unbounded.{Unbounded}
+use Rattle.bound.specs.declared.Refused.{Refused}
 
 -- what comes with a refusal
 abbrev pub refused_at : ℕ → ℕ → List ℕ
@@ -25,31 +26,24 @@ abbrev pub depth_text : ℕ → List ℕ
 depth_text depth = characters "depth " ++ decimal depth
 
 -- an address in four hexadecimal digits, bytes and cycles in decimal; where there is a bound, its depth stands beside it or on a line of its own
-abbrev pub summary_of : Bounded → List ℕ
-summary_of Bounded.ImageSize = refused_text image_of_another_size
-summary_of Bounded.P3Range = refused_text record_outside_the_ranges
-summary_of Bounded.AddressRange = refused_text address_over_8191
-summary_of (Bounded.Recursion entry) = refused_at recursion_reachable entry
-summary_of (Bounded.Excluded address) = refused_at excluded_instruction_reachable address
-summary_of (Bounded.Repeats address) = refused_at repetition_reachable address
-summary_of Bounded.TooLarge = refused_text bound_over_65535
-summary_of (Bounded.Short bytes) = refused_bytes path_buffer_too_short bytes
-summary_of (Bounded.Bounds g) = cycles_text g.cycles
+abbrev pub summary_of : Result Greatest Refused → List ℕ
+summary_of (Err Refused.ImageSize) = refused_text image_of_another_size
+summary_of (Err Refused.P3Range) = refused_text record_outside_the_ranges
+summary_of (Err Refused.AddressRange) = refused_text address_over_8191
+summary_of (Err (Refused.Unbounded (Unbounded.Recursion entry))) = refused_at recursion_reachable entry
+summary_of (Err (Refused.Unbounded (Unbounded.Excluded address))) = refused_at excluded_instruction_reachable address
+summary_of (Err (Refused.Unbounded (Unbounded.Repeats address))) = refused_at repetition_reachable address
+summary_of (Err (Refused.Unbounded Unbounded.TooLarge)) = refused_text bound_over_65535
+summary_of (Err (Refused.Unbounded (Unbounded.Short bytes))) = refused_bytes path_buffer_too_short bytes
+summary_of (Ok g) = cycles_text g.cycles
 
 -- on a line of the entries the depth stands beside N
-abbrev pub answer_text : Bounded → List ℕ
-answer_text Bounded.ImageSize = summary_of Bounded.ImageSize
-answer_text Bounded.P3Range = summary_of Bounded.P3Range
-answer_text Bounded.AddressRange = summary_of Bounded.AddressRange
-answer_text (Bounded.Recursion entry) = summary_of (Bounded.Recursion entry)
-answer_text (Bounded.Excluded address) = summary_of (Bounded.Excluded address)
-answer_text (Bounded.Repeats address) = summary_of (Bounded.Repeats address)
-answer_text Bounded.TooLarge = summary_of Bounded.TooLarge
-answer_text (Bounded.Short bytes) = summary_of (Bounded.Short bytes)
-answer_text (Bounded.Bounds g) = cycles_text g.cycles ++ (characters " " ++ depth_text g.depth)
+abbrev pub answer_text : Result Greatest Refused → List ℕ
+answer_text (Ok g) = cycles_text g.cycles ++ (characters " " ++ depth_text g.depth)
+answer_text (Err refused) = summary_of (Err refused)
 
 -- "a line each: the entry's address, its source, the answer"
-abbrev pub entry_line_of : Device → ℕ → ℕ → Bounded → List ℕ
+abbrev pub entry_line_of : Device → ℕ → ℕ → Result Greatest Refused → List ℕ
 entry_line_of d at latch answer = hex 4 at ++ (characters " " ++ (source_name d latch ++ (characters " " ++ (answer_text answer ++ (10 ∷ [])))))
 
 -- as the lister's line, then a blank and what is counted, right-aligned in five characters: along N's path the total of cycles so far, along depth's "the number of calls open after the row"
@@ -61,9 +55,8 @@ path_line_of rom at counted = columns_of rom at ++ (characters " " ++ (right_ali
 
 -- the cycles of the row at an address, 0 where there is none
 abbrev pub cycles_read : Read → ℕ
-cycles_read (Read.Row i) = cycles_of i.row
-cycles_read Read.Unassigned = 0
-cycles_read Read.PastEnd = 0
+cycles_read (Ok i) = cycles_of i.row
+cycles_read (Err why) = 0
 
 abbrev pub cycles_at : (ℕ → ℕ) → ℕ → ℕ
 cycles_at rom at = cycles_read (read_at rom at)

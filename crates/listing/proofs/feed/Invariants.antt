@@ -7,7 +7,7 @@ use Rattle.listing.proofs.Feeding.{Feeding}
 use Rattle.listing.proofs.feed.Given as goal
 
 abbrev pub invariant-loop-out : goal.invariant-loop-out
-invariant-loop-out l = Feeding l.d (rom_of l.image) (assembled l.initial.core l.initial.ram) l.part l.initial.out l.out l.from l.at (assembled l.core l.ram) l.used
+invariant-loop-out g l = Feeding l.image.device (rom_of l.image.bytes.now) (assembled l.initial.core l.initial.ram) l.part l.initial.out l.out (assembled l.core l.ram) l.used
 
 abbrev pub decreases-loop-out : goal.decreases-loop-out
-decreases-loop-out l = length l.part - l.used
+decreases-loop-out g l = length l.part - l.used

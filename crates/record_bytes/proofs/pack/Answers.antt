@@ -7,4 +7,4 @@ pub put-requires-3 : goal.put-requires-3
 put-requires-3 c = room_for_ram c.requires c.put.ensures.size c.put-2.ensures.size (search rules)
 
 pub returns : goal.returns
-returns c = packed _ _ _ _ _ _ _ c.requires (search rules) c.nibbles_of-nibbles.ensures c.others_of-others.ensures c.put.ensures c.put-2.ensures c.put-3.ensures
+returns c = packed _ _ _ _ _ _ _ c.requires (search rules) c.nibbles_of.ensures c.others_of.ensures c.put.ensures c.put-2.ensures c.put-3.ensures

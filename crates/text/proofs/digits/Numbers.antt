@@ -7,7 +7,7 @@ use native.Mathlib.Nat.{not-suc-le-zero, pow-suc, one-le-pow}
 use native.Mathlib.Decide.{dec_lt}
 use borrow.Author.Tests.{lt-ltb, le-ltb}
 use lib.ListN.{length, take, replicate, length-append}
-use Rattle.text.specs.Digits.{digit, in_base, places_within, places_of, blanks, padded}
+use Rattle.text.specs.Digits.{digit, in_base, places_within, places_of, decimal, blanks, padded}
 use Rattle.laws.specs.Writing.{Wrote}
 use Rattle.laws.proofs.Writing.{wrote_then}
 
@@ -63,6 +63,15 @@ places_in (suc k) v g h =
     let p = one-le-pow (suc k) 10 (omega arith) in
     places_more v (omega arith) ∙ ap suc (places_in k (v / 10) (omega arith) (omega arith))
 
+-- a decimal number's last digit, and those before it
+pub decimal_one : (v : ℕ) → v < 10 → decimal v ≡ digit v ∷ []
+unfolding in_base
+decimal_one v h = let e : v % 10 ≡ v = omega arith in rw (places_one v h, e)
+
+pub decimal_more : (v : ℕ) → 10 ≤ v → decimal v ≡ decimal (v / 10) ++ (digit (v % 10) ∷ [])
+unfolding in_base
+decimal_more v h = rw (places_more v h)
+
 up_to : (k v : ℕ) → places_of (v / 10) ≤ suc k → Dec (v < 10) → places_of v ≤ suc (suc k)
 up_to k v h (yes b) = omega (arith, places_one v b)
 up_to k v h (no b) = omega (arith, places_more v (omega arith))
@@ -74,6 +83,9 @@ places_up_to (suc k) v h =
 
 pub places_of_byte : (v : ℕ) → v < 256 → places_of v ≤ 3
 places_of_byte v h = places_up_to 2 v (omega arith)
+
+pub places_of_six : (v : ℕ) → v < 1000000 → places_of v ≤ 6
+places_of_six v h = places_up_to 5 v (omega arith)
 
 -- a text and the blanks that fill its column
 pub wrote_padded : {b m e : List ℕ} {from end r : ℕ} {text : List ℕ} (n : ℕ) → Wrote b m from end text → Wrote m e end r (blanks (from + n - end)) → Wrote b e from r (padded n text)
