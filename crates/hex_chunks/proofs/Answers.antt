@@ -13,11 +13,10 @@ use Rattle.hex_reader.specs.Progress.{Reading, good, refused, read_of}
 use Rattle.hex_reader.specs.Reached.{Held, IsFault, is_stopped}
 use Rattle.hex_reader.specs.declared.progress.Stage.TheVariants.{Ended}
 use Rattle.hex_reader.specs.declared.progress.Stage.{Stage}
-use Rattle.std.specs.Prelude.{Result, Ok, Err}
+use Rattle.std.specs.Prelude.{Ok, Err}
 use Rattle.numbers.specs.Numbered.{refusal_number}
 use Rattle.numbers.specs.declared.Refusal.{Refusal}
 use Rattle.numbers.specs.declared.Refusal.TheVariants.{ImageOfAnotherSize, WorkBufferIsNot9216Bytes}
-use Rattle.hex_reader.specs.Fault.{Taken}
 use Rattle.hex_reader.specs.declared.fault.HexFault.{HexFault}
 use Rattle.hex_reader.specs.declared.fault.HexRefusal.TheVariants.{Fault}
 use Rattle.hex_chunks.specs.Cut.{Session, fed, told, after_chunk, after_end, image_at_end}

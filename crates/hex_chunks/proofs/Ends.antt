@@ -12,7 +12,6 @@ use Rattle.hex_reader.specs.declared.progress.Stage.{Stage}
 use Rattle.std.specs.Prelude.{Result, Ok, Err}
 use Rattle.hex_reader.specs.declared.fault.HexFault.{HexFault}
 use Rattle.hex_chunks.specs.declared.held.HeldLine.{HeldLine}
-use Rattle.numbers.specs.Numbered.{refusal_number}
 use Rattle.hex_reader.proofs.progress.Stops.{lines_then}
 use Rattle.hex_chunks.specs.Kept.{Completes}
 use Rattle.hex_chunks.specs.Cut.{completed, begun_after}

@@ -1,10 +1,10 @@
 -- A line that is complete takes the stage on.
-use mathlib.Core.Path.{◌≡◌, sym, ap, ◌∙◌}
+use mathlib.Core.Path.{◌≡◌, sym}
 use mathlib.Core.Bool.{Bool, true, false}
 use mathlib.Core.List.{List, [], ◌∷◌}
-use Prim.Native.Nat.{ℕ, suc, ◌≤◌, ◌<◌}
+use Prim.Native.Nat.{ℕ, suc, ◌≤◌}
 use native.Mathlib.Omega.{arith}
-use lib.ListN.{length, take}
+use lib.ListN.{length}
 use Rattle.std.specs.Prelude.{Result, Ok, Err, Option, Some, None, MatchOption, IsSomeAnd}
 use Rattle.std.specs.Borrow.{Bor}
 use Rattle.laws.specs.Choice.{pick}
@@ -15,12 +15,11 @@ use Rattle.hex_reader.specs.Reads.{Judges}
 use Rattle.hex_reader.specs.declared.line.Line.{Line}
 use Rattle.hex_reader.proofs.line.Records.{long_line}
 use Rattle.hex_reader.specs.Lines.{is_cr, without_cr}
-use Rattle.hex_reader.specs.Reached.{Advances, is_stopped}
+use Rattle.hex_reader.specs.Reached.{Advances}
 use Rattle.hex_reader.specs.declared.fault.HexFault.{HexFault}
 use Rattle.hex_reader.specs.declared.progress.Stage.{Stage}
 use Rattle.hex_reader.proofs.progress.Stops.{good_long}
-use Rattle.hex_chunks.specs.Kept.{Kept, Characters, Completes}
-use Rattle.hex_chunks.specs.declared.held.HeldLine.{HeldLine}
+use Rattle.hex_chunks.specs.Kept.{Characters, Completes}
 
 module _ {image_size n : ℕ} {stage : Stage} {before after : List ℕ} where
   pub completes : (line : List ℕ) (judged : Result Line Refusal) (r : Result Stage HexFault) → Judges line judged → Advances image_size judged n stage before after r → Completes image_size line n stage before after r

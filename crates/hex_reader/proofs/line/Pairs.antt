@@ -1,18 +1,15 @@
 -- Digits in pairs: the byte at a place, the bytes from a place on and up to one.
 use mathlib.Core.Path.{◌≡◌, refl, ap}
 use mathlib.Core.List.{List, [], ◌∷◌, ◌++◌}
-use Prim.Native.Nat.{ℕ, zero, suc, ◌+◌, ◌-◌, ◌*◌, ◌<◌, ◌≤◌}
-use Prim.Native.Char.{Char, code}
+use Prim.Native.Nat.{ℕ, zero, suc, ◌+◌, ◌*◌, ◌<◌}
 use native.Mathlib.Nat.{not-suc-le-zero}
 use native.Mathlib.Omega.{arith}
 use mathlib.Core.Bool.{true}
-use lib.Dec.{T, ltb, ltb→lt, leb, leb→le}
+use lib.Dec.{T, ltb, ltb→lt}
 use lib.ListN.{length, get_or, take, drop}
-use Rattle.laws.specs.Choice.{pick}
 use Rattle.laws.proofs.Computed.{true→T, T→true, both_left, both_right}
-use Rattle.laws.proofs.Choices.{picked_by}
 use Rattle.text.specs.Words.{all_digits}
-use Rattle.text.specs.Hexadecimal.{between, digit_of}
+use Rattle.text.specs.Hexadecimal.{digit_of}
 use Rattle.hex_reader.specs.Record.{byte_of, bytes_of}
 
 -- each character of digits is one
