@@ -186,12 +186,7 @@ pub fn begin(core: Core) -> Progress
 }
 
 // A script and a listing, both whole.
-pub fn compare(
-    d: Device,
-    image: &[u8],
-    script: &[u8],
-    listing: &[u8],
-) -> Result<Compared, Refusal>
+pub fn compare(d: Device, image: &[u8], script: &[u8], listing: &[u8]) -> Result<Compared, Refusal>
     ensures { compared_of d image.now script.now listing.now ≡ result }
 {
     let image = Image::of(d, image)?;
@@ -199,12 +194,5 @@ pub fn compare(
     let mut ram = m.ram;
     let mut ours: Text<LINE> = Text::new();
     header(&mut ours);
-    compare_whole(
-        image,
-        begin(m.core),
-        &mut ram,
-        &mut ours,
-        script,
-        listing,
-    )
+    compare_whole(image, begin(m.core), &mut ram, &mut ours, script, listing)
 }
