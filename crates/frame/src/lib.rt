@@ -18,18 +18,18 @@ pub struct Pins {
     pub speech: u8,
 }
 
-#[tactic(auto, using(crate::proofs::Digits::digit_range))]
+#[tactic(auto, unfolding(text::specs::Hexadecimal::digit_of))]
 fn is_digit(c: u8) -> bool
     ensures { result ≡ ltb (digit_of c) 16 }
 {
-    (48 <= c) & (c <= 57) | (65 <= c) & (c <= 70) | (97 <= c) & (c <= 102)
+    c.is_ascii_hexdigit()
 }
 
-#[tactic(auto, using(crate::proofs::Digits::bit_range))]
+#[tactic(auto, unfolding(text::specs::Hexadecimal::digit_of))]
 fn is_bit(c: u8) -> bool
     ensures { result ≡ ltb (digit_of c) 2 }
 {
-    (48 <= c) & (c <= 49)
+    matches!(c, b'0' | b'1')
 }
 
 // The first two characters are digits, and the last is 0 or 1; the EM73P982 has one more digit between them.
@@ -45,7 +45,7 @@ fn is_frame_at(d: Device, s: &[u8], at: usize) -> bool
 }
 
 // The value of a character that is a digit.
-#[tactic(auto, using(crate::proofs::Digits::digit))]
+#[tactic(auto, unfolding(text::specs::Hexadecimal::digit_of))]
 fn digit_value(c: u8) -> u8
     requires { digit_of c < 16 }
     ensures { result ≡ digit_of c }
