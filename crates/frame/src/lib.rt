@@ -105,10 +105,11 @@ fn again(s: &[u8], n: usize, at: usize) -> bool
 }
 
 // The 24 characters after a frame: eight frames of three, or six of four.
-fn after_one(d: Device, s: &[u8], n: usize, at: usize) -> bool
-    requires { (n ≡ frame_size d) × (at + n + 24 ≤ length s.now) × (AfterFrame d s.now (at + n)) }
-    ensures { Between d s.now (at + n) (at + n + 24) result }
+fn after_one(d: Device, s: &[u8], at: usize) -> bool
+    requires { (at + frame_size d + 24 ≤ length s.now) × (AfterFrame d s.now (at + frame_size d)) }
+    ensures { Between d s.now (at + frame_size d) (at + frame_size d + 24) result }
 {
+    let n = frame_size(d);
     again(s, n, at) || judged(d, s, at + n, at + n + 24)
 }
 
@@ -128,7 +129,7 @@ pub fn are_frames(d: Device, s: &[u8]) -> bool
     }
     let mut at: usize = 0;
     while s.len() - at >= n + 24 {
-        if !after_one(d, s, n, at) {
+        if !after_one(d, s, at) {
             return false;
         }
         at += 24;
