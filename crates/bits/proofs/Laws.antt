@@ -1,27 +1,18 @@
--- Laws of single bits: what setting and clearing one keeps, the highest of six, and bits joined. The bit at i has the weight 2 ^ i.
-use mathlib.Core.Path.{◌≡◌, refl, ap, subst, ◌∙◌}
+-- Laws of single bits: what setting and clearing one keeps, and the highest of six. The bit at i has the weight 2 ^ i.
+use mathlib.Core.Path.{◌≡◌, refl, ap, subst}
 use mathlib.Core.Bool.{Bool, true, false}
 use Prim.Native.Nat.{ℕ, suc, ◌+◌, ◌-◌, ◌*◌, ◌/◌, ◌%◌, ◌^◌, ◌<◌, ◌≤◌}
-use native.Mathlib.Nat.{div-eq_of_lt, mod-lt, suc-mul, pow-suc, mod-eq_of_lt}
-use native.Mathlib.Decide.{dec_lt, ℕ_discrete}
+use native.Mathlib.Nat.{mod-lt, suc-mul, pow-suc}
+use native.Mathlib.Decide.{ℕ_discrete}
 use native.Mathlib.Omega.{arith}
 use lib.Dec.{T, eqb, eqb→eq, leb, ltb, ltb→lt}
 use lib.Pow.{pow-add, pow_pos, shr_lt, split}
 use lib.Arith.{digits_lt}
-use lib.Bits.{bit_or, or_shifted}
-use borrow.Author.Tests.{eqb-true, ne_eqb, le-leb, lt-ltb}
+use borrow.Author.Tests.{ne_eqb, le-leb, lt-ltb}
 use Rattle.std.specs.Int.{from_bool}
 use Rattle.laws.specs.Choice.{pick, both}
 use Rattle.laws.proofs.Computed.{below, implies, at, where_at, true→T, both_left, both_right, both_i}
 use Rattle.bits.specs.Bits.{has_bit, with_bit, without_bit, highest_bit, bit_of}
-
-weighed : (n w : ℕ) → n / w % 2 ≡ 1 → Dec (n < w) → w ≤ n
-weighed n w e (yes h) = let q : n / w ≡ 0 = div-eq_of_lt h in omega arith
-weighed n w e (no h) = omega arith
-
--- a number that has a bit is at least the bit's weight
-pub bit_le : (n w : ℕ) → has_bit n w ≡ true → w ≤ n
-bit_le n w e = weighed n w (eqb-true (n / w % 2) 1 e) (dec_lt n w)
 
 -- clearing makes no number greater
 cleared : (t : Bool) (n w : ℕ) → pick t (n - w) n ≤ n
@@ -87,10 +78,6 @@ highest n k hn hk low high =
     where_at (reached n) (is_highest n) 8 (at (λ n. below 8 (λ k. implies (reached n k) (is_highest n k))) 64 tt n hn) k hk
     (both_i (leb (2 ^ k) n) (ltb n (2 * 2 ^ k)) (true→T (le-leb (2 ^ k) n low)) (true→T (lt-ltb n (2 * 2 ^ k) high))) in
     (eqb→eq k (highest_bit n) (both_left (eqb k (highest_bit n)) (ltb k 6) h), ltb→lt k 6 (both_right (eqb k (highest_bit n)) (ltb k 6) h))
-
--- k bits joined to a number that was shifted up by k, within w bits
-pub joined : (w k n b : ℕ) → n * 2 ^ k < 2 ^ w → b < 2 ^ k → bit_or (n * 2 ^ k % 2 ^ w) b ≡ n * 2 ^ k + b
-joined w k n b h l = ap (λ (m : ℕ). bit_or m b) (mod-eq_of_lt h) ∙ or_shifted n k b l
 
 -- std's number of a truth value
 pub from_bool_is : (b : Bool) → from_bool b ≡ bit_of b

@@ -1,14 +1,9 @@
 -- Numbers in two bytes and in four, flags and modes: that what the code makes of the bytes has those bytes.
-use Prim.Native.Nat.{ℕ, zero, suc, ◌+◌, ◌*◌, ◌/◌, ◌%◌, ◌^◌, ◌<◌}
-use mathlib.Core.Path.{◌≡◌, refl}
-use mathlib.Core.List.{List, [], ◌∷◌, ◌++◌}
+use Prim.Native.Nat.{ℕ, ◌/◌, ◌%◌, ◌^◌, ◌<◌}
+use mathlib.Core.Path.{◌≡◌}
 use native.Mathlib.Omega.{arith}
-use lib.Dec.{eqb}
-use lib.ListN.{get_or}
-use Rattle.laws.proofs.Decided.{Decision, less, ◌and◌, restated}
 use Rattle.std.specs.Int.{w16, w32, to_le_bytes}
 use Rattle.record_bytes.specs.Layout.{two, four}
-use Rattle.record_bytes.specs.Unpacked.{FlagsFit}
 
 pub two_bytes : (n : ℕ) → n < 2 ^ 16 → to_le_bytes w16 n ≡ two n
 unfolding two

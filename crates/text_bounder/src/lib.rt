@@ -19,6 +19,7 @@ use text::Text;
 use text_lister::line::{columns, decoded_at};
 
 // A refusal, and an address in four digits or the bytes of a path in decimal: at most 17 characters.
+#[tactic(auto, using(text::proofs::digits::Numbers::places_of_six))]
 fn refused_text<const N: usize>(out: &mut Text<N>, refused: Refused)
     requires { (value_at (paper_of (Err refused)) 0 < 131072) × (length out.old + 17 ≤ N) }
     ensures text { out.new ≡ out.old ++ summary_of (Err refused) }
@@ -42,6 +43,7 @@ fn refused_text<const N: usize>(out: &mut Text<N>, refused: Refused)
     }
 }
 
+#[tactic(auto, using(text::proofs::digits::Numbers::places_of_six))]
 fn most_cycles<const N: usize>(out: &mut Text<N>, cycles: u64)
     requires { (cycles < 131072) × (length out.old + 8 ≤ N) }
     ensures text { out.new ≡ out.old ++ cycles_text cycles }
@@ -52,6 +54,7 @@ fn most_cycles<const N: usize>(out: &mut Text<N>, cycles: u64)
 }
 
 // The greatest depth of calls, without the line's end: at most 12 characters.
+#[tactic(auto, using(text::proofs::digits::Numbers::places_of_six))]
 pub fn most_depth<const N: usize>(out: &mut Text<N>, depth: u64)
     requires { (depth < 131072) × (length out.old + 12 ≤ N) }
     ensures text { out.new ≡ out.old ++ depth_text depth }
