@@ -11,7 +11,8 @@ use numbers::Stop;
 use ports::read_port;
 use record::Core;
 use row::Turn;
-use row_ends::{acc_logical, tested};
+use row_ends::Register::Acc;
+use row_ends::{logical, tested};
 use row_registers::weight;
 use sheet::rows;
 
@@ -43,7 +44,7 @@ fn port_loaded(options: Options, m: Core, n: u8) -> Result<Turn, Stop>
         value: read.value,
         carry: false,
     };
-    Ok(left(m, acc_logical(m, moved, 2, 2), read.ports))
+    Ok(left(m, logical(m, Some(Acc), moved, 2, 2), read.ports))
 }
 
 // TFPL names port LR 3..2 + 4 and bit LR 1..0. The row that is none of those named is INA.
