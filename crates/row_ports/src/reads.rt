@@ -25,6 +25,7 @@ fn answered(one: bool, v: u8, w: u8) -> bool
 }
 
 // - - *, by a row of so many bytes.
+#[tactic(auto, using(crate::proofs::Stops::named), unfolding(crate::specs::Ends::after_read))]
 fn port_tested(options: Options, m: Core, n: u8, w: u8, one: bool, bytes: u8) -> Result<Turn, Stop>
     requires { (Readable options.device m n) × (0 < w) }
     ensures { Tells m (port_tested options m n w one bytes) result }
@@ -35,6 +36,7 @@ fn port_tested(options: Options, m: Core, n: u8, w: u8, one: bool, bytes: u8) ->
 }
 
 // INA: - Z Z'
+#[tactic(auto, using(crate::proofs::Stops::named), unfolding(crate::specs::Ends::after_read))]
 fn port_loaded(options: Options, m: Core, n: u8) -> Result<Turn, Stop>
     requires { Readable options.device m n }
     ensures { Tells m (port_loaded options m n) result }
@@ -48,6 +50,7 @@ fn port_loaded(options: Options, m: Core, n: u8) -> Result<Turn, Stop>
 }
 
 // TFPL names port LR 3..2 + 4 and bit LR 1..0. The row that is none of those named is INA.
+#[tactic(auto, using(crate::proofs::Stops::alone), unfolding(sheet::specs::Table::line_at, sheet::specs::Table::lines, row::specs::Rows::work_of, row::specs::Steps::put_step, alu::specs::Making::made, alu::specs::Flags::flag_after, crate::specs::Ends::after_read))]
 pub fn read_row(options: Options, m: Core, row: u8, a: u8, b: u8) -> Result<Turn, Stop>
     requires { ReadFits options.device m row b }
     ensures { Reads options m row a b result }

@@ -5,8 +5,8 @@ ghost use Rattle.laws.specs.Among.{among};
 ghost use Rattle.row_registers.specs.Groups.{makes};
 
 use record::Core;
-use row_ends::Register::{Acc, Hr, Lr};
 use row_ends::Act;
+use row_ends::Register::{Acc, Hr, Lr};
 use sheet::rows;
 
 #[tactic(auto, unfolding(sheet::specs::Table::line_at, sheet::specs::Table::lines, row::specs::Rows::work_of, row::specs::Steps::put_step, alu::specs::Making::made, alu::specs::Flags::flag_after))]
