@@ -1,4 +1,5 @@
 -- Where neither a call nor a row storing to SP is reachable, the outer routine is document 01's graph, and what is answered is document 01's answer, joined by depth 0.
+use Rattle.std.specs.Prelude.{Ok, Err}
 use mathlib.Core.Path.{◌≡◌, refl, sym, subst, ◌∙◌}
 use mathlib.Core.Logic.{◌⊎◌, inl, inr, ⊎_elim}
 use mathlib.Core.Bool.{Bool, true, false, not}
@@ -11,11 +12,11 @@ use lib.ListN.{length, drop}
 use borrow.Author.Tests.{eq-eqb, ne_eqb}
 use Rattle.laws.specs.Choice.{pick, either}
 use Rattle.device.specs.declared.Device.{Device}
+use Rattle.sheet.specs.declared.NoRow.{NoRow}
 use Rattle.sheet.specs.Operation.{Operation}
 use Rattle.sheet.specs.Table.{Mark, line_at}
-use Rattle.sheet.specs.Reading.{read_at}
+use Rattle.sheet.specs.Reading.{Read, read_at}
 use Rattle.sheet.specs.declared.Insn.{Insn}
-use Rattle.sheet.specs.declared.Read.{Read}
 use Rattle.row.specs.Columns.{work_puts}
 use Rattle.graph.specs.Graph.{Graph, Edge, Reach, here, step, next_only, sum, Bad, Loops, Sound}
 use Rattle.graph.specs.Laid.{Inside}
@@ -77,12 +78,12 @@ module _ (at : ℕ) (known : Bool) (i : Insn) (bytes cycles : ℕ) where
   way-alike d s (Operation.IL⟵IL-and-r c) e = before-alike (way_by d i s (Operation.IL⟵IL-and-r c))
   way-alike d s Operation.no_operation e = before-alike (way_by d i s Operation.no_operation)
 
-read_alike : (d : Device) (rom : ℕ → ℕ) (at : ℕ) (known : Bool) (r : Read) → read_at rom at ≡ r → ((i : Insn) → read_at rom at ≡ Read.Row i → is_plain (line_at i.row).operation ≡ true) → Alike (node_read d at known r) (call_node_read d at known r)
-read_alike d rom at known (Read.Row i) e plain = let l = line_at i.row in way-alike at known i l.bytes l.cycles d l.s l.operation (plain i e)
-read_alike d rom at known Read.Unassigned e plain = before-alike at known (record { row = 0; a = 0; b = 0 }) 0 0 Way.nowhere
-read_alike d rom at known Read.PastEnd e plain = before-alike at known (record { row = 0; a = 0; b = 0 }) 0 0 Way.nowhere
+read_alike : (d : Device) (rom : ℕ → ℕ) (at : ℕ) (known : Bool) (r : Read) → read_at rom at ≡ r → ((i : Insn) → read_at rom at ≡ Ok i → is_plain (line_at i.row).operation ≡ true) → Alike (node_read d at known r) (call_node_read d at known r)
+read_alike d rom at known (Ok i) e plain = let l = line_at i.row in way-alike at known i l.bytes l.cycles d l.s l.operation (plain i e)
+read_alike d rom at known (Err NoRow.Unassigned) e plain = before-alike at known (record { row = 0; a = 0; b = 0 }) 0 0 Way.nowhere
+read_alike d rom at known (Err NoRow.PastEnd) e plain = before-alike at known (record { row = 0; a = 0; b = 0 }) 0 0 Way.nowhere
 
-node_alike : (d : Device) (rom : ℕ → ℕ) (v : ℕ) → ((i : Insn) → read_at rom (address_of v) ≡ Read.Row i → is_plain (line_at i.row).operation ≡ true) → Alike (node_of d rom v) (call_node_of d rom v)
+node_alike : (d : Device) (rom : ℕ → ℕ) (v : ℕ) → ((i : Insn) → read_at rom (address_of v) ≡ Ok i → is_plain (line_at i.row).operation ≡ true) → Alike (node_of d rom v) (call_node_of d rom v)
 unfolding node_of call_node_of
 node_alike d rom v plain = read_alike d rom (address_of v) (is_known v) (read_at rom (address_of v)) refl plain
 

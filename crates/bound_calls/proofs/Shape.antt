@@ -1,4 +1,5 @@
 -- The flow rules with calls are finite, and to know SF only takes ways away.
+use Rattle.std.specs.Prelude.{Ok, Err}
 use mathlib.Core.Path.{◌≡◌, refl}
 use mathlib.Core.Logic.{◌⊎◌, inl, inr, ⊎_elim}
 use mathlib.Core.Bool.{Bool, true, false}
@@ -10,13 +11,13 @@ use lib.Dec.{T, leb, leb→le, eqb}
 use Rattle.laws.specs.Choice.{pick}
 use Rattle.laws.proofs.Computed.{at, both_left, both_right}
 use Rattle.device.specs.declared.Device.{Device}
+use Rattle.sheet.specs.declared.NoRow.{NoRow}
 use Rattle.sheet.specs.Operation.{Entry, Operation}
 use Rattle.sheet.specs.Table.{Mark, lines, line_at}
 use Rattle.sheet.specs.Fields.{field_a}
 use Rattle.sheet.specs.Flow.{call_entry}
-use Rattle.sheet.specs.Reading.{read_at, wrapped}
+use Rattle.sheet.specs.Reading.{Read, read_at, wrapped}
 use Rattle.sheet.specs.declared.Insn.{Insn}
-use Rattle.sheet.specs.declared.Read.{Read}
 use Rattle.reader.proofs.Rows.{read-in-fields}
 use Rattle.row.specs.Columns.{work_puts}
 use Rattle.row.proofs.RowsValid.{fits_operation, line_fits}
@@ -105,14 +106,14 @@ none_good = record { next_lt = omega arith; other_lt = omega arith; entry_lt = o
 
 module _ (d : Device) (rom : ℕ → ℕ) (bytes : (at : ℕ) → rom at < 256) where
   read_good : (address : ℕ) (known : Bool) → address < 8192 → (r : Read) → read_at rom address ≡ r → GoodCall (call_node_read d address known r)
-  read_good address known l (Read.Row i) e =
+  read_good address known l (Ok i) e =
       let h = read-in-fields rom address i e bytes in
       let line = line_at i.row in
       let c = cycles_of_lem i.row h.some h.row in
       call-good d address known i line.bytes line.cycles (leb→le 1 line.cycles (both_left (leb 1 line.cycles) _ c)) (leb→le line.cycles 3 (both_right (leb 1 line.cycles) _ c))
       (field_a line.codes) h.a l line.s line.operation (line_fits i.row h.row) (line_enters i.row h.row)
-  read_good address known l Read.Unassigned e = none_good
-  read_good address known l Read.PastEnd e = none_good
+  read_good address known l (Err NoRow.Unassigned) e = none_good
+  read_good address known l (Err NoRow.PastEnd) e = none_good
 
   pub call-node-good : (v : ℕ) → v < 16384 → GoodCall (call_node_of d rom v)
   unfolding call_node_of
@@ -152,9 +153,9 @@ by_way at i bytes cycles CallWay.back = same_node _
 by_way at i bytes cycles (CallWay.into e) = same_node _
 
 by_read : (d : Device) (at : ℕ) (r : Read) → NarrowerNode (call_node_read d at true r) (call_node_read d at false r)
-by_read d at (Read.Row i) = let l = line_at i.row in by_way at i l.bytes l.cycles (call_way_by d i l.s l.operation)
-by_read d at Read.Unassigned = same_node _
-by_read d at Read.PastEnd = same_node _
+by_read d at (Ok i) = let l = line_at i.row in by_way at i l.bytes l.cycles (call_way_by d i l.s l.operation)
+by_read d at (Err NoRow.Unassigned) = same_node _
+by_read d at (Err NoRow.PastEnd) = same_node _
 
 pub known_of : (at : ℕ) → is_known (place at true) ≡ true
 known_of at = eq-eqb (place at true % 2) 1 (omega arith)
@@ -184,9 +185,9 @@ after_way at known i bytes cycles CallWay.back k = absurd (omega (arith, k))
 after_way at known i bytes cycles (CallWay.into e) k = record { at = wrapped at bytes; next = refl; other = refl }
 
 after_read_lem : (d : Device) (at : ℕ) (known : Bool) (r : Read) → (call_node_read d at known r).kind ≡ 3 → AfterCall (call_node_read d at known r)
-after_read_lem d at known (Read.Row i) k = let l = line_at i.row in after_way at known i l.bytes l.cycles (call_way_by d i l.s l.operation) k
-after_read_lem d at known Read.Unassigned k = absurd (omega (arith, k))
-after_read_lem d at known Read.PastEnd k = absurd (omega (arith, k))
+after_read_lem d at known (Ok i) k = let l = line_at i.row in after_way at known i l.bytes l.cycles (call_way_by d i l.s l.operation) k
+after_read_lem d at known (Err NoRow.Unassigned) k = absurd (omega (arith, k))
+after_read_lem d at known (Err NoRow.PastEnd) k = absurd (omega (arith, k))
 
 pub after_call : (d : Device) (rom : ℕ → ℕ) (v : ℕ) → (call_node_of d rom v).kind ≡ 3 → AfterCall (call_node_of d rom v)
 unfolding call_node_of

@@ -1,13 +1,13 @@
 -- Request Q-9, "Handlers that call": the flow rules with calls. What document 01 says of the other rows stands (bound_flow/specs/Flow.antt).
-use Rattle.std.specs.Prelude.{ℕ, Bool, true, false}
+use Rattle.std.specs.Prelude.{Ok, Err, ℕ, Bool, true, false}
 use Rattle.laws.specs.Choice.{pick}
 use Rattle.device.specs.declared.Device.{Device}
+use Rattle.sheet.specs.declared.NoRow.{NoRow}
 use Rattle.sheet.specs.Operation.{Place, Pointer, Entry, Operation}
 use Rattle.sheet.specs.Table.{Mark, Line, line_at}
-use Rattle.sheet.specs.Reading.{read_at, wrapped}
+use Rattle.sheet.specs.Reading.{Read, read_at, wrapped}
 use Rattle.sheet.specs.Flow.{call_entry}
 use Rattle.sheet.specs.declared.Insn.{Insn}
-use Rattle.sheet.specs.declared.Read.{Read}
 use Rattle.row.specs.Columns.{work_puts}
 use Rattle.routines.specs.Calling.{Flow}
 use Rattle.bound_flow.specs.Flow.{place, address_of, is_known, Way, way_by, Node, excluded, ending, going, forked, node_by, start_of}
@@ -77,9 +77,9 @@ abbrev pub call_node_row : Device → ℕ → Bool → Insn → Line → CallNod
 call_node_row d at known i l = call_node_by at known i l.bytes l.cycles (call_way_of d i l)
 
 abbrev pub call_node_read : Device → ℕ → Bool → Read → CallNode
-call_node_read d at known (Read.Row i) = call_node_row d at known i (line_at i.row)
-call_node_read d at known Read.Unassigned = no_node
-call_node_read d at known Read.PastEnd = no_node
+call_node_read d at known (Ok i) = call_node_row d at known i (line_at i.row)
+call_node_read d at known (Err NoRow.Unassigned) = no_node
+call_node_read d at known (Err NoRow.PastEnd) = no_node
 
 -- the ROM is the image as P3 shows it
 unfoldable pub call_node_of : Device → (ℕ → ℕ) → ℕ → CallNode

@@ -1,11 +1,10 @@
 -- Request Q-9: "For handlers without calls or stores to SP the old answer stands, joined only by depth 0 with its path and that path's buffer under 23." The old answer is document 01's, by its own flow rules.
-use Rattle.std.specs.Prelude.{◌≡◌, Bool, true, false, not, List, ◌++◌, ℕ, ◌*◌, ◌<◌, ◌≤◌, length, drop}
+use Rattle.std.specs.Prelude.{Ok, ◌≡◌, Bool, true, false, not, List, ◌++◌, ℕ, ◌*◌, ◌<◌, ◌≤◌, length, drop}
 use Rattle.device.specs.declared.Device.{Device}
 use Rattle.sheet.specs.Operation.{Operation}
-use Rattle.sheet.specs.Reading.{read_at}
+use Rattle.sheet.specs.Reading.{Read, read_at}
 use Rattle.sheet.specs.Table.{line_at}
 use Rattle.sheet.specs.declared.Insn.{Insn}
-use Rattle.sheet.specs.declared.Read.{Read}
 use Rattle.row.specs.Columns.{work_puts}
 use Rattle.graph.specs.Graph.{Reach, Path, next_only, Bad, Loops}
 use Rattle.routines.specs.Answer.{LowestAddress, bytes_of, Found, excluded, repetition, short, bounds, Kept, Answer}
@@ -26,7 +25,7 @@ is_plain Operation.no_operation = true
 -- "handlers without calls or stores to SP": none is reachable by document 01's rules
 abbrev pub Plain : Device → (ℕ → ℕ) → ℕ → Type 0
 Plain d rom start =
-    (v : ℕ) (i : Insn) → Reach (flow_graph d rom) (start_of start) v → read_at rom (address_of v) ≡ Read.Row i → is_plain (line_at i.row).operation ≡ true
+    (v : ℕ) (i : Insn) → Reach (flow_graph d rom) (start_of start) v → read_at rom (address_of v) ≡ Ok i → is_plain (line_at i.row).operation ≡ true
 
 -- document 01's answer: 21 or 22 with the lowest address, 23 with the bytes needed, or N
 pub data OldFound : Type 0 where

@@ -6,15 +6,15 @@ ghost use Rattle.numbers.specs.Sizes.{addresses};
 ghost use Rattle.device.specs.Device.{rom_of, window_end};
 ghost use Rattle.graph.specs.Laid.{places};
 ghost use Rattle.sheet.specs.Fields.{InFields};
-ghost use Rattle.sheet.specs.Flow.{call_entry};
-ghost use Rattle.sheet.specs.Operation.Entry.{short};
 ghost use Rattle.bound_calls.specs.CallFlow.{no_node, ended, went, turned, calling, returning, call_node_by, call_node_of};
 ghost use Rattle.bound_calls.specs.Ways.{IsWay, numbered};
 
-use device::{Device, in_image, is_guarded};
+use device::image::Window;
+use device::{Device, is_guarded};
 use numbers::ADDRESSES;
 use reader::read_at;
-use sheet::{Cost, Insn, Read};
+use sheet::flow::short_entry;
+use sheet::{Cost, Insn};
 
 // A place's kind in the flow, the places that follow it, the entry of the routine that it calls, and its cycles.
 #[derive(Clone, Copy)]
@@ -100,8 +100,8 @@ fn onward(next: u16, other: u16, cycles: u8) -> CallNode
 {
     CallNode {
         kind: 1,
-        next: next,
-        other: other,
+        next,
+        other,
         entry: 0,
         cost: cycles as u32,
     }
@@ -116,20 +116,9 @@ fn call(on: u16, entry: u16, cycles: u8) -> CallNode
         kind: 3,
         next: 2 * on,
         other: 2 * on + 1,
-        entry: entry,
+        entry,
         cost: cycles as u32,
     }
-}
-
-// Where SCALL goes.
-fn short_entry(n: u16) -> u16
-    requires { n < addresses }
-    ensures { result ≡ call_entry short n }
-{
-    if n == 0 {
-        return 0x86;
-    }
-    8 * n + 6
 }
 
 // A branch at a known place has only its target.
@@ -158,7 +147,7 @@ fn node_by(at: u16, known: bool, i: Insn, cost: Cost, way: u8) -> CallNode
         5 => fork(known, on, at / 4096 * 4096 + i.a, cost.cycles),
         6 => fork(known, on, i.a, cost.cycles),
         7 => call(on, i.a, cost.cycles),
-        8 => call(on, short_entry(i.a), cost.cycles),
+        8 => call(on, short_entry(i.a) as u16, cost.cycles),
         _ => back(cost.cycles),
     }
 }
@@ -168,12 +157,13 @@ pub fn node_at(d: Device, image: &[u8], p3: u8, v: usize) -> CallNode
     requires { (window_end p3 ≤ length image.now) × (v < places) }
     ensures { result ≡ call_node_of d (rom_of image.now p3) v }
 {
+    let window = Window { bytes: image, p3 };
     let at = (v / 2) as u16;
-    let Read::Row(insn) = read_at(image, p3, at) else {
-        return nowhere();
-    };
-    let i = in_image(p3, at);
-    let cost = sheet::timing(image[i]);
-    let way = way_of(d, insn);
-    node_by(at, v % 2 == 1, insn, cost, way)
+    match read_at(window, at) {
+        Ok(insn) => {
+            let cost = sheet::timing(window.byte(at));
+            node_by(at, v % 2 == 1, insn, cost, way_of(d, insn))
+        }
+        Err(_) => nowhere(),
+    }
 }

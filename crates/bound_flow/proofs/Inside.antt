@@ -1,4 +1,5 @@
 -- A node's followers are places of the image, and what is not excluded costs something.
+use Rattle.std.specs.Prelude.{Ok, Err}
 use mathlib.Core.Path.{◌≡◌, refl}
 use mathlib.Core.Logic.{◌⊎◌, ⊎_elim}
 use mathlib.Core.Bool.{Bool, true, false}
@@ -12,9 +13,8 @@ use Rattle.sheet.specs.Operation.{Operation}
 use Rattle.sheet.specs.Table.{Mark, lines, line_at}
 use Rattle.sheet.specs.Fields.{field_a}
 use Rattle.sheet.specs.Flow.{target_of}
-use Rattle.sheet.specs.Reading.{read_at, wrapped}
+use Rattle.sheet.specs.Reading.{Read, read_at, wrapped}
 use Rattle.sheet.specs.declared.Insn.{Insn}
-use Rattle.sheet.specs.declared.Read.{Read}
 use Rattle.reader.proofs.Rows.{read-in-fields}
 use Rattle.row.specs.Columns.{sets_ei}
 use Rattle.row.proofs.RowsValid.{fits_operation, line_fits, target_lt}
@@ -70,14 +70,13 @@ module _ (d : Device) (address : ℕ) (known : Bool) (i : Insn) (bytes cycles : 
   way-good n h l s Operation.no_operation f = onward-good (is_one s)
 
 read_good : (d : Device) (rom : ℕ → ℕ) → ((at : ℕ) → rom at < 256) → (address : ℕ) (known : Bool) → address < 8192 → (r : Read) → read_at rom address ≡ r → Good (node_read d address known r)
-read_good d rom bytes address known l (Read.Row i) e =
+read_good d rom bytes address known l (Ok i) e =
     let h = read-in-fields rom address i e bytes in
     let line = line_at i.row in
     let c = cycles_of_lem i.row h.some h.row in
     way-good d address known i line.bytes line.cycles (leb→le 1 line.cycles (both_left (leb 1 line.cycles) _ c)) (leb→le line.cycles 3 (both_right (leb 1 line.cycles) _ c))
     (field_a line.codes) h.a l line.s line.operation (line_fits i.row h.row)
-read_good d rom bytes address known l Read.Unassigned e = excluded_good
-read_good d rom bytes address known l Read.PastEnd e = excluded_good
+read_good d rom bytes address known l (Err why) e = excluded_good
 
 pub node_good : (d : Device) (rom : ℕ → ℕ) → ((at : ℕ) → rom at < 256) → (v : ℕ) → v < 16384 → Good (node_of d rom v)
 unfolding node_of

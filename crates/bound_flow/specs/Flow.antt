@@ -1,5 +1,5 @@
 -- Document 01, "The handler bound": the places of an image and what follows each, read off the columns of the sheet.
-use Rattle.std.specs.Prelude.{ℕ, ◌+◌, ◌*◌, ◌/◌, ◌%◌, Bool, true, false, eqb}
+use Rattle.std.specs.Prelude.{Ok, Err, ℕ, ◌+◌, ◌*◌, ◌/◌, ◌%◌, Bool, true, false, eqb}
 use Rattle.laws.specs.Among.{among}
 use Rattle.laws.specs.Choice.{pick, both}
 use Rattle.bits.specs.Bits.{bit_of}
@@ -7,10 +7,9 @@ use Rattle.device.specs.Device.{guarded}
 use Rattle.device.specs.declared.Device.{Device}
 use Rattle.sheet.specs.Operation.{Target, Operation}
 use Rattle.sheet.specs.Table.{Mark, Line, line_at}
-use Rattle.sheet.specs.Reading.{read_at, wrapped}
+use Rattle.sheet.specs.Reading.{Read, read_at, wrapped}
 use Rattle.sheet.specs.Flow.{target_of}
 use Rattle.sheet.specs.declared.Insn.{Insn}
-use Rattle.sheet.specs.declared.Read.{Read}
 use Rattle.row.specs.Columns.{sets_ei, writes_port}
 use Rattle.graph.specs.Graph.{Kind, kind_number, Graph}
 
@@ -90,9 +89,8 @@ node_row d at known i l = node_by at known i l.bytes l.cycles (way_of d i l)
 
 -- "unassigned codes"; and Q-8 of one whose bytes pass the end: "bound (there it is excluded)"
 abbrev pub node_read : Device → ℕ → Bool → Read → Node
-node_read d at known (Read.Row i) = node_row d at known i (line_at i.row)
-node_read d at known Read.Unassigned = excluded
-node_read d at known Read.PastEnd = excluded
+node_read d at known (Ok i) = node_row d at known i (line_at i.row)
+node_read d at known (Err why) = excluded
 
 -- the ROM is the image as P3 shows it
 unfoldable pub node_of : Device → (ℕ → ℕ) → ℕ → Node

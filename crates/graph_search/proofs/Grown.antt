@@ -6,10 +6,10 @@ use Prim.Native.Nat.{ℕ, ◌+◌, ◌≤◌, ◌<◌}
 use native.Mathlib.Nat.{le_refl}
 use native.Mathlib.Omega.{arith}
 use native.Mathlib.Decide.{ℕ_discrete, dec_lt}
-use lib.ListN.{length, get_or, set}
-use lib.Seq.{get_or-set_same, get_or-set_other}
+use lib.ListN.{length, get_or, set, take}
+use lib.Seq.{get_or-set_same, get_or-set_other, length-take-le, get_or-take}
 use Rattle.graph.specs.Laid.{most_nodes}
-use Rattle.graph_search.specs.Marks.{Marked, OnQ, Blank, Room, Grown, Queue, Listed}
+use Rattle.graph_search.specs.Marks.{Marked, OnQ, Blank, Room, Grown, Places, Listed}
 use Rattle.graph_search.proofs.Zeros.{zeros_set, zeros_all, cases_set, marked_lt}
 
 pub grown_none : {P : ℕ → Type 0} (m q : List ℕ) (t : ℕ) → Grown P m q t m q t
@@ -67,9 +67,23 @@ room_blank m q b e l = record { len = e; small = l; room = omega (arith, zeros_a
 pub room_grown : {P : ℕ → Type 0} {m q m' q' : List ℕ} {t t' : ℕ} → Room m q t → Grown P m q t m' q' t' → length m' ≡ length m → length q' ≡ length q → Room m' q' t'
 room_grown r gr a b = record { len = omega (arith, r.len); small = omega (arith, r.small); room = omega (arith, r.room, gr.total) }
 
-pub listed_queue : {m q : List ℕ} {t : ℕ} → Listed m q t → length m ≤ most_nodes → Queue q t (length m)
-listed_queue {m} {q} li small = record { len = li.len; small = small; le = li.le; below = λ i l. marked_lt m (get_or q i 0) (li.marked i l) }
+-- the part of a queue that is listed
+module _ {m q : List ℕ} {t : ℕ} (li : Listed m q t) (len : length q ≡ length m) where
+  pub part-length : length (take t q) ≡ t
+  part-length = length-take-le t q (omega (arith, li.le, len))
 
--- of as many places, where the number has another name
-pub queue_at : {q : List ℕ} {t n n' : ℕ} → n' ≡ n → Queue q t n → Queue q t n'
-queue_at e h = rw e h
+  pub part-listed : Listed m (take t q) (length (take t q))
+  part-listed =
+      record {
+        listed = λ v h. let o = li.listed v h in (o.0, omega (arith, o.1, part-length), get_or-take t q o.0 0 o.1 ∙ o.2);
+        marked = λ i l. rw (get_or-take t q i 0 (omega (arith, l, part-length))) (li.marked i (omega (arith, l, part-length)));
+        le = omega (arith, part-length, li.le);
+      }
+
+  pub part-places : {n : ℕ} → length m ≡ n → n ≤ most_nodes → Places (take t q) n
+  part-places e small =
+      record {
+        small = small;
+        le = omega (arith, part-length, li.le, e);
+        below = λ i l. omega (arith, marked_lt m (get_or (take t q) i 0) (part-listed.marked i l), e);
+      }

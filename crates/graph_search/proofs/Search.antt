@@ -7,8 +7,7 @@ use native.Mathlib.Omega.{arith}
 use native.Mathlib.Decide.{dec_lt}
 use lib.ListN.{length, get_or}
 use Rattle.graph.specs.Graph.{Graph, GoesOn, Edge, Reach, here}
-use Rattle.graph.specs.Laid.{Inside}
-use Rattle.graph.proofs.Reach.{reach_snoc, reach_in, reach_inside}
+use Rattle.graph.proofs.Reach.{reach_snoc, reach_in}
 use Rattle.graph_search.specs.Marks.{Marked, Blank, Room, Grown, Listed}
 use Rattle.graph_search.specs.Search.{Visited, Search, Reached}
 use Rattle.graph_search.proofs.Zeros.{marked_lt}
@@ -33,6 +32,7 @@ module _ {g : Graph} {s : ℕ} where
       record {
         started = ms;
         onq = λ v k. ⊎_elim (λ h. absurd (omega (arith, none.at v))) (λ o. o) (gr.new v k);
+        marked = λ i l. rw (gr.has i (omega arith) l) ms;
         sound = λ i l. rw (gr.has i (omega arith) l) here;
         closed = λ i w l e. omega arith;
         le = omega arith;
@@ -44,11 +44,16 @@ module _ {g : Graph} {s : ℕ} where
       record {
         started = gr.keeps s se.started;
         onq = λ v k. ⊎_elim (λ old. let o = se.onq v old in (o.0, omega (arith, o.1, gr.more), gr.same o.0 o.1 ∙ o.2)) (λ o. o) (gr.new v k);
+        marked = λ i l. marked i l (dec_lt i t);
         sound = λ i l. sound i l (dec_lt i t);
         closed = λ i w l e. closed i w l e (dec_lt i h);
         le = omega (arith, gr.more);
       }
     where
+      marked : (i : ℕ) → i < t' → Dec (i < t) → Marked m' (get_or q' i 0)
+      marked i l (yes old) = rw (gr.same i old) (gr.keeps (get_or q i 0) (se.marked i old))
+      marked i l (no n) = all.all (get_or q' i 0) (gr.has i (omega arith) l)
+
       sound : (i : ℕ) → i < t' → Dec (i < t) → Reach g s (get_or q' i 0)
       sound i l (yes old) = rw (gr.same i old) (se.sound i old)
       sound i l (no n) = reach_snoc (se.sound h lt) (gr.has i (omega arith) l)
@@ -68,8 +73,8 @@ module _ {g : Graph} {s : ℕ} where
 
   pub search-listed : {m q : List ℕ} {t h : ℕ} → Room m q t → Search g s m q t h → t ≤ h → Listed m q t
   search-listed {m} {q} room se le =
-      record { listed = se.onq; marked = λ i l. (search-end se le).complete (get_or q i 0) (se.sound i l); len = room.len; le = omega (arith, room.room) }
+      record { listed = se.onq; marked = se.marked; le = omega (arith, room.room) }
 
 -- the place at the queue's head is one of the places
-pub head_lt : {g : Graph} {m q : List ℕ} {s t h : ℕ} → Inside g (length m) → Search g s m q t h → h < t → get_or q h 0 < length m
-head_lt {m = m} {s = s} {h = h} inside se l = reach_inside inside (se.sound h l) (marked_lt m s se.started)
+pub head_lt : {g : Graph} {m q : List ℕ} {s t h : ℕ} → Search g s m q t h → h < t → get_or q h 0 < length m
+head_lt {m = m} {q = q} {h = h} se l = marked_lt m (get_or q h 0) (se.marked h l)

@@ -9,7 +9,7 @@ use lib.ListN.{length, get_or, set, replicate, get_or-eq_default}
 use lib.Seq.{get_or-set_same, get_or-set_other}
 use mir.Val.{Fits}
 use mir.Syntax.{w16, w64}
-use Rattle.graph_search.specs.Marks.{Marked, Blank, BlankTo, Within, zeros}
+use Rattle.graph_search.specs.Marks.{Marked, Blank, Within, zeros}
 
 pub zeros_set : (l : List ℕ) (i x : ℕ) → i < length l → get_or l i 0 ≡ 0 → zeros (set l i (suc x)) + 1 ≡ zeros l
 unfolding zeros
@@ -45,19 +45,6 @@ marked_lt m v h = go (dec_lt v (length m))
     go : Dec (v < length m) → v < length m
     go (yes l) = l
     go (no n) = omega (arith, get_or-eq_default m 0 {n = v} (omega arith))
-
-pub blank_none : (m : List ℕ) → BlankTo m 0
-blank_none m = record { below = λ i l. omega arith }
-
-pub blank_more : (m : List ℕ) (i : ℕ) → i < length m → BlankTo m i → BlankTo (set m i 0) (i + 1)
-blank_more m i l h = record { below = λ k lk. cases_set (λ x. x ≡ 0) m i k 0 l (λ _. refl) (λ n. h.below k (omega arith)) }
-
-pub blank_end : (m : List ℕ) (i : ℕ) → length m ≤ i → BlankTo m i → Blank m
-blank_end m i l h = record { at = λ k. go k (dec_lt k i) }
-  where
-    go : (k : ℕ) → Dec (k < i) → get_or m k 0 ≡ 0
-    go k (yes y) = h.below k y
-    go k (no n) = get_or-eq_default m 0 {n = k} (omega arith)
 
 -- an array as it is declared
 pub blank_zeros : (n : ℕ) → Blank (replicate n 0)

@@ -15,12 +15,9 @@ Marked m v = 0 < get_or m v 0
 abbrev pub OnQ : List ℕ → ℕ → ℕ → Type 0
 OnQ q count v = (i : ℕ) × (i < count) × (get_or q i 0 ≡ v)
 
--- every element is 0; the first n are
+-- every element is 0
 pub record Blank (m : List ℕ) : Type 0 where
   pub at : (i : ℕ) → get_or m i 0 ≡ 0
-
-pub record BlankTo (m : List ℕ) (n : ℕ) : Type 0 where
-  pub below : (i : ℕ) → i < n → get_or m i 0 ≡ 0
 
 -- every element is below n
 pub record Within (l : List ℕ) (n : ℕ) : Type 0 where
@@ -41,16 +38,14 @@ pub record Grown (P : ℕ → Type 0) (m q : List ℕ) (count : ℕ) (m' q' : Li
   pub new : (v : ℕ) → Marked m' v → Marked m v ⊎ OnQ q' count' v
   pub has : (i : ℕ) → count ≤ i → i < count' → P (get_or q' i 0)
 
--- the queue holds places below n, count of them
-pub record Queue (q : List ℕ) (count n : ℕ) : Type 0 where
-  pub len : length q ≡ n
+-- the queue holds places below n, so many at most
+pub record Places (q : List ℕ) (n : ℕ) : Type 0 where
   pub small : n ≤ most_nodes
-  pub le : count ≤ n
-  pub below : (i : ℕ) → i < count → get_or q i 0 < n
+  pub le : length q ≤ n
+  pub below : (i : ℕ) → i < length q → get_or q i 0 < n
 
 -- the queue holds just what is marked
 pub record Listed (m q : List ℕ) (count : ℕ) : Type 0 where
   pub listed : (v : ℕ) → Marked m v → OnQ q count v
   pub marked : (i : ℕ) → i < count → Marked m (get_or q i 0)
-  pub len : length q ≡ length m
   pub le : count ≤ length m

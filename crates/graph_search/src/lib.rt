@@ -1,121 +1,103 @@
-// The places that are reached from a place, and the lowest of them that is excluded.
+// The places that are reached from a place of a graph, and the lowest of them that is excluded.
 #![tactic(auto)]
 
-ghost use Rattle.std.specs.Prelude.{◌≡◌, ◌⊎◌, ◌<◌, ◌≤◌, length, get_or};
+pub mod arrays;
+
+ghost use Rattle.std.specs.Prelude.{◌≡◌, ℕ, ◌<◌, ◌≤◌, length};
 ghost use Rattle.graph.specs.Laid.{most_nodes};
-ghost use Rattle.graph.specs.Graph.{Edge};
-ghost use Rattle.graph.specs.Laid.{graph_of, Laid};
-ghost use Rattle.graph_search.specs.Marks.{Marked, Blank, Room, Grown, Queue, Listed};
-ghost use Rattle.graph_search.specs.Search.{Visited, Reached};
+ghost use Rattle.graph.specs.Graph.{Graph, Edge};
+ghost use Rattle.graph_search.specs.Marks.{Marked, Blank, Room, Grown, Places, Listed};
+ghost use Rattle.graph_search.specs.Search.{Follows, Visited, Reached};
 ghost use Rattle.graph_search.specs.Lowest.{Outside, Lower, Lowest};
 
-// Marks w and puts it at the queue's end, unless it is marked already. Returns how many the queue holds.
-pub fn mark(m: &mut [u8], q: &mut [u16], count: usize, w: usize) -> usize
-    requires { Room m.old q.old count × (w < length m.old) }
-    ensures { Grown (λ x. x ≡ w) m.old q.old count m.new q.new result × Marked m.new w }
+// A graph that tells what follows each of its places.
+pub trait Successors {
+    ghost graph: { Self → Graph };
+
+    ghost places: { Self → ℕ };
+
+    // The two places that follow v, if it goes on; the same twice where only one does.
+    fn after(&self, v: usize) -> Option<(usize, usize)>
+        requires { v < places self.now }
+        ensures { Follows (graph self.now) (places self.now) v result };
+}
+
+pub fn clear(marks: &mut [u8])
+    ensures { Blank marks.new }
 {
-    if m[w] != 0 {
+    marks.fill(0);
+}
+
+// Marks w and puts it at the queue's end, unless it is marked already. Returns how many the queue holds.
+pub fn mark(marks: &mut [u8], queue: &mut [u16], count: usize, w: usize) -> usize
+    requires { Room marks.old queue.old count × (w < length marks.old) }
+    ensures { Grown (λ x. x ≡ w) marks.old queue.old count marks.new queue.new result × Marked marks.new w }
+{
+    if marks[w] != 0 {
         return count;
     }
-    m[w] = 1;
-    q[count] = w as u16;
+    marks[w] = 1;
+    queue[count] = w as u16;
     count + 1
 }
 
 // Marks the successors of v.
-fn visit(
-    kind: &[u8],
-    next: &[u16],
-    other: &[u16],
-    m: &mut [u8],
-    q: &mut [u16],
+fn visit<G: Successors>(
+    graph: &G,
+    marks: &mut [u8],
+    queue: &mut [u16],
     count: usize,
     v: usize,
 ) -> usize
-    requires { Laid kind.now next.now other.now (length m.old) × Room m.old q.old count × (v < length m.old) }
-    ensures { Grown (Edge (graph_of kind.now next.now other.now) v) m.old q.old count m.new q.new result
-        × Visited (graph_of kind.now next.now other.now) v m.new }
+    requires { (G.places graph.now ≡ length marks.old) × Room marks.old queue.old count × (v < length marks.old) }
+    ensures { Grown (Edge (G.graph graph.now) v) marks.old queue.old count marks.new queue.new result
+        × Visited (G.graph graph.now) v marks.new }
 {
-    if kind[v] != 1 {
+    let Some((next, other)) = graph.after(v) else {
         return count;
-    }
-    let a = next[v] as usize;
-    let t = mark(m, q, count, a);
-    let b = other[v] as usize;
-    mark(m, q, t, b)
+    };
+    let more = mark(marks, queue, count, next);
+    mark(marks, queue, more, other)
 }
 
-// The place that follows v and is to be tried after so many: next, then other.
-pub fn successor(next: &[u16], other: &[u16], tried: u8, v: usize) -> usize
-    requires { (v < length next.now) × (v < length other.now) × (length next.now ≤ most_nodes) × (length other.now ≤ most_nodes) }
-    ensures { (result ≡ get_or next.now v 0) ⊎ (result ≡ get_or other.now v 0) }
+// Marks exactly the places that are reached from s, and lists them in the queue. Returns how many they are.
+pub fn reach<G: Successors>(graph: &G, s: usize, marks: &mut [u8], queue: &mut [u16]) -> usize
+    requires { (G.places graph.now ≡ length marks.old) × (length marks.old ≤ most_nodes) × (length queue.old ≡ length marks.old) × (s < length marks.old) }
+    ensures { Reached (G.graph graph.now) s marks.new × Listed marks.new queue.new result }
 {
-    if tried == 0 {
-        return next[v] as usize;
-    }
-    other[v] as usize
-}
-
-pub fn clear(m: &mut [u8])
-    ensures { Blank m.new }
-{
-    let mut i = 0;
-    while i < m.len() {
-        m[i] = 0;
-        i += 1;
-    }
-}
-
-// Marks in m exactly the places that are reached from s, and lists them in q. Returns how many they are.
-pub fn reach(
-    kind: &[u8],
-    next: &[u16],
-    other: &[u16],
-    s: usize,
-    m: &mut [u8],
-    q: &mut [u16],
-) -> usize
-    requires { Laid kind.now next.now other.now (length m.old) × (length q.old ≡ length m.old) × (s < length m.old) }
-    ensures { Reached (graph_of kind.now next.now other.now) s m.new × Listed m.new q.new result }
-{
-    clear(m);
-    let mut count = mark(m, q, 0, s);
+    clear(marks);
+    let mut count = mark(marks, queue, 0, s);
     let mut head = 0;
     while head < count {
-        let v = q[head] as usize;
-        count = visit(kind, next, other, m, q, count, v);
+        let v = queue[head] as usize;
+        count = visit(graph, marks, queue, count, v);
         head += 1;
     }
     count
 }
 
-fn lower(kind: &[u8], low: usize, v: usize) -> usize
+// v where it is excluded and lower than the lowest so far.
+fn lower(kind: &[u8], low: Option<usize>, v: usize) -> Option<usize>
     requires { v < length kind.now }
     ensures { Lower (Outside kind.now) low v result }
 {
-    if kind[v] == 1 {
+    if matches!(kind[v], 1 | 2) {
         return low;
     }
-    if kind[v] == 2 {
-        return low;
+    match low {
+        Some(lowest) if lowest <= v => low,
+        _ => Some(v),
     }
-    if v < low {
-        return v;
-    }
-    low
 }
 
-// The lowest excluded place of the queue, or the number of all places.
-pub fn lowest(kind: &[u8], q: &[u16], count: usize) -> usize
-    requires { Queue q.now count (length kind.now) }
-    ensures { Lowest (Outside kind.now) q.now count (length kind.now) result }
+// The lowest excluded place of the queue.
+pub fn lowest(kind: &[u8], queue: &[u16]) -> Option<usize>
+    requires { Places queue.now (length kind.now) }
+    ensures { Lowest (Outside kind.now) queue.now (length queue.now) result }
 {
-    let mut low = kind.len();
-    let mut i = 0;
-    while i < count {
-        let v = q[i] as usize;
-        low = lower(kind, low, v);
-        i += 1;
+    let mut low = None;
+    for &v in queue {
+        low = lower(kind, low, v as usize);
     }
     low
 }

@@ -1,16 +1,16 @@
 -- Calls are judged before the rest: where there are none, there is nothing to judge; else the words that say where their calls go on have the answers of those that they were chosen from.
 use mathlib.Core.Path.{◌≡◌, sym, ap, fun_ext, ◌∙◌}
 use mathlib.Core.List.{List}
-use Prim.Native.Nat.{ℕ, ◌≤◌, ◌<◌}
-use native.Mathlib.Omega.{arith}
+use Prim.Native.Nat.{ℕ, ◌<◌}
 use lib.ListN.{length}
+use Rattle.std.specs.Prelude.{None}
 use Rattle.routines.specs.Calling.{called, unknown, Live, call}
 use Rattle.routines.specs.Answer.{Found, Judged, FlowAnswer, Answer, judged}
 use Rattle.routines.proofs.Chosen.{chosen_recurs, chosen-widens, flow-answer-to}
 use Rattle.routines.proofs.Done.{in-lt}
 use Rattle.routines_numbered.specs.Packed.{nodes_in}
 use Rattle.routines_joined.specs.Words.{flow_at}
-use Rattle.routines_joined.specs.Refused.{NothingRecurs, Recursion, address_in}
+use Rattle.routines_joined.specs.Refused.{NothingRecurs, address_in}
 use Rattle.routines_joined.proofs.Nodes.{small}
 use Rattle.routines_known.specs.Choosing.{ChosenTo}
 use Rattle.routines_known.specs.Marking.{flow_on, AllLose, IdleTo}
@@ -28,14 +28,8 @@ module _ (x m : List ℕ) {n : ℕ} (words : Words x m n) (no_call : (v : ℕ) �
   plain-judged : Judged (flow_at x m) unknown
   plain-judged = record { no_recursion = λ e w. not-called w.0; knows = record { yes_if = λ e l h. absurd (not-called l); only_if = λ e l h. absurd (not-called l) } }
 
-  -- nothing is below 2,048
-  pub plain-calls : CallsJudged x m n x 2048
-  plain-calls =
-      record {
-        lowest = λ h. absurd (omega (arith, h));
-        settles = λ h. record { words = words; none = plain-judged.no_recursion };
-        answers = λ h p p' q q' r a. judged plain-judged a;
-      }
+  pub plain-calls : CallsJudged x m n x None
+  plain-calls = record { settles = record { words = words; none = plain-judged.no_recursion }; answers = λ p p' q q' r a. judged plain-judged a }
 
 -- calls, of which l marks the numbers that lose SF, and x' says where they go on
 module _ (x m l x' : List ℕ) {n : ℕ} (h : HandlerWords x m n) (none : NothingRecurs (flow_at x m)) (len : length l ≡ n) (all : AllLose (flow_on x) l) (idle : IdleTo (flow_on x) l n) (c : ChosenTo x l n x') where
@@ -76,9 +70,5 @@ module _ (x m l x' : List ℕ) {n : ℕ} (h : HandlerWords x m n) (none : Nothin
       judged (calls-judged x m h.words.laid h.words.first l len all idle h.region h.words.widens h.known_after none)
       (flow-answer-to (chosen x m l x' h.words.laid h.calls c h.words.first) (rw (costs-same, address_same) at a))
 
-  pub chosen-calls : {r : ℕ} → 2048 ≤ r → CallsJudged x m n x' r
-  chosen-calls le = record { lowest = λ h. absurd (omega (arith, h, le)); settles = λ h. chosen-settles; answers = λ h p p' q q' r a. chosen_answer a }
-
--- one recurs
-pub recursive_calls : {x m x' : List ℕ} {n r : ℕ} → r < 2048 → Recursion (flow_at x m) r → CallsJudged x m n x' r
-recursive_calls lt w = record { lowest = w.lowest; settles = λ h. absurd (omega (arith, h, lt)); answers = λ h. absurd (omega (arith, h, lt)) }
+  pub chosen-calls : CallsJudged x m n x' None
+  chosen-calls = record { settles = chosen-settles; answers = λ p p' q q' r a. chosen_answer a }

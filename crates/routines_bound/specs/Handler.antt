@@ -1,5 +1,5 @@
 -- A handler's flow as words by number, as the bound asks for it, and what is answered of it. The handler's start has the number 0.
-use Rattle.std.specs.Prelude.{◌≡◌, List, ℕ, ◌≤◌, ◌<◌, length, get_or, Result, Ok, Err}
+use Rattle.std.specs.Prelude.{◌≡◌, List, ℕ, ◌≤◌, ◌<◌, length, get_or, Option, None, Some, Result, Ok, Err}
 use Rattle.graph.specs.Graph.{Graph, Least}
 use Rattle.routines.specs.Calling.{unknown, Recurs}
 use Rattle.routines.specs.Answer as answer
@@ -65,12 +65,15 @@ pub record ChosenBy (x : List ℕ) (n : ℕ) (x' : List ℕ) : Type 0 where
   pub idle : marking.IdleTo (flow_on x) l n
   pub chosen : ChosenTo x l n x'
 
--- r is the lowest entry that recurs; or it is 2,048 or more and none does: then x became x', which says where its calls go on, and what is answered by x' is answered
-pub record CallsJudged (x m : List ℕ) (n : ℕ) (x' : List ℕ) (r : ℕ) : Type 0 where
-  pub lowest : r < 2048 → Least (Recurs (flow_at x m)) r
-  pub settles : 2048 ≤ r → Settles x' m n
-  pub answers : 2048 ≤ r → (p p' q q' : List ℕ) (a : answer.Found) → FlowAnswer (flow_at x' m) (costs_in x') (address_in x') p p' q q' unknown a
+-- the lowest entry that recurs; or none does: then x became x', which says where its calls go on, and what is answered by x' is answered
+pub record Chosen (x m : List ℕ) (n : ℕ) (x' : List ℕ) : Type 0 where
+  pub settles : Settles x' m n
+  pub answers : (p p' q q' : List ℕ) (a : answer.Found) → FlowAnswer (flow_at x' m) (costs_in x') (address_in x') p p' q q' unknown a
       → Answer (flow_at x m) (costs_in x) (address_in x) p p' q q' a
+
+abbrev pub CallsJudged : List ℕ → List ℕ → ℕ → List ℕ → Option ℕ → Type 0
+CallsJudged x m n x' (Some e) = Least (Recurs (flow_at x m)) e
+CallsJudged x m n x' None = Chosen x m n x'
 
 -- what settled sums and depths come to: too much; a buffer that is short; or both paths, with what they spend and how many calls are open
 pub data Comes (g : Graph) (address : ℕ → ℕ) (d dep : List ℕ) (p p' q q' : List ℕ) : Result Greatest Unbounded → Type 0 where

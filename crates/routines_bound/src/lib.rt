@@ -6,7 +6,7 @@ ghost use Rattle.std.specs.Prelude.{◌≡◌, false, ◌<◌, ◌≤◌, length
 ghost use Rattle.graph_search.specs.Marks.{Blank};
 ghost use Rattle.routines.specs.Calling.{unknown};
 ghost use Rattle.routines.specs.Answer.{FlowAnswer, Answer};
-ghost use Rattle.routines_joined.specs.Words.{flow_at, Laid, Works};
+ghost use Rattle.routines_joined.specs.Words.{flow_at};
 ghost use Rattle.routines_joined.specs.Refused.{Recursion, address_in};
 ghost use Rattle.routines_known.specs.Marking.{Sized};
 ghost use Rattle.routines_sums.specs.Dist.{Dist};
@@ -15,7 +15,8 @@ ghost use Rattle.routines_bound.specs.declared.Unbounded.{Unbounded};
 ghost use Rattle.routines_bound.specs.Handler.{unbounded_of, found_of, NoCall, HandlerWords, Settles, JudgedBy, ChosenBy, CallsJudged, Comes, Measured};
 
 use graph::PLACES;
-use routines_joined::{ENTRIES, NODES, Unsound, judge, recursion};
+use routines_joined::joined::{ENTRIES, Joined, NODES};
+use routines_joined::{Unsound, judge, recursion};
 use routines_known::{choose, mark_losing};
 use routines_numbered::kind_of;
 use routines_paths::{TooShort, write_paths};
@@ -60,92 +61,27 @@ impl From<TooShort> for Unbounded {
 // A number has at most three edges to others.
 const EDGES: usize = 49152;
 
-// Whether one of the first n words is a call.
-fn has_call(words: &[u64], n: usize) -> bool
-    requires { n ≤ length words.now }
-    ensures { result ≡ false → NoCall words.now n }
+// Whether one of the words is a call.
+#[tactic(auto, unfolding(routines_numbered::specs::Packed::nodes_in, routines_numbered::specs::Packed::node_in))]
+fn has_call(words: &[u64]) -> bool
+    ensures { result ≡ false → NoCall words.now (length words.now) }
 {
-    let mut v = 0;
-    while v < n {
-        if kind_of(words[v]) == 3 {
-            return true;
-        }
-        v += 1;
-    }
-    false
+    words.iter().any(|word| kind_of(*word) == 3)
 }
 
-// The same as lowest_recursion, with arrays lent for all nodes that there can be.
-fn recursion_in(
-    words: &[u64],
-    map: &[u16],
-    n: usize,
-    marks: &mut [u8],
-    queue: &mut [u16],
-    rank: &mut [u16],
-    number: &mut [u16],
-    back: &mut [u16],
-    stage: &mut [u8],
-) -> usize
-    requires { Laid words.now map.now n × (length marks.old ≡ 34816) × Works marks.old queue.old rank.old number.old back.old stage.old }
-    ensures { Recursion (flow_at words.now map.now) result }
+// The lowest entry that recurs.
+fn lowest_recursion(joined: &Joined) -> Option<usize>
+    ensures { Recursion (flow_at joined.now.words.now joined.now.map.now) result }
 {
-    let nodes = ENTRIES + 2 * n;
-    recursion(
-        words,
-        map,
-        &mut marks[..nodes],
-        &mut queue[..nodes],
-        &mut rank[..nodes],
-        &mut number[..nodes],
-        &mut back[..nodes],
-        &mut stage[..nodes],
-    )
-}
-
-// The lowest entry that recurs, or 2,048 or more.
-fn lowest_recursion(words: &[u64], map: &[u16], n: usize) -> usize
-    requires { Laid words.now map.now n }
-    ensures { Recursion (flow_at words.now map.now) result }
-{
+    let nodes = ENTRIES + 2 * joined.numbers;
     let mut marks = [0u8; NODES];
     let mut queue = [0u16; NODES];
     let mut rank = [0u16; NODES];
     let mut number = [0u16; NODES];
     let mut back = [0u16; NODES];
     let mut stage = [0u8; NODES];
-    recursion_in(
-        words,
-        map,
-        n,
-        &mut marks,
-        &mut queue,
-        &mut rank,
-        &mut number,
-        &mut back,
-        &mut stage,
-    )
-}
-
-// The same as judged, with arrays lent for all nodes that there can be.
-fn judged_in(
-    words: &[u64],
-    map: &[u16],
-    n: usize,
-    marks: &mut [u8],
-    queue: &mut [u16],
-    rank: &mut [u16],
-    number: &mut [u16],
-    back: &mut [u16],
-    stage: &mut [u8],
-) -> Result<usize, Unsound>
-    requires { Settles words.now map.now n × (length marks.old ≡ 34816) × Works marks.old queue.old rank.old number.old back.old stage.old }
-    ensures { JudgedBy words.now map.now result }
-{
-    let nodes = ENTRIES + 2 * n;
-    judge(
-        words,
-        map,
+    recursion(
+        joined,
         &mut marks[..nodes],
         &mut queue[..nodes],
         &mut rank[..nodes],
@@ -156,57 +92,26 @@ fn judged_in(
 }
 
 // 21, 22, or neither.
-fn judged(words: &[u64], map: &[u16], n: usize) -> Result<usize, Unsound>
-    requires { Settles words.now map.now n }
-    ensures { JudgedBy words.now map.now result }
+fn judged(joined: &Joined) -> Result<usize, Unsound>
+    requires { Settles joined.now.words.now joined.now.map.now joined.now.numbers }
+    ensures { JudgedBy joined.now.words.now joined.now.map.now result }
 {
+    let nodes = ENTRIES + 2 * joined.numbers;
     let mut marks = [0u8; NODES];
     let mut queue = [0u16; NODES];
     let mut rank = [0u16; NODES];
     let mut number = [0u16; NODES];
     let mut back = [0u16; NODES];
     let mut stage = [0u8; NODES];
-    judged_in(
-        words,
-        map,
-        n,
-        &mut marks,
-        &mut queue,
-        &mut rank,
-        &mut number,
-        &mut back,
-        &mut stage,
+    judge(
+        joined,
+        &mut marks[..nodes],
+        &mut queue[..nodes],
+        &mut rank[..nodes],
+        &mut number[..nodes],
+        &mut back[..nodes],
+        &mut stage[..nodes],
     )
-}
-
-// Has each call's word say where it goes on; marks, of zeros, one a number, and the others are to work in.
-fn choose_by(
-    words: &mut [u64],
-    first: &mut [u32],
-    link: &mut [u32],
-    stack: &mut [u16],
-    marks: &mut [u8],
-)
-    requires { Sized words.old (length marks.old) × Blank marks.old }
-    ensures { ChosenBy words.old (length marks.old) words.new }
-{
-    mark_losing(words, first, link, stack, marks);
-    choose(words, marks);
-}
-
-// The same as choose_calls, with arrays of zeros lent for all numbers that there can be.
-fn choose_in(
-    words: &mut [u64],
-    n: usize,
-    first: &mut [u32],
-    link: &mut [u32],
-    stack: &mut [u16],
-    marks: &mut [u8],
-)
-    requires { Sized words.old n × (length marks.old ≡ 16384) × Blank marks.old }
-    ensures { ChosenBy words.old n words.new }
-{
-    choose_by(words, first, link, stack, &mut marks[..n]);
 }
 
 // Has the word of each call say where it goes on.
@@ -217,8 +122,10 @@ fn choose_calls(words: &mut [u64], n: usize)
     let mut first = [0u32; PLACES];
     let mut link = [0u32; EDGES];
     let mut stack = [0u16; PLACES];
-    let mut marks = [0u8; PLACES];
-    choose_in(words, n, &mut first, &mut link, &mut stack, &mut marks);
+    let mut room = [0u8; PLACES];
+    let marks = &mut room[..n];
+    mark_losing(words, &mut first, &mut link, &mut stack, marks);
+    choose(words, marks);
 }
 
 // What the settled sums and depths come to.
@@ -244,56 +151,16 @@ fn answer_of(
     })
 }
 
-// The same as settle, with arrays of zeros lent for all numbers that there can be.
-fn settle_in(words: &[u64], d: &mut [u32], dep: &mut [u16], stage: &mut [u8], back: &mut [u16])
-    requires { Priced words.now (length d.old) × (0 < length d.old) × Blank d.old × Blank dep.old × (length dep.old ≡ length d.old)
-        × (length stage.old ≡ 16384) × (length back.old ≡ 16384) × Blank back.old }
-    ensures { Dist (ways_in words.now) (costs_in words.now) d.new dep.new
-        × IdleTo (ways_in words.now) (costs_in words.now) d.new (length d.new) }
-{
-    let n = d.len();
-    sums(words, 0, d, dep, &mut stage[..n], &mut back[..n]);
-}
-
 // Settles the sums and the depths, in arrays of zeros.
 fn settle(words: &[u64], d: &mut [u32], dep: &mut [u16])
     requires { Priced words.now (length d.old) × (0 < length d.old) × Blank d.old × Blank dep.old × (length dep.old ≡ length d.old) }
     ensures { Dist (ways_in words.now) (costs_in words.now) d.new dep.new
         × IdleTo (ways_in words.now) (costs_in words.now) d.new (length d.new) }
 {
+    let n = d.len();
     let mut stage = [0u8; PLACES];
     let mut back = [0u16; PLACES];
-    settle_in(words, d, dep, &mut stage, &mut back);
-}
-
-// Settles sums and depths, in arrays of zeros, one element a number, and says what they come to.
-fn measured_by(
-    words: &[u64],
-    d: &mut [u32],
-    dep: &mut [u16],
-    path: &mut [u8],
-    deep: &mut [u8],
-) -> Result<Greatest, Unbounded>
-    requires { Priced words.now (length d.old) × (0 < length d.old) × Blank d.old × Blank dep.old × (length dep.old ≡ length d.old) }
-    ensures { Measured words.now (length d.old) path.old path.new deep.old deep.new result }
-{
-    settle(words, d, dep);
-    answer_of(words, d, dep, path, deep)
-}
-
-// The same as measured, with arrays of zeros lent for all numbers that there can be.
-fn measured_in(
-    words: &[u64],
-    n: usize,
-    d: &mut [u32],
-    dep: &mut [u16],
-    path: &mut [u8],
-    deep: &mut [u8],
-) -> Result<Greatest, Unbounded>
-    requires { Priced words.now n × (0 < n) × (length d.old ≡ 16384) × Blank d.old × (length dep.old ≡ 16384) × Blank dep.old }
-    ensures { Measured words.now n path.old path.new deep.old deep.new result }
-{
-    measured_by(words, &mut d[..n], &mut dep[..n], path, deep)
+    sums(words, 0, d, dep, &mut stage[..n], &mut back[..n]);
 }
 
 // The bound of a handler that is judged and sound.
@@ -306,41 +173,42 @@ fn measured(
     requires { Priced words.now n × (0 < n) }
     ensures { Measured words.now n path.old path.new deep.old deep.new result }
 {
-    let mut d = [0u32; PLACES];
-    let mut dep = [0u16; PLACES];
-    measured_in(words, n, &mut d, &mut dep, path, deep)
+    let mut sums_room = [0u32; PLACES];
+    let mut depths_room = [0u16; PLACES];
+    let d = &mut sums_room[..n];
+    let dep = &mut depths_room[..n];
+    settle(words, d, dep);
+    answer_of(words, d, dep, path, deep)
 }
 
 // The bound of a handler in which nothing recurs and whose words say where their calls go on: 21, 22, 25, 23, or N and the depth.
-fn answer_judged(
-    words: &[u64],
-    map: &[u16],
-    n: usize,
-    path: &mut [u8],
-    deep: &mut [u8],
-) -> Result<Greatest, Unbounded>
-    requires { Settles words.now map.now n }
-    ensures { FlowAnswer (flow_at words.now map.now) (costs_in words.now) (address_in words.now)
+fn answer_judged(joined: &Joined, path: &mut [u8], deep: &mut [u8]) -> Result<Greatest, Unbounded>
+    requires { Settles joined.now.words.now joined.now.map.now joined.now.numbers }
+    ensures { FlowAnswer (flow_at joined.now.words.now joined.now.map.now) (costs_in joined.now.words.now) (address_in joined.now.words.now)
         path.old path.new deep.old deep.new unknown (found_of result) }
 {
-    judged(words, map, n)?;
-    measured(words, n, path, deep)
+    judged(joined)?;
+    measured(joined.words, joined.numbers, path, deep)
 }
 
-// The lowest entry that recurs, or 2,048 or more: then the word of each call says where it goes on. Without calls nothing is paid for them but the test.
-fn judge_calls(words: &mut [u64], map: &[u16], n: usize) -> usize
+// The lowest entry that recurs; where none does, the word of each call says where it goes on. Without calls nothing is paid for them but the test.
+fn judge_calls(words: &mut [u64], map: &[u16], n: usize) -> Option<usize>
     requires { HandlerWords words.old map.now n }
     ensures { CallsJudged words.old map.now n words.new result }
 {
-    if !has_call(words, n) {
-        return ENTRIES;
+    if !has_call(&words[..n]) {
+        return None;
     }
-    let lowest = lowest_recursion(words, map, n);
-    if lowest < ENTRIES {
-        return lowest;
+    let joined = Joined {
+        words,
+        map,
+        numbers: n,
+    };
+    if let Some(entry) = lowest_recursion(&joined) {
+        return Some(entry);
     }
     choose_calls(words, n);
-    lowest
+    None
 }
 
 // The bound of a handler of n numbers, of which the start's is 0.
@@ -355,9 +223,13 @@ pub fn bound_words(
     ensures { Answer (flow_at words.old map.now) (costs_in words.old) (address_in words.old)
         path.old path.new deep.old deep.new (found_of result) }
 {
-    let lowest = judge_calls(words, map, n);
-    if lowest < ENTRIES {
-        return Err(Unbounded::Recursion(lowest));
+    if let Some(entry) = judge_calls(words, map, n) {
+        return Err(Unbounded::Recursion(entry));
     }
-    answer_judged(words, map, n, path, deep)
+    let joined = Joined {
+        words,
+        map,
+        numbers: n,
+    };
+    answer_judged(&joined, path, deep)
 }

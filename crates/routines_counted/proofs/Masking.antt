@@ -9,7 +9,6 @@ use native.Mathlib.Decide.{ℕ_discrete}
 use lib.ListN.{length, get_or, set}
 use lib.Seq.{get_or-set_same, get_or-set_other}
 use Rattle.laws.specs.Choice.{pick}
-use Rattle.laws.proofs.Computed.{true→T}
 use Rattle.graph.specs.Graph.{Graph, GoesOn}
 use Rattle.graph_search.specs.Marks.{Marked}
 use Rattle.routines_known.specs.Marking.{Sized}
@@ -17,13 +16,8 @@ use Rattle.graph_search.proofs.Zeros.{marked_lt}
 use Rattle.routines_counted.specs.Overs.{steps_in, Starts, BehindTo}
 use Rattle.routines_counted.specs.Seeds.{AheadIs}
 use Rattle.routines_counted.proofs.Stepping.{steps_inside}
-use Rattle.routines_counted.specs.Masking.{Tells, LeadsTo, WeighsBy, WeighsIn, BitIs, BitsTo}
-
-pub tells_so : {P : Type 0} → P → Tells P true
-tells_so p = record { so = λ e. p; not_so = λ e. absurd (true→T (sym e)) }
-
-pub tells_not : {P : Type 0} → (P → ⊥) → Tells P false
-tells_not n = record { so = λ e. absurd (true→T e); not_so = λ e p. n p }
+use Rattle.routines_joined.specs.Ranks.{Tells}
+use Rattle.routines_counted.specs.Masking.{LeadsTo, WeighsBy, WeighsIn, BitIs, BitsTo}
 
 pub tells_both : {P Q : Type 0} {r : Bool} → P → Tells Q r → Tells (P × Q) r
 tells_both p t = record { so = λ e. (p, t.so e); not_so = λ e x. t.not_so e x.1 }

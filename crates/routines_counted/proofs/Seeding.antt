@@ -1,7 +1,6 @@
 -- Laws of the words with the places at an address as ends.
 use mathlib.Core.Path.{◌≡◌, refl, sym, ap, ◌∙◌}
 use mathlib.Core.Logic.{◌⊎◌, inl, inr}
-use mathlib.Core.Bool.{true, false}
 use mathlib.Core.List.{List}
 use Prim.Native.Nat.{ℕ, ◌+◌, ◌/◌, ◌<◌}
 use native.Mathlib.Omega.{arith}
@@ -13,8 +12,7 @@ use lib.Seq.{get_or-set_same, get_or-set_other}
 use Rattle.laws.specs.Choice.{pick}
 use Rattle.routines_numbered.specs.Packed.{place_in, node_in, packed, Fits}
 use Rattle.routines_numbered.proofs.Packed.{next_of, other-of, into-of, kind_of, known_of}
-use Rattle.routines_counted.specs.declared.reached.Over.{Over}
-use Rattle.routines_counted.specs.Overs.{OverIs}
+use Rattle.routines_counted.specs.Overs.{GoesOver, Stays}
 use Rattle.routines_counted.specs.Seeds.{SeededIs, SeededTo}
 
 end_fits : Fits 0 0 0 0 4 0
@@ -24,7 +22,7 @@ address_of_lem : (word p : ℕ) → p ≡ place_in word → p / 2 ≡ (node_in w
 unfolding node_in
 address_of_lem word p e = ap (λ (z : ℕ). z / 2) e
 
-module _ (word at p : ℕ) (place : p ≡ place_in word) (over : Over) (o : OverIs word over) where
+module _ (word at p : ℕ) (place : p ≡ place_in word) where
   pub seed-there : (r : ℕ) → p / 2 ≡ at → r ≡ packed 0 0 0 0 4 0 → SeededIs word at r
   seed-there r e er =
       let here : (node_in word).address ≡ at = sym (address_of_lem word p place) ∙ e in
@@ -38,56 +36,56 @@ module _ (word at p : ℕ) (place : p ≡ place_in word) (over : Over) (o : Over
         into = rw er (into-of end_fits);
       }
 
-  pub seed-out : (p / 2 ≡ at → ⊥) → over.goes ≡ false → SeededIs word at 0
+  pub seed-out : (p / 2 ≡ at → ⊥) → Stays word → SeededIs word at 0
   unfolding node_in
-  seed-out n e =
-      let s = o.stays e in
+  seed-out n s =
       record {
         there = λ z. absurd (n (address_of_lem word p place ∙ z));
-        on = λ a k. absurd (s.0 k);
-        call = λ a k. absurd (s.1 k);
+        on = λ a k. absurd (s.not_on k);
+        call = λ a k. absurd (s.no_call k);
         end = λ a b c. refl;
         next = inr refl;
         other = inr refl;
         into = refl;
       }
 
-  pub on_fits : Fits 0 over.next over.other 0 1 0
-  unfolding node_in
-  on_fits = record { place_lt = omega arith; next_lt = omega (arith, o.next); other_lt = lt (ℕ_discrete (node_in word).kind 1); into_lt = omega arith; kind_lt = omega arith; cost_lt = omega arith }
-    where
-      lt : Dec ((node_in word).kind ≡ 1) → over.other < 32768
-      lt (yes e) = let z : over.other ≡ (node_in word).other = o.other ∙ rw e refl in omega (arith, z)
-      lt (no e) = let z : over.other ≡ (node_in word).next = o.other ∙ rw (ne_eqb (node_in word).kind 1 e) refl in omega (arith, z)
+  module _ {over_next over_other : ℕ} (o : GoesOver word over_next over_other) where
+    pub on_fits : Fits 0 over_next over_other 0 1 0
+    unfolding node_in
+    on_fits = record { place_lt = omega arith; next_lt = omega (arith, o.next); other_lt = lt (ℕ_discrete (node_in word).kind 1); into_lt = omega arith; kind_lt = omega arith; cost_lt = omega arith }
+      where
+        lt : Dec ((node_in word).kind ≡ 1) → over_other < 32768
+        lt (yes e) = let z : over_other ≡ (node_in word).other = o.other ∙ rw e refl in omega (arith, z)
+        lt (no e) = let z : over_other ≡ (node_in word).next = o.other ∙ rw (ne_eqb (node_in word).kind 1 e) refl in omega (arith, z)
 
-  pub seed-on : (r : ℕ) → (p / 2 ≡ at → ⊥) → over.goes ≡ true → r ≡ packed 0 over.next over.other 0 1 0 → SeededIs word at r
-  seed-on r n g er =
-      record {
-        there = λ z. absurd (n (address_of_lem word p place ∙ z));
-        on = λ a k. (kind, next, is-other ∙ rw k refl);
-        call = λ a k. (kind, next, is-other ∙ rw k refl);
-        end = λ a b c. absurd (none b c (o.goes g));
-        next = inl next;
-        other = inl (where-other (ℕ_discrete (node_in word).kind 1));
-        into = rw er (into-of on_fits);
-      }
-    where
-      kind : (node_in r).kind ≡ 1
-      kind = rw er (kind_of on_fits)
+    pub seed-on : (r : ℕ) → (p / 2 ≡ at → ⊥) → r ≡ packed 0 over_next over_other 0 1 0 → SeededIs word at r
+    seed-on r n er =
+        record {
+          there = λ z. absurd (n (address_of_lem word p place ∙ z));
+          on = λ a k. (kind, next, is-other ∙ rw k refl);
+          call = λ a k. (kind, next, is-other ∙ rw k refl);
+          end = λ a b c. absurd (none b c o.goes);
+          next = inl next;
+          other = inl (where-other (ℕ_discrete (node_in word).kind 1));
+          into = rw er (into-of on_fits);
+        }
+      where
+        kind : (node_in r).kind ≡ 1
+        kind = rw er (kind_of on_fits)
 
-      next : (node_in r).next ≡ (node_in word).next
-      next = rw er (next_of on_fits) ∙ o.next
+        next : (node_in r).next ≡ (node_in word).next
+        next = rw er (next_of on_fits) ∙ o.next
 
-      is-other : (node_in r).other ≡ pick (eqb (node_in word).kind 1) (node_in word).other (node_in word).next
-      is-other = rw er (other-of on_fits) ∙ o.other
+        is-other : (node_in r).other ≡ pick (eqb (node_in word).kind 1) (node_in word).other (node_in word).next
+        is-other = rw er (other-of on_fits) ∙ o.other
 
-      where-other : Dec ((node_in word).kind ≡ 1) → ((node_in r).other ≡ (node_in word).other) ⊎ ((node_in r).other ≡ (node_in word).next)
-      where-other (yes e) = inl (is-other ∙ rw e refl)
-      where-other (no e) = inr (is-other ∙ rw (ne_eqb (node_in word).kind 1 e) refl)
+        where-other : Dec ((node_in word).kind ≡ 1) → ((node_in r).other ≡ (node_in word).other) ⊎ ((node_in r).other ≡ (node_in word).next)
+        where-other (yes e) = inl (is-other ∙ rw e refl)
+        where-other (no e) = inr (is-other ∙ rw (ne_eqb (node_in word).kind 1 e) refl)
 
-      none : ((node_in word).kind ≡ 1 → ⊥) → ((node_in word).kind ≡ 3 → ⊥) → ((node_in word).kind ≡ 1) ⊎ ((node_in word).kind ≡ 3) → ⊥
-      none b c (inl e) = b e
-      none b c (inr e) = c e
+        none : ((node_in word).kind ≡ 1 → ⊥) → ((node_in word).kind ≡ 3 → ⊥) → ((node_in word).kind ≡ 1) ⊎ ((node_in word).kind ≡ 3) → ⊥
+        none b c (inl e) = b e
+        none b c (inr e) = c e
 
 pub seeded_none : (x : List ℕ) (at : ℕ) (y : List ℕ) → SeededTo x at 0 y
 seeded_none x at y = record { is = λ v h. absurd (omega (arith, h)) }

@@ -1,14 +1,9 @@
 -- Masks of the counts that weigh, which get one bit more for each count.
-use Rattle.std.specs.Prelude.{◌≡◌, Bool, true, false, List, ℕ, ◌+◌, ◌*◌, ◌≤◌, ◌<◌, get_or}
+use Rattle.std.specs.Prelude.{◌≡◌, List, ℕ, ◌+◌, ◌*◌, ◌≤◌, ◌<◌, get_or}
 use Rattle.graph.specs.Graph.{Graph, Edge, Reach, ReachPlus}
 use Rattle.graph_search.specs.Marks.{Marked}
 use Rattle.routines_numbered.specs.Packed.{nodes_in}
 use Rattle.routines_counted.specs.Overs.{steps_in, Starts}
-
--- r tells whether P
-pub record Tells (P : Type 0) (r : Bool) : Type 0 where
-  pub so : r ≡ true → P
-  pub not_so : r ≡ false → P → ⊥
 
 -- a step from v leads to what m marks
 abbrev pub LeadsTo : Graph → List ℕ → ℕ → Type 0

@@ -1,10 +1,9 @@
 -- The places of words in their routines, calls stepped over: after a call comes its next.
-use Rattle.std.specs.Prelude.{◌≡◌, ◌⊎◌, true, false, List, ℕ, ◌≤◌, ◌<◌, eqb, length, get_or}
+use Rattle.std.specs.Prelude.{◌≡◌, ◌⊎◌, List, ℕ, ◌≤◌, ◌<◌, eqb, length, get_or, Option, None, Some}
 use Rattle.laws.specs.Choice.{pick, either}
 use Rattle.graph.specs.Graph.{Graph, Reach}
 use Rattle.graph_search.specs.Marks.{Marked}
 use Rattle.routines_numbered.specs.Packed.{node_in, nodes_in}
-use Rattle.routines_counted.specs.declared.reached.Over.{Over}
 
 unfoldable pub steps_in : List ℕ → Graph
 steps_in x = record {
@@ -13,12 +12,19 @@ steps_in x = record {
   other = λ v. pick (eqb (nodes_in x v).kind 3) (nodes_in x v).next (nodes_in x v).other;
 }
 
--- r is where the place with the word goes on
-pub record OverIs (word : ℕ) (r : Over) : Type 0 where
-  pub goes : r.goes ≡ true → ((node_in word).kind ≡ 1) ⊎ ((node_in word).kind ≡ 3)
-  pub stays : r.goes ≡ false → ((node_in word).kind ≡ 1 → ⊥) × ((node_in word).kind ≡ 3 → ⊥)
-  pub next : r.next ≡ (node_in word).next
-  pub other : r.other ≡ pick (eqb (node_in word).kind 1) (node_in word).other (node_in word).next
+-- the place with the word goes on, to these; or it does not
+pub record GoesOver (word a b : ℕ) : Type 0 where
+  pub goes : ((node_in word).kind ≡ 1) ⊎ ((node_in word).kind ≡ 3)
+  pub next : a ≡ (node_in word).next
+  pub other : b ≡ pick (eqb (node_in word).kind 1) (node_in word).other (node_in word).next
+
+pub record Stays (word : ℕ) : Type 0 where
+  pub not_on : (node_in word).kind ≡ 1 → ⊥
+  pub no_call : (node_in word).kind ≡ 3 → ⊥
+
+abbrev pub OverIs : ℕ → Option (ℕ × ℕ) → Type 0
+OverIs word None = Stays word
+OverIs word (Some s) = GoesOver word s.0 s.1
 
 -- of the first t numbers b marks what f or a marks; the others are as in a
 pub record JoinedTo (f a : List ℕ) (t : ℕ) (b : List ℕ) : Type 0 where

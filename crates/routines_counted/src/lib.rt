@@ -7,6 +7,7 @@ pub mod nodes;
 pub mod pruned;
 pub mod reached;
 pub mod seeded;
+pub mod steps;
 
 ghost use Rattle.std.specs.Prelude.{◌≡◌, ◌+◌, ◌*◌, ◌<◌, ◌≤◌, length};
 ghost use Rattle.laws.specs.Choice.{pick};

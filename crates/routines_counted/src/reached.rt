@@ -1,66 +1,34 @@
 // What is reached from a place in its routine, calls stepped over.
 ghost use Rattle.std.specs.Prelude.{◌≡◌, ◌⊎◌, ◌+◌, ◌<◌, ◌≤◌, length};
-ghost use Rattle.graph.specs.Graph.{Edge};
-ghost use Rattle.graph_search.specs.Marks.{Room, Grown, Listed};
-ghost use Rattle.graph_search.specs.Search.{Visited, Reached};
+ghost use Rattle.graph_search.specs.Search.{Reached};
 ghost use Rattle.routines_known.specs.Marking.{Sized};
 ghost use Rattle.routines_counted.specs.Overs.{steps_in, OverIs, JoinedTo, Searches, Starts, BehindTo};
 
-use graph_search::{clear, mark};
+use crate::steps::Steps;
+use graph_search::{Successors, clear, reach};
 use routines_numbered::{kind_of, next_of, other_of, place_of};
 
 // Where a place goes on, if it does; after a call, at its next.
-#[derive(Clone, Copy)]
-pub struct Over {
-    pub goes: bool,
-    pub next: usize,
-    pub other: usize,
-}
-
-pub fn step_over(word: u64) -> Over
+pub fn step_over(word: u64) -> Option<(usize, usize)>
     ensures { OverIs word result }
 {
-    let kind = kind_of(word);
     let next = next_of(word);
-    if kind == 1 {
-        return Over {
-            goes: true,
-            next: next,
-            other: other_of(word),
-        };
-    }
-    Over {
-        goes: kind == 3,
-        next: next,
-        other: next,
+    match kind_of(word) {
+        1 => Some((next, other_of(word))),
+        3 => Some((next, next)),
+        _ => None,
     }
 }
 
-// Marks what follows v.
-fn visit_over(words: &[u64], marks: &mut [u8], queue: &mut [u16], count: usize, v: usize) -> usize
-    requires { Sized words.now (length marks.old) × Room marks.old queue.old count × (v < length marks.old) }
-    ensures { Grown (Edge (steps_in words.now) v) marks.old queue.old count marks.new queue.new result × Visited (steps_in words.now) v marks.new }
-{
-    let over = step_over(words[v]);
-    if !over.goes {
-        return count;
-    }
-    let next_count = mark(marks, queue, count, over.next);
-    mark(marks, queue, next_count, over.other)
-}
+impl Successors for Steps<'_> {
+    ghost use Rattle.routines_counted.specs.Overs.{steps_in};
 
-// Marks exactly the places that are reached from s, calls stepped over. queue is to work in.
-pub fn reach_over(words: &[u64], s: usize, marks: &mut [u8], queue: &mut [u16])
-    requires { Sized words.now (length marks.old) × (length queue.old ≡ length marks.old) × (s < length marks.old) }
-    ensures { Reached (steps_in words.now) s marks.new }
-{
-    clear(marks);
-    let mut count = mark(marks, queue, 0, s);
-    let mut head = 0;
-    while head < count {
-        let v = queue[head] as usize;
-        count = visit_over(words, marks, queue, count, v);
-        head += 1;
+    ghost graph = { λ s. steps_in s.words.now };
+
+    ghost places = { λ s. s.numbers };
+
+    fn after(&self, v: usize) -> Option<(usize, usize)> {
+        step_over(self.words[v])
     }
 }
 
@@ -68,27 +36,22 @@ pub fn reach_over(words: &[u64], s: usize, marks: &mut [u8], queue: &mut [u16])
 fn either_mark(a: u8, b: u8) -> u8
     ensures { (0 < result → (0 < a) ⊎ (0 < b)) × ((0 < a) ⊎ (0 < b) → 0 < result) }
 {
-    if a == 0 {
-        return b;
-    }
-    a
+    if a == 0 { b } else { a }
 }
 
 // Marks in all what is marked in found.
 fn join(found: &[u8], all: &mut [u8])
-    requires { (length found.now ≤ length all.old) × (length found.now ≤ 16384) }
+    requires { length found.now ≤ length all.old }
     ensures { JoinedTo found.now all.old (length found.now) all.new }
 {
-    let mut v = 0;
-    while v < found.len() {
-        all[v] = either_mark(found[v], all[v]);
-        v += 1;
+    for (v, mark) in found.iter().enumerate() {
+        all[v] = either_mark(*mark, all[v]);
     }
 }
 
 // Marks in behind what is reached from s too, where s is among what is reached and stands at the address.
 fn reach_start(
-    words: &[u64],
+    steps: &Steps,
     reached: &[u8],
     at: usize,
     s: usize,
@@ -96,36 +59,34 @@ fn reach_start(
     queue: &mut [u16],
     behind: &mut [u8],
 )
-    requires { Sized words.now (length found.old) × Searches reached.now found.old queue.old behind.old × (s < length found.old)
-        × BehindTo (steps_in words.now) (Starts words.now reached.now at) s behind.old }
-    ensures { BehindTo (steps_in words.now) (Starts words.now reached.now at) (s + 1) behind.new }
+    requires { (length found.old ≡ steps.now.numbers) × Searches reached.now found.old queue.old behind.old × (s < length found.old)
+        × BehindTo (steps_in steps.now.words.now) (Starts steps.now.words.now reached.now at) s behind.old }
+    ensures { BehindTo (steps_in steps.now.words.now) (Starts steps.now.words.now reached.now at) (s + 1) behind.new }
 {
     if reached[s] == 0 {
         return;
     }
-    if place_of(words[s]) / 2 != at {
+    if place_of(steps.words[s]) / 2 != at {
         return;
     }
-    reach_over(words, s, found, queue);
+    reach(steps, s, found, queue);
     join(found, behind);
 }
 
 // Marks exactly the places that are reached, calls stepped over, from one that is marked in reached and stands at the address. found and queue are to work in.
 pub fn reach_behind(
-    words: &[u64],
+    steps: &Steps,
     reached: &[u8],
     at: usize,
     found: &mut [u8],
     queue: &mut [u16],
     behind: &mut [u8],
 )
-    requires { Sized words.now (length found.old) × Searches reached.now found.old queue.old behind.old }
-    ensures { BehindTo (steps_in words.now) (Starts words.now reached.now at) (length reached.now) behind.new }
+    requires { (length found.old ≡ steps.now.numbers) × Searches reached.now found.old queue.old behind.old }
+    ensures { BehindTo (steps_in steps.now.words.now) (Starts steps.now.words.now reached.now at) (length reached.now) behind.new }
 {
     clear(behind);
-    let mut s = 0;
-    while s < reached.len() {
-        reach_start(words, reached, at, s, found, queue, behind);
-        s += 1;
+    for s in 0..reached.len() {
+        reach_start(steps, reached, at, s, found, queue, behind);
     }
 }

@@ -1,9 +1,9 @@
 // From which places a place at an address is reached: the words with those places as ends, so that what loses SF there reaches one of them.
 ghost use Rattle.std.specs.Prelude.{◌≡◌, ◌<◌, ◌≤◌, length};
-ghost use Rattle.routines_known.specs.Marking.{Sized};
 ghost use Rattle.routines_counted.specs.Seeds.{SeededIs, SeededTo, AheadIs};
 
 use crate::reached::step_over;
+use crate::steps::Steps;
 use graph_search::clear;
 use routines_known::mark_losing;
 use routines_numbered::{Links, pack, place_of};
@@ -12,45 +12,38 @@ use routines_numbered::{Links, pack, place_of};
 fn seeded_word(word: u64, at: usize) -> u64
     ensures { SeededIs word at result }
 {
-    let over = step_over(word);
     if place_of(word) / 2 == at {
-        return pack(
-            0,
-            Links {
-                next: 0,
-                other: 0,
-                into: 0,
-            },
-            4,
-            0,
-        );
+        let links = Links {
+            next: 0,
+            other: 0,
+            into: 0,
+        };
+        return pack(0, links, 4, 0);
     }
-    if !over.goes {
+    let Some((next, other)) = step_over(word) else {
         return 0;
-    }
+    };
     let links = Links {
-        next: over.next,
-        other: over.other,
+        next,
+        other,
         into: 0,
     };
     pack(0, links, 1, 0)
 }
 
-// The same for each of n words.
-pub fn lay_seeded(words: &[u64], n: usize, at: usize, seeded: &mut [u64])
-    requires { Sized words.now n × (n ≤ length seeded.old) }
-    ensures { SeededTo words.now at n seeded.new }
+// The same for each of the words.
+pub fn lay_seeded(steps: &Steps, at: usize, seeded: &mut [u64])
+    requires { steps.now.numbers ≤ length seeded.old }
+    ensures { SeededTo steps.now.words.now at steps.now.numbers seeded.new }
 {
-    let mut v = 0;
-    while v < n {
-        seeded[v] = seeded_word(words[v], at);
-        v += 1;
+    for v in 0..steps.numbers {
+        seeded[v] = seeded_word(steps.words[v], at);
     }
 }
 
 // Marks exactly the places from which one at the address is reached, calls stepped over. The other arrays are to work in, first of zeros.
 pub fn mark_ahead(
-    words: &[u64],
+    steps: &Steps,
     at: usize,
     seeded: &mut [u64],
     first: &mut [u32],
@@ -58,10 +51,10 @@ pub fn mark_ahead(
     stack: &mut [u16],
     ahead: &mut [u8],
 )
-    requires { Sized words.now (length ahead.old) × (length seeded.old ≡ 16384) × (0 < length ahead.old) }
-    ensures { AheadIs words.now at (length ahead.old) ahead.new }
+    requires { (length ahead.old ≡ steps.now.numbers) × (length seeded.old ≡ 16384) × (0 < length ahead.old) }
+    ensures { AheadIs steps.now.words.now at (length ahead.old) ahead.new }
 {
-    lay_seeded(words, ahead.len(), at, seeded);
+    lay_seeded(steps, at, seeded);
     clear(ahead);
     mark_losing(seeded, first, link, stack, ahead);
 }

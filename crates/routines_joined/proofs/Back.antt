@@ -1,23 +1,29 @@
 -- Two searches tell whether a node comes back to itself: one from each node that follows it.
-use Rattle.std.proofs.Common.{◌≡◌, ℕ, List, get_or, refl, inl, inr, ⊎_elim, not-suc-le-zero, arith}
-use Rattle.graph.specs.Graph.{Graph, GoesOn, ReachPlus}
-use Rattle.graph_search.specs.Search.{Reached}
+use Rattle.std.proofs.Common.{◌≡◌, ℕ, List, true, false, get_or, inl, inr, ⊎_elim, arith}
+use Rattle.graph.specs.Graph.{Graph, ReachPlus}
+use Rattle.graph_search.specs.Search.{GoesTo, Reached}
 use Rattle.routines_joined.specs.Ranks.{Tells}
 
-pub tells_not : {P : Type 0} → (P → ⊥) → Tells P 0
-tells_not h = record { so = λ l. absurd (not-suc-le-zero l); not_so = λ _. h }
+true_false : true ≡ false → ⊥
+true_false e = cc
 
-tells_so : {P : Type 0} → P → Tells P 1
-tells_so p = record { so = λ _. p; not_so = λ e. absurd (omega arith) }
+false_true : false ≡ true → ⊥
+false_true e = cc
 
-module _ {g : Graph} {v : ℕ} where
-  pub back-next : {m : List ℕ} → GoesOn g v → Reached g (g.next v) m → (get_or m v 0 ≡ 0 → ⊥) → Tells (ReachPlus g v v) 1
-  back-next on r n = tells_so (g.next v, (on, inl refl), r.sound v (omega arith))
+pub tells_not : {P : Type 0} → (P → ⊥) → Tells P false
+tells_not h = record { so = λ e. absurd (false_true e); not_so = λ _. h }
 
-  -- where the first search did not find v, the second's mark tells
-  pub back-other : {m m' : List ℕ} → GoesOn g v → Reached g (g.next v) m → get_or m v 0 ≡ 0 → Reached g (g.other v) m' → Tells (ReachPlus g v v) (get_or m' v 0)
-  back-other on r z r' =
-      record {
-        so = λ h. (g.other v, (on, inr refl), r'.sound v h);
-        not_so = λ e p. ⊎_elim (λ x. omega (arith, r.complete v (rw x at p.2))) (λ x. omega (arith, r'.complete v (rw x at p.2))) p.1.1;
-      }
+pub tells_so : {P : Type 0} → P → Tells P true
+tells_so p = record { so = λ _. p; not_so = λ e. absurd (true_false e) }
+
+module _ {g : Graph} {n v a b : ℕ} (to : GoesTo g n v a b) where
+  pub back-next : {m : List ℕ} → Reached g a m → (get_or m v 0 ≡ 0 → ⊥) → Tells (ReachPlus g v v) true
+  back-next r n = tells_so (a, (to.on, inl to.next), r.sound v (omega arith))
+
+  pub back-other : {m : List ℕ} → Reached g b m → (get_or m v 0 ≡ 0 → ⊥) → Tells (ReachPlus g v v) true
+  back-other r n = tells_so (b, (to.on, inr to.other), r.sound v (omega arith))
+
+  -- neither search found v
+  pub back-neither : {m m' : List ℕ} → Reached g a m → get_or m v 0 ≡ 0 → Reached g b m' → get_or m' v 0 ≡ 0 → Tells (ReachPlus g v v) false
+  back-neither r z r' z' =
+      tells_not (λ p. ⊎_elim (λ x. omega (arith, r.complete v (rw (x, ← to.next) at p.2), z)) (λ x. omega (arith, r'.complete v (rw (x, ← to.other) at p.2), z')) p.1.1)

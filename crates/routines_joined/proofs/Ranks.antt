@@ -20,11 +20,6 @@ module _ {g : Graph} {rank : List ℕ} where
           let e : j ≡ i = omega arith in
           rw e (record { le = λ w ed. omega (arith, after.le w ed) })
 
-  pub rises-end : {q : List ℕ} {i t : ℕ} → i ≤ t → t ≤ i → NeverRises g rank q i → NeverRises g rank q t
-  rises-end {i = i} {t = t} a b h =
-      let e : t ≡ i = omega arith in
-      rw e h
-
   -- what is marked stands in the queue
   pub steady-of : {m q : List ℕ} {s t : ℕ} → Reached g s m → Listed m q t → NeverRises g rank q t → Steady g rank m
   steady-of reached listed never = record { closed = λ v w h e. reached.complete w (reach_snoc (reached.sound v h) e); after = λ v h. let i = listed.listed v h in rw i.2 at (never.at i.0 i.1) }
@@ -34,5 +29,6 @@ module _ {g : Graph} {rank : List ℕ} where
     never-higher here h = omega arith
     never-higher (step {u} {v} e r) h = omega (arith, (steady.after u h).le v e, never-higher r (steady.closed u v h e))
 
-    pub no_return : {v r : ℕ} → Marked m v → After g rank v r → r < get_or rank v 0 → ReachPlus g v v → ⊥
-    no_return {v} h after lt (w, e, back) = omega (arith, after.le w e, never-higher back (steady.closed v w h e))
+    -- a node that comes back has no higher rank than the highest that follows it
+    pub comes_back : {v r : ℕ} → Marked m v → After g rank v r → ReachPlus g v v → get_or rank v 0 ≤ r
+    comes_back h after (w, e, back) = omega (arith, after.le w e, never-higher back (steady.closed _ w h e))

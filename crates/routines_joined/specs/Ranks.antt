@@ -1,12 +1,12 @@
 -- Ranks that rule out that a node is reached from itself.
-use Rattle.std.specs.Prelude.{◌≡◌, ℕ, ◌<◌, ◌≤◌, List, slice_index}
+use Rattle.std.specs.Prelude.{◌≡◌, ℕ, ◌<◌, ◌≤◌, Bool, true, false, List, slice_index}
 use Rattle.graph.specs.Graph.{Graph, Edge}
 use Rattle.graph_search.specs.Marks.{Marked}
 
--- r is not 0 exactly where P holds
-pub record Tells (P : Type 0) (r : ℕ) : Type 0 where
-  pub so : 0 < r → P
-  pub not_so : r ≡ 0 → P → ⊥
+-- r tells whether P
+pub record Tells (P : Type 0) (r : Bool) : Type 0 where
+  pub so : r ≡ true → P
+  pub not_so : r ≡ false → P → ⊥
 
 -- no node that follows v has a rank over r
 pub record After (g : Graph) (rank : List ℕ) (v r : ℕ) : Type 0 where

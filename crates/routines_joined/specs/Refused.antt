@@ -1,5 +1,5 @@
 -- What is answered of a numbered flow in which SF is unknown after every call, or which says where it is known: 24, 21 and 22.
-use Rattle.std.specs.Prelude.{ℕ, ◌<◌, ◌≤◌, List, Result, Ok, Err}
+use Rattle.std.specs.Prelude.{ℕ, List, Option, None, Some, Result, Ok, Err}
 use Rattle.graph.specs.Graph.{Least}
 use Rattle.graph_search.specs.Marks.{Listed}
 use Rattle.graph_search.specs.Search.{Reached}
@@ -12,10 +12,10 @@ use Rattle.routines_joined.specs.declared.Unsound.{Unsound}
 abbrev pub NothingRecurs : Flow → Type 0
 NothingRecurs f = (e : ℕ) → Recurs f e → ⊥
 
--- 24: r is the lowest entry that recurs, or 2,048 or more where none does
-pub record Recursion (f : Flow) (r : ℕ) : Type 0 where
-  pub lowest : r < 2048 → Least (Recurs f) r
-  pub none : 2048 ≤ r → NothingRecurs f
+-- 24: the lowest entry that recurs, or that none does
+abbrev pub Recursion : Flow → Option ℕ → Type 0
+Recursion f (Some e) = Least (Recurs f) e
+Recursion f None = NothingRecurs f
 
 abbrev pub address_in : List ℕ → ℕ → ℕ
 address_in x v = (nodes_in x v).address

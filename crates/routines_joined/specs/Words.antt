@@ -1,5 +1,5 @@
 -- The flow that words by number are, with the map by place: its routines joined in one graph, and the order in which its nodes are named.
-use Rattle.std.specs.Prelude.{◌≡◌, ℕ, ◌+◌, ◌-◌, ◌*◌, ◌/◌, ◌%◌, ◌<◌, ◌≤◌, List, length, ◌==◌, nat_lt, slice_index}
+use Rattle.std.specs.Prelude.{◌≡◌, ℕ, ◌+◌, ◌-◌, ◌*◌, ◌/◌, ◌%◌, ◌<◌, ◌≤◌, ◌⊎◌, List, length, ◌==◌, nat_lt, slice_index, Option, Some}
 use Rattle.laws.specs.Choice.{pick, either}
 use Rattle.graph.specs.Graph.{Graph}
 use Rattle.graph_search.specs.Marks.{OnQ}
@@ -45,17 +45,6 @@ pub record NodeIs (g : Graph) (x k nx o : ℕ) : Type 0 where
   pub next : nx ≡ g.next x
   pub other : o ≡ g.other x
 
--- y is a node; an array has an element for each node
-pub record Asked (x m : List ℕ) (y : ℕ) : Type 0 where
-  pub n : ℕ
-  pub laid : Laid x m n
-  pub lt : y < 2048 + 2 * n
-
-pub record Spans (x m l : List ℕ) : Type 0 where
-  pub n : ℕ
-  pub laid : Laid x m n
-  pub len : length l ≡ 2048 + 2 * n
-
 -- arrays to work in, an element for each node
 pub record Works (marks queue rank number back stage : List ℕ) : Type 0 where
   pub queues : length queue ≡ length marks
@@ -68,13 +57,13 @@ pub record Works (marks queue rank number back stage : List ℕ) : Type 0 where
 unfoldable pub key_at : List ℕ → ℕ → ℕ
 key_at x y = pick (nat_lt y 2048) y (2048 + (2 * name_in x ((y - 2048) / 2) + (y - 2048) % 2))
 
--- r is the key of y where y has P and that is lower than low, else low
-pub record LowerKey (x : List ℕ) (P : ℕ → Type 0) (low y r : ℕ) : Type 0 where
-  pub le : r ≤ low
-  pub least : P y → r ≤ key_at x y
-  pub found : r < low → (key_at x y ≡ r) × P y
+-- r is the key of y where y has P and that is lower than low, or there is no low; else low
+pub record LowerKey (x : List ℕ) (P : ℕ → Type 0) (low : Option ℕ) (y : ℕ) (r : Option ℕ) : Type 0 where
+  pub keeps : (l : ℕ) → low ≡ Some l → (k : ℕ) × (r ≡ Some k) × (k ≤ l)
+  pub least : P y → (k : ℕ) × (r ≡ Some k) × (k ≤ key_at x y)
+  pub found : (k : ℕ) → r ≡ Some k → (low ≡ Some k) ⊎ ((key_at x y ≡ k) × P y)
 
--- r is the lowest key of the queue's nodes with P, or 34,816 or more where none has it
-pub record LowestKey (x : List ℕ) (P : ℕ → Type 0) (q : List ℕ) (count r : ℕ) : Type 0 where
-  pub found : r < 34816 → (y : ℕ) × OnQ q count y × (key_at x y ≡ r) × P y
-  pub least : (i : ℕ) → i < count → P (slice_index q i) → r ≤ key_at x (slice_index q i)
+-- r is the lowest key of the queue's nodes with P, if one has it
+pub record LowestKey (x : List ℕ) (P : ℕ → Type 0) (q : List ℕ) (count : ℕ) (r : Option ℕ) : Type 0 where
+  pub found : (k : ℕ) → r ≡ Some k → (y : ℕ) × OnQ q count y × (key_at x y ≡ k) × P y
+  pub least : (i : ℕ) → i < count → P (slice_index q i) → (k : ℕ) × (r ≡ Some k) × (k ≤ key_at x (slice_index q i))

@@ -17,75 +17,64 @@ pub struct Spot {
     pub complete: u16,
 }
 
-// The walk goes on from v to w, which is not begun.
-pub fn begin(rank: &mut [u16], number: &mut [u16], back: &mut [u16], a: Spot, w: usize) -> Spot
-    requires { (length rank.old ≤ most_nodes) × (length number.old ≡ length rank.old) × (length back.old ≡ length rank.old) × (w < length rank.old) × (a.v < length rank.old) × (a.top < 65536) }
+// The walk goes on from the node that it is at to w, which is not begun.
+pub fn begin(rank: &mut [u16], number: &mut [u16], back: &mut [u16], spot: Spot, w: usize) -> Spot
+    requires { (length rank.old ≤ most_nodes) × (length number.old ≡ length rank.old) × (length back.old ≡ length rank.old) × (w < length rank.old) × (spot.v < length rank.old) × (spot.top < 65536) }
     ensures { result.top < 65536 }
 {
-    let v = a.v;
-    let i = wrapping_sub_u16(a.index, 1);
-    rank[w] = i;
-    number[w] = i;
-    back[w] = v as u16;
+    let index = wrapping_sub_u16(spot.index, 1);
+    rank[w] = index;
+    number[w] = index;
+    back[w] = spot.v as u16;
     Spot {
         v: w,
-        top: a.top,
-        index: i,
-        complete: a.complete,
+        index,
+        ..spot
     }
 }
 
+// Gives v at least this rank, if it is a node.
 pub fn raise(rank: &mut [u16], v: usize, to: u16)
     requires { length rank.old ≤ most_nodes }
 {
-    if rank.len() <= v {
-        return;
+    if v < rank.len() {
+        rank[v] = rank[v].max(to);
     }
-    if to <= rank[v] {
-        return;
-    }
-    rank[v] = to;
 }
 
 // Leaves v, whose successors were tried. Where it reaches back to a node begun before it, it waits on the stack; else those that wait above it are of its component.
-pub fn leave(rank: &mut [u16], number: &[u16], below: &mut [u16], back: &[u16], a: Spot) -> Spot
+pub fn leave(rank: &mut [u16], number: &[u16], below: &mut [u16], back: &[u16], spot: Spot) -> Spot
     requires { (length rank.old ≤ most_nodes) × (length number.now ≡ length rank.old) × (length below.old ≡ length rank.old)
-        × (length back.now ≡ length rank.old) × (a.v < length rank.old) × (a.top < 65536) }
+        × (length back.now ≡ length rank.old) × (spot.v < length rank.old) × (spot.top < 65536) }
     ensures { result.top < 65536 }
 {
-    let v = a.v;
-    let top = a.top;
-    let r = rank[v];
-    let u = back[v] as usize;
-    if r != number[v] {
+    let Spot { v, top, .. } = spot;
+    let to = back[v] as usize;
+    let high = rank[v];
+    if high != number[v] {
         below[v] = top as u16;
-        raise(rank, u, r);
+        raise(rank, to, high);
         return Spot {
-            v: u,
+            v: to,
             top: v,
-            index: a.index,
-            complete: a.complete,
+            ..spot
         };
     }
-    let i = wrapping_add_u16(a.index, 1);
-    let c = wrapping_add_u16(a.complete, 1);
-    if top < rank.len() {
-        if rank[top] <= r {
-            rank[top] = c;
-            let t = below[top] as usize;
-            return Spot {
-                v: v,
-                top: t,
-                index: i,
-                complete: a.complete,
-            };
-        }
+    let index = wrapping_add_u16(spot.index, 1);
+    let complete = wrapping_add_u16(spot.complete, 1);
+    if top < rank.len() && rank[top] <= high {
+        rank[top] = complete;
+        return Spot {
+            top: below[top] as usize,
+            index,
+            ..spot
+        };
     }
-    rank[v] = c;
+    rank[v] = complete;
     Spot {
-        v: u,
-        top: top,
-        index: i,
-        complete: c,
+        v: to,
+        top,
+        index,
+        complete,
     }
 }

@@ -16,10 +16,10 @@ use notation::sources::source_name;
 use numbers::ADDRESSES;
 use routines_bound::{Greatest, Unbounded};
 use text::Text;
-use text::text::places;
 use text_lister::line::{columns, decoded_at};
 
 // A refusal, and an address in four digits or the bytes of a path in decimal: at most 17 characters.
+#[tactic(auto, using(text::proofs::digits::Numbers::places_of_six))]
 fn refused_text<const N: usize>(out: &mut Text<N>, refused: Refused)
     requires { (value_at (paper_of (Err refused)) 0 < 131072) × (length out.old + 17 ≤ N) }
     ensures text { out.new ≡ out.old ++ summary_of (Err refused) }
@@ -37,13 +37,14 @@ fn refused_text<const N: usize>(out: &mut Text<N>, refused: Refused)
         }
         Refused::Unbounded(Unbounded::Short(bytes)) => {
             out.put(b' ');
-            out.decimal(bytes as u32);
+            out.decimal(bytes as u64);
         }
         _ => {}
     }
 }
 
-fn most_cycles<const N: usize>(out: &mut Text<N>, cycles: u32)
+#[tactic(auto, using(text::proofs::digits::Numbers::places_of_six))]
+fn most_cycles<const N: usize>(out: &mut Text<N>, cycles: u64)
     requires { (cycles < 131072) × (length out.old + 8 ≤ N) }
     ensures text { out.new ≡ out.old ++ cycles_text cycles }
     ensures upper_bound { length out.new ≤ length out.old + 8 }
@@ -53,7 +54,8 @@ fn most_cycles<const N: usize>(out: &mut Text<N>, cycles: u32)
 }
 
 // The greatest depth of calls, without the line's end: at most 12 characters.
-pub fn most_depth<const N: usize>(out: &mut Text<N>, depth: u32)
+#[tactic(auto, using(text::proofs::digits::Numbers::places_of_six))]
+pub fn most_depth<const N: usize>(out: &mut Text<N>, depth: u64)
     requires { (depth < 131072) × (length out.old + 12 ≤ N) }
     ensures text { out.new ≡ out.old ++ depth_text depth }
     ensures upper_bound { length out.new ≤ length out.old + 12 }
@@ -69,7 +71,7 @@ pub fn summary<const N: usize>(out: &mut Text<N>, answer: Result<Greatest, Refus
     ensures upper_bound { length out.new ≤ length out.old + 17 }
 {
     match answer {
-        Ok(greatest) => most_cycles(out, greatest.cycles as u32),
+        Ok(greatest) => most_cycles(out, greatest.cycles as u64),
         Err(refused) => refused_text(out, refused),
     }
 }
@@ -83,7 +85,7 @@ fn answer_text<const N: usize>(out: &mut Text<N>, answer: Result<Greatest, Refus
     summary(out, answer);
     if let Ok(greatest) = answer {
         out.put(b' ');
-        most_depth(out, greatest.depth as u32);
+        most_depth(out, greatest.depth as u64);
     }
 }
 
@@ -115,9 +117,10 @@ pub fn path_line<const N: usize>(out: &mut Text<N>, window: Window, at: u16, cou
 {
     columns(out, window, at);
     out.put(b' ');
-    let shift = 5 - places(counted) as usize;
-    out.blanks(shift);
-    out.decimal(counted);
+    let mut shown: Text<5> = Text::new();
+    shown.decimal(u64::from(counted));
+    out.blanks(5 - shown.len());
+    out.put_text(shown.as_slice());
     out.put(b'\n');
 }
 

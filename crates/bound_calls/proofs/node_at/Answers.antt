@@ -3,22 +3,18 @@ use mathlib.Core.Path.{sym, ◌∙◌}
 use Prim.Native.Nat.{◌/◌}
 use native.Mathlib.Omega.{arith}
 use Rattle.device.specs.Device.{in_image, rom_of}
-use Rattle.device.proofs.Laws.{before_end}
 use Rattle.reader.proofs.Rows.{read-in-fields}
 use Rattle.bound_calls.proofs.Nodes.{operand_lt, none-node, row-node}
 use Rattle.bound_calls.proofs.node_at.Goals as goal
 
-pub returns-in_default : goal.returns-in_default
-returns-in_default c = none-node _ _ _ _ c.read_at.ensures c.in_default.not-Row _ c.nowhere.ensures
-
-pub bounds-image-i : goal.bounds-image-i
-bounds-image-i c = rw c.in_image-i.ensures (before_end c.args.p3 (c.args.v / 2) _ c.requires.0 (omega arith))
-
-pub way_of-way-requires : goal.way_of-way-requires
-way_of-way-requires c = read-in-fields (rom_of c.args.image.now c.args.p3) (c.args.v / 2) _ (sym c.read_at.ensures ∙ c.in-Row.is) (λ at. (c.type_inv.image (in_image c.args.p3 at)).fits)
+pub way_of-requires : goal.way_of-requires
+way_of-requires c = read-in-fields (rom_of c.args.image.now c.args.p3) (c.args.v / 2) _ (sym c.read_at.ensures ∙ c.in-Ok.is) (λ at. (c.type_inv.image (in_image c.args.p3 at)).fits)
 
 pub node_by-requires : goal.node_by-requires
-node_by-requires c = (omega arith, operand_lt _ (read-in-fields (rom_of c.args.image.now c.args.p3) (c.args.v / 2) _ (sym c.read_at.ensures ∙ c.in-Row.is) (λ at. (c.type_inv.image (in_image c.args.p3 at)).fits)), c.way_of-way.ensures.few)
+node_by-requires c = (omega arith, operand_lt _ (read-in-fields (rom_of c.args.image.now c.args.p3) (c.args.v / 2) _ (sym c.read_at.ensures ∙ c.in-Ok.is) (λ at. (c.type_inv.image (in_image c.args.p3 at)).fits)), c.way_of.ensures.few)
 
-pub returns : goal.returns
-returns c = row-node _ _ _ _ (sym c.read_at.ensures ∙ c.in-Row.is) _ _ _ (rw c.in_image-i.ensures at c.timing-cost.ensures.timed_from) c.way_of-way.ensures _ c.node_by.ensures
+pub returns-in-Ok : goal.returns-in-Ok
+returns-in-Ok c = row-node _ _ _ _ (sym c.read_at.ensures ∙ c.in-Ok.is) _ _ _ (rw c.byte.ensures at c.timing-cost.ensures.timed_from) c.way_of.ensures _ c.node_by.ensures
+
+pub returns-in-Err : goal.returns-in-Err
+returns-in-Err c = none-node _ _ _ (sym c.read_at.ensures ∙ c.in-Err.is) _ c.nowhere.ensures

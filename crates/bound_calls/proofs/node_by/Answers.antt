@@ -29,7 +29,7 @@ pub returns-in-7 : goal.returns-in-7
 returns-in-7 c = rw (c.in-7.is, c.call.ensures)
 
 pub returns-in-8 : goal.returns-in-8
-returns-in-8 c = rw (c.in-8.is, c.call-in-8.ensures, c.short_entry.ensures)
+returns-in-8 c = rw (c.in-8.is, c.call-in-8.ensures, c.short_entry.ensures.entry)
 
 pub returns-in_default : goal.returns-in_default
 returns-in_default c = let e : c.args.way ≡ 9 = omega arith in rw (e, c.back.ensures)

@@ -3,11 +3,11 @@ use native.Mathlib.Omega.{arith}
 use Rattle.graph_search.proofs.Grown.{grown_none, grown-one, room-lt}
 use Rattle.graph_search.proofs.mark.Goals as goal
 
-pub returns-then-m-w-ne0 : goal.returns-then-m-w-ne0
-returns-then-m-w-ne0 c = (grown_none _ _ _, omega (arith, c.if-m-w-ne0.true))
+pub returns-then-marks-w-ne0 : goal.returns-then-marks-w-ne0
+returns-then-marks-w-ne0 c = (grown_none _ _ _, omega (arith, c.if-marks-w-ne0.true))
 
-pub bounds-q-count : goal.bounds-q-count
-bounds-q-count c = room-lt _ _ _ _ c.requires.0 c.requires.1 c.if-m-w-ne0.false
+pub bounds-queue-count : goal.bounds-queue-count
+bounds-queue-count c = room-lt _ _ _ _ c.requires.0 c.requires.1 c.if-marks-w-ne0.false
 
 pub returns : goal.returns
-returns c = grown-one _ _ _ _ c.requires.0 c.requires.1 c.if-m-w-ne0.false
+returns c = grown-one _ _ _ _ c.requires.0 c.requires.1 c.if-marks-w-ne0.false

@@ -9,9 +9,7 @@ returns-in_err-judged c =
     rw (p.1, p.2) (unsound_answer _ c.in_err-judged.ensures _ _)
 
 pub measured-requires : goal.measured-requires
-measured-requires c =
-    let pre = c.requires in
-    (priced pre.words, pre.words.laid.some)
+measured-requires c = (priced c.requires.words, c.requires.words.laid.some)
 
 pub returns : goal.returns
 returns c = sound_answer c.requires c.in_ok-judged.ensures c.measured.ensures

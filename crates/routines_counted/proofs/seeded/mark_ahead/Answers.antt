@@ -9,12 +9,11 @@ pub mark_losing-requires : goal.mark_losing-requires
 mark_losing-requires c =
     let pre = c.requires in
     let lay = c.lay_seeded in
-    let clear = c.clear in
-    (sized_at clear.auto.m (seeded-sized pre.0 lay.ensures (omega (arith, lay.auto.seeded, pre.1)) pre.2), clear.ensures)
+    (sized_at (c.clear.auto.marks ∙ pre.0) (seeded-sized c.args.steps.now.sized lay.ensures (omega (arith, lay.auto.seeded, pre.1)) (omega (arith, pre.0, pre.2))), c.clear.ensures)
 
 pub returns : goal.returns
 returns c =
     let pre = c.requires in
     let lay = c.lay_seeded in
     let losing = c.mark_losing in
-    ahead-is pre.0 lay.ensures (omega (arith, lay.auto.seeded, pre.1)) losing.ensures.0 (idle_at (sym (losing.auto.marks ∙ c.clear.auto.m)) losing.ensures.1)
+    rw pre.0 (ahead-is c.args.steps.now.sized lay.ensures (omega (arith, lay.auto.seeded, pre.1)) losing.ensures.0 (idle_at (sym (losing.auto.marks ∙ c.clear.auto.marks ∙ pre.0)) losing.ensures.1))

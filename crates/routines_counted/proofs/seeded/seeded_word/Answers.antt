@@ -1,16 +1,15 @@
 -- `routines_counted::seeded::seeded_word` meets its contract.
-use borrow.Author.Tests.{not-true, not-false}
 use Rattle.routines_counted.proofs.Seeding.{seed-there, seed-out, on_fits, seed-on}
 use Rattle.routines_counted.proofs.seeded.seeded_word.Goals as goal
 
 pub returns-then-place_of-at : goal.returns-then-place_of-at
-returns-then-place_of-at c = seed-there _ _ _ c.place_of.ensures _ c.step_over-over.ensures _ c.if-place_of-at.true c.pack.ensures
+returns-then-place_of-at c = seed-there _ _ _ c.place_of.ensures _ c.if-place_of-at.true c.pack.ensures
 
-pub returns-then-not-over : goal.returns-then-not-over
-returns-then-not-over c = seed-out _ _ _ c.place_of.ensures _ c.step_over-over.ensures c.if-place_of-at.false (not-true _ c.if-not-over.true)
+pub returns-in_default : goal.returns-in_default
+returns-in_default c = seed-out _ _ _ c.place_of.ensures c.if-place_of-at.false c.in_default.ensures
 
 pub pack-requires-2 : goal.pack-requires-2
-pack-requires-2 c = on_fits _ 0 _ c.place_of.ensures _ c.step_over-over.ensures
+pack-requires-2 c = on_fits _ 0 _ c.place_of.ensures c.in-Some.ensures
 
 pub returns : goal.returns
-returns c = seed-on _ _ _ c.place_of.ensures _ c.step_over-over.ensures _ c.if-place_of-at.false (not-false _ c.if-not-over.false) c.pack-2.ensures
+returns c = seed-on _ _ _ c.place_of.ensures c.in-Some.ensures _ c.if-place_of-at.false c.pack-2.ensures

@@ -1,9 +1,0 @@
--- `routines_counted::masks::with_bit` meets its contract.
-use native.Mathlib.Omega.{arith}
-use Rattle.routines_counted.proofs.masks.with_bit.Goals as goal
-
-pub returns-then-bit : goal.returns-then-bit
-returns-then-bit c = rw c.if-bit.true (omega arith)
-
-pub returns : goal.returns
-returns c = rw c.if-bit.false (omega arith)

@@ -1,9 +1,0 @@
--- `routines_joined::lowest_repetition` meets its contract.
-use Rattle.routines_joined.proofs.Refused.{ruled-all}
-use Rattle.routines_joined.proofs.lowest_repetition.Goals as goal
-
-pub lowest_loop-requires : goal.lowest_loop-requires
-lowest_loop-requires c =
-    let pre = c.requires in
-    let never-rises = c.never_rises-steady in
-    (pre.0, pre.1, λ h. ruled-all _ _ pre.0.laid pre.2.reached pre.2.listed (never-rises.ensures h), pre.3, pre.4)
