@@ -2,7 +2,7 @@
 #![tactic(auto)]
 
 ghost use Rattle.std.specs.Prelude.{◌≡◌, ◌+◌, ◌/◌, ◌%◌, ◌^◌, ◌<◌};
-ghost use Rattle.bits.specs.Bits.{has_bit, with_bit, without_bit, highest_bit, OneOfSix, bit_of};
+ghost use Rattle.bits.specs.Bits.{has_bit, with_bit, without_bit, highest_bit, OneOfSix};
 
 pub fn has_bit(n: u8, w: u8) -> bool
     requires { 0 < w }
@@ -43,12 +43,6 @@ pub fn weight(k: u8) -> u8
     ensures { result ≡ 2 ^ k }
 {
     1 << k
-}
-
-pub fn bit_of(b: bool) -> u8
-    ensures { result ≡ bit_of b }
-{
-    u8::from(b)
 }
 
 // Bit k.
