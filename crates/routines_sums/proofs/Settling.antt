@@ -132,5 +132,34 @@ module _ {g : Graph} {c : ℕ → ℕ} (d dep : List ℕ) (v : ℕ) (pos : 1 ≤
       value u h (no n) =
           rw (get_or-set_other d v u x 0 n, get_or-set_other dep v u y 0 n) (value_set d dep v x y z u (get_or d u 0) (get_or dep u 0) (dist.value u (rw (get_or-set_other d v u x 0 n) at h)))
 
+pub either_lt : {r a b n : ℕ} → a < n → b < n → (r ≡ a) ⊎ (r ≡ b) → r < n
+either_lt h l (inl e) = rw e h
+either_lt h l (inr e) = rw e l
+
 pub priced_at : {x : List ℕ} {n n' : ℕ} → n' ≡ n → Priced x n → Priced x n'
 priced_at e p = rw e p
+
+module _ {g : Graph} {c : ℕ → ℕ} {d d' dep' d'' dep'' : List ℕ} {i : ℕ} where
+  -- one that is given its sum
+  pub swept_changed : {r : Bool} → Swept g c d i d' dep' r → Settled g c d' i d'' dep'' true → Swept g c d (i + 1) d'' dep'' true
+  swept_changed {r} a b = record { dist = b.dist; changed = λ _. fewer r a; idle = λ e. absurd (never e) }
+    where
+      fewer : (r : Bool) → Swept g c d i d' dep' r → zeros d'' < zeros d
+      fewer true s = omega (arith, s.changed refl, b.changed refl)
+      fewer false s =
+          let y : zeros d'' < zeros d' = omega (arith, b.changed refl) in
+          rw (s.idle refl).0 at y
+
+  -- one that is not
+  pub swept_kept : {r : Bool} → Swept g c d i d' dep' r → Settled g c d' i d'' dep'' false → Swept g c d (i + 1) d'' dep'' r
+  swept_kept {r} a b =
+      let y = b.idle refl in
+      record {
+        dist = b.dist;
+        changed = λ e. rw y.0 (a.changed e);
+        idle = λ e. let x = a.idle e in (y.0 ∙ x.0, record { at = λ v l. last v l x.1 (rw (y.0 ∙ x.0) at y.1) (ℕ_discrete v i) });
+      }
+    where
+      last : (v : ℕ) → v < i + 1 → IdleTo g c d i → Idle g c d i → Dec (v ≡ i) → Idle g c d v
+      last v l x y (yes e) = rw e y
+      last v l x y (no ne) = x.at v (omega (arith, l, ne))

@@ -1,5 +1,5 @@
 -- Words by number as the graph on which sums and depths are settled: after 21 a number is reached in the outer routine or in called ones, not in both, so that one sum a number is enough.
-use Rattle.std.specs.Prelude.{◌≡◌, Bool, true, false, List, ℕ, ◌+◌, ◌≤◌, ◌<◌, eqb, length}
+use Rattle.std.specs.Prelude.{◌≡◌, Bool, true, false, List, ℕ, ◌≤◌, ◌<◌, eqb, length}
 use Rattle.laws.specs.Choice.{pick}
 use Rattle.graph.specs.Graph.{Graph}
 use Rattle.graph_search.specs.Marks.{zeros}
