@@ -28,7 +28,7 @@ use Rattle.listing.specs.Tells.{Tells}
 use Rattle.listing.specs.declared.Told.{Told}
 
 -- no stop has the number 0
-stops : (stop : Option Stop) → is_some stop ≡ not (eqb (stop_or_0 stop) 0)
+pub stops : (stop : Option Stop) → is_some stop ≡ not (eqb (stop_or_0 stop) 0)
 stops None = refl
 stops (Some UnassignedCode) = refl
 stops (Some AbsentRamAddress) = refl
