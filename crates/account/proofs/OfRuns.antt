@@ -20,15 +20,14 @@ use Rattle.record.proofs.valid.Validity.{valid?}
 use Rattle.row.specs.Rows.{Done}
 use Rattle.step.specs.Step.{step_of}
 use Rattle.step.proofs.StepValid.{stop_leaves}
-use Rattle.run.specs.Run.{run_over, run_of}
+use Rattle.run.specs.Run.{RunPaper, run_over, run_of}
 use Rattle.run.specs.Answers.{RunOf}
-use Rattle.run.specs.declared.Ran.{Ran}
 use Rattle.account.specs.Sequence.{record_after, cycles_spent}
 use Rattle.account.specs.Account.{count_of, multiples_met, period_of, inputs_of, steps_made, ClockAccountOfRun, TimerAccountOfRun}
 use Rattle.account.proofs.Accounts.{clock_account, timer_account, counts_below}
 
 -- the run has made so many steps more, and perhaps one that stopped
-record Walked (image : List ℕ) (o : Options) (m : Machine) (frames : List Pins) (before spent : ℕ) (r : Ran) : Type 0 where
+record Walked (image : List ℕ) (o : Options) (m : Machine) (frames : List Pins) (before spent : ℕ) (r : RunPaper) : Type 0 where
   pub more : ℕ
   pub steps : r.steps ≡ before + more
   pub machine : r.machine ≡ record_after m (inputs_of image o (take (suc more) frames))
@@ -52,24 +51,24 @@ module _ (image : List ℕ) (o : Options) where
       over-step pins others before spent m (eqb d.stop 0) refl (over others (suc before) (spent + d.cycles) d.machine)
 
 -- an answer leaves the record and spends nothing, or is that of the steps made
-record Refused (m : Machine) (r : Ran) : Type 0 where
+record Refused (m : Machine) (r : RunPaper) : Type 0 where
   pub machine : r.machine ≡ m
   pub cycles : r.cycles ≡ 0
 
-record Accounted (image : List ℕ) (o : Options) (m : Machine) (frames : List ℕ) (r : Ran) : Type 0 where
+record Accounted (image : List ℕ) (o : Options) (m : Machine) (frames : List ℕ) (r : RunPaper) : Type 0 where
   pub machine : r.machine ≡ record_after m (steps_made image o frames r)
   pub cycles : r.cycles ≡ cycles_spent m (steps_made image o frames r)
 
-module _ (image : List ℕ) (o : Options) (m : Machine) (frames : List ℕ) (r : Ran) (a : RunOf image o m frames r) where
+module _ (image : List ℕ) (o : Options) (m : Machine) (frames : List ℕ) (r : RunPaper) (a : RunOf image o m frames r) where
   ran : r ≡ run_of (rom_of image) o m (frames_of o.device frames) → Accounted image o m frames r
   unfolding run_of
   ran e =
       let w = over image o (frames_of o.device frames) 0 0 m in
-      let n : r.steps ≡ w.more = ap (λ (x : Ran). x.steps) e ∙ w.steps ∙ omega arith in
-      record { machine = ap (λ (x : Ran). x.machine) e ∙ rw n w.machine; cycles = ap (λ (x : Ran). x.cycles) e ∙ w.cycles ∙ rw n (omega arith) }
+      let n : r.steps ≡ w.more = ap (λ (x : RunPaper). x.steps) e ∙ w.steps ∙ omega arith in
+      record { machine = ap (λ (x : RunPaper). x.machine) e ∙ rw n w.machine; cycles = ap (λ (x : RunPaper). x.cycles) e ∙ w.cycles ∙ rw n (omega arith) }
 
   refused : {number : ℕ} → r ≡ record { number = number; steps = 0; cycles = 0; machine = m } → Refused m r
-  refused e = record { machine = ap (λ (x : Ran). x.machine) e; cycles = ap (λ (x : Ran). x.cycles) e }
+  refused e = record { machine = ap (λ (x : RunPaper). x.machine) e; cycles = ap (λ (x : RunPaper). x.cycles) e }
 
   answer_by : Dec (length image ≡ image_size o.device) → Dec (Valid o.device m) → Dec (65536 * frame_size o.device < length frames) → (b : Bool) → are_frames o.device frames ≡ b → Refused m r ⊎ Accounted image o m frames r
   answer_by (no n) v h b e = inl (refused (a.refused_1 n))

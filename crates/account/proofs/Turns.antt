@@ -1,4 +1,5 @@
 -- What a turn, an acceptance or one row, leaves of the time base and of a timer.
+use Rattle.std.specs.Prelude.{Err, Ok}
 use mathlib.Core.Path.{◌≡◌, refl, sym, subst, ap, ◌∙◌}
 use mathlib.Core.Bool.{Bool, true, false}
 use mathlib.Core.List.{List}
@@ -8,12 +9,12 @@ use Rattle.laws.specs.Choice.{pick}
 use Rattle.laws.proofs.Choices.{picked}
 use Rattle.numbers.specs.ComesBack.{stack_level}
 use Rattle.device.specs.declared.Options.{Options}
+use Rattle.sheet.specs.declared.NoRow.{NoRow}
 use Rattle.sheet.specs.Operation.{Place, Pointer, Step, After, Operation}
 use Rattle.sheet.specs.Flow.{call_entry}
-use Rattle.sheet.specs.Reading.{read_at}
+use Rattle.sheet.specs.Reading.{Read, read_at}
 use Rattle.sheet.specs.Table.{Line, line_at}
 use Rattle.sheet.specs.declared.Insn.{Insn}
-use Rattle.sheet.specs.declared.Read.{Read}
 use Rattle.ports.specs.Ports.{enters}
 use Rattle.ports.specs.declared.Mode.{Mode}
 use Rattle.ports.specs.declared.Mode.TheVariants.{Running}
@@ -52,20 +53,20 @@ module _ (P : Machine → Type 0) (m : Machine)
     around i = record { rom = shown rom m; options = o; insn = i }
 
     read-holds : (r : Read) → read_at (shown rom m) m.core.pc ≡ r
-        → ((i : Insn) → read_at (shown rom m) m.core.pc ≡ Read.Row i → (s : Step) (a : After) → (line_at i.row).operation ≡ Operation.work s a → P (work_of m (around i) (line_at i.row) s a).machine)
+        → ((i : Insn) → read_at (shown rom m) m.core.pc ≡ Ok i → (s : Step) (a : After) → (line_at i.row).operation ≡ Operation.work s a → P (work_of m (around i) (line_at i.row) s a).machine)
         → P (run_read (shown rom m) o m r).machine
-    read-holds (Read.Row i) e works = performed-holds (around i) (line_at i.row) (line_at i.row).operation (works i e)
-    read-holds Read.Unassigned e works = same
-    read-holds Read.PastEnd e works = same
+    read-holds (Ok i) e works = performed-holds (around i) (line_at i.row) (line_at i.row).operation (works i e)
+    read-holds (Err NoRow.Unassigned) e works = same
+    read-holds (Err NoRow.PastEnd) e works = same
 
     turn_by : (t : Bool) → ltb (source_of m.core) 6 ≡ t
-        → (t ≡ false → (i : Insn) → read_at (shown rom m) m.core.pc ≡ Read.Row i → (s : Step) (a : After) → (line_at i.row).operation ≡ Operation.work s a → P (work_of m (around i) (line_at i.row) s a).machine)
+        → (t ≡ false → (i : Insn) → read_at (shown rom m) m.core.pc ≡ Ok i → (s : Step) (a : After) → (line_at i.row).operation ≡ Operation.work s a → P (work_of m (around i) (line_at i.row) s a).machine)
         → P (pick t (accept_of m (source_of m.core)) (run_one rom o m)).machine
     unfolding run_one
     turn_by true e works = accept-holds (source_of m.core)
     turn_by false e works = read-holds (read_at (shown rom m) m.core.pc) refl (works refl)
 
-    pub turn_holds : (ltb (source_of m.core) 6 ≡ false → (i : Insn) → read_at (shown rom m) m.core.pc ≡ Read.Row i → (s : Step) (a : After) → (line_at i.row).operation ≡ Operation.work s a → P (work_of m (around i) (line_at i.row) s a).machine)
+    pub turn_holds : (ltb (source_of m.core) 6 ≡ false → (i : Insn) → read_at (shown rom m) m.core.pc ≡ Ok i → (s : Step) (a : After) → (line_at i.row).operation ≡ Operation.work s a → P (work_of m (around i) (line_at i.row) s a).machine)
         → P (accept_or_run rom o m).machine
     unfolding accept_or_run
     turn_holds works = turn_by (ltb (source_of m.core) 6) refl works
@@ -117,7 +118,7 @@ count_put t w m Place.mask v e = refl
 
 -- a turn that executes no row which writes the timer leaves it
 pub turn_count : (t : Timer) (rom : ℕ → ℕ → ℕ) (o : Options) (m : Machine)
-    → (ltb (source_of m.core) 6 ≡ false → (i : Insn) → read_at (shown rom m) m.core.pc ≡ Read.Row i → writes_timer t (line_at i.row).operation ≡ false)
+    → (ltb (source_of m.core) 6 ≡ false → (i : Insn) → read_at (shown rom m) m.core.pc ≡ Ok i → writes_timer t (line_at i.row).operation ≡ false)
     → count_of t (accept_or_run rom o m).machine.core.timers ≡ count_of t m.core.timers
 turn_count t rom o m none =
     turn_holds (λ n. count_of t n.core.timers ≡ count_of t m.core.timers) m (λ r pc sp i l. refl) refl rom o

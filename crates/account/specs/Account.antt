@@ -1,5 +1,5 @@
 -- Request Q-14, the clock account: "For the certificate we want one statement about long runs." One statement for both devices, one for both timers.
-use Rattle.std.specs.Prelude.{ℕ, zero, suc, ◌+◌, ◌-◌, ◌*◌, ◌/◌, ◌%◌, ◌^◌, ◌≤◌, Bool, true, false, List, [], ◌∷◌, ◌≡◌, take}
+use Rattle.std.specs.Prelude.{ℕ, zero, suc, ◌+◌, ◌-◌, ◌*◌, ◌/◌, ◌%◌, ◌^◌, ◌≤◌, Bool, true, false, List, [], ◌∷◌, ◌≡◌, take, Ok}
 use Rattle.bits.specs.Bits.{bit_of}
 use Rattle.device.specs.Device.{rom_of}
 use Rattle.device.specs.declared.Options.{Options}
@@ -7,7 +7,6 @@ use Rattle.sheet.specs.Operation.{Place, Pointer, Operation}
 use Rattle.sheet.specs.Reading.{read_at}
 use Rattle.sheet.specs.Table.{line_at}
 use Rattle.sheet.specs.declared.Insn.{Insn}
-use Rattle.sheet.specs.declared.Read.{Read}
 use Rattle.frame.specs.Frame.{frames_of}
 use Rattle.frame.specs.declared.Pins.{Pins}
 use Rattle.clock.specs.Clock.{is_multiple, timer_exponent}
@@ -19,8 +18,8 @@ use Rattle.record.specs.declared.Machine.{Machine}
 use Rattle.row.specs.Columns.{work_puts}
 use Rattle.step_act.specs.Act.{source_of, shown}
 use Rattle.step.specs.Step.{look_step}
+use Rattle.run.specs.Run.{RunPaper}
 use Rattle.run.specs.Answers.{RunOf}
-use Rattle.run.specs.declared.Ran.{Ran}
 use Rattle.account.specs.Sequence.{StepInput, step_by, record_after, cycles_spent, EachStep, KeepsMode}
 
 -- "In any sequence of steps in which sleep and hold are not entered or left and no reset comes, the time base at the end is its start plus eight times the cycles spent, modulo 2^22."
@@ -70,7 +69,7 @@ writes_timer t Operation.no_operation = false
 pub record Executes (m : Machine) (g : StepInput) (i : Insn) : Type 0 where
   pub running : m.core.mode ≡ Running
   pub accepts_nothing : source_of (look_step g.options m g.pins).machine.core ≡ 6
-  pub read : read_at (shown g.rom m) m.core.pc ≡ Read.Row i
+  pub read : read_at (shown g.rom m) m.core.pc ≡ Ok i
   pub completes : (step_by m g).stop ≡ 0
 
 -- "a timer stays in mode 2 at one rate": its port has this setting before the step and after it. "no instruction writes it"
@@ -108,20 +107,20 @@ inputs_of image o [] = []
 inputs_of image o (pins ∷ others) = record { rom = rom_of image; options = o; pins = pins } ∷ inputs_of image o others
 
 -- the steps that a run made by its answer: those completed, and the one that stopped, where one did
-abbrev pub steps_made : List ℕ → Options → List ℕ → Ran → List StepInput
+abbrev pub steps_made : List ℕ → Options → List ℕ → RunPaper → List StepInput
 steps_made image o frames r = inputs_of image o (take (suc r.steps) (frames_of o.device frames))
 
 -- both accounts of what the call run answers, by the cycles and the record of any answer that conforms
 abbrev pub ClockAccountOfRun : Type 0
 ClockAccountOfRun =
-    (image : List ℕ) (o : Options) (m : Machine) (frames : List ℕ) (r : Ran) → RunOf image o m frames r
+    (image : List ℕ) (o : Options) (m : Machine) (frames : List ℕ) (r : RunPaper) → RunOf image o m frames r
     → ValidTimers m.core.timers → EachStep KeepsMode m (steps_made image o frames r)
     → r.machine.core.timers.base ≡ (m.core.timers.base + 8 * r.cycles) % 2 ^ 22
 
 abbrev pub TimerAccountOfRun : Type 0
 TimerAccountOfRun =
     (t : Timer) (setting : ℕ) → setting / 4 ≡ 2
-    → (image : List ℕ) (o : Options) (m : Machine) (frames : List ℕ) (r : Ran) → RunOf image o m frames r
+    → (image : List ℕ) (o : Options) (m : Machine) (frames : List ℕ) (r : RunPaper) → RunOf image o m frames r
     → ValidTimers m.core.timers → EachStep (CountsOn t setting) m (steps_made image o frames r)
     → count_of t r.machine.core.timers
     ≡ (count_of t m.core.timers + multiples_met (period_of setting) m.core.timers.base r.cycles) % 4096

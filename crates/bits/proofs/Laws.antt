@@ -2,26 +2,19 @@
 use mathlib.Core.Path.{◌≡◌, refl, ap, subst, ◌∙◌}
 use mathlib.Core.Bool.{Bool, true, false}
 use Prim.Native.Nat.{ℕ, suc, ◌+◌, ◌-◌, ◌*◌, ◌/◌, ◌%◌, ◌^◌, ◌<◌, ◌≤◌}
-use native.Mathlib.Nat.{div-eq_of_lt, mod-lt, suc-mul, pow-suc, mod-eq_of_lt}
-use native.Mathlib.Decide.{dec_lt, ℕ_discrete}
+use native.Mathlib.Nat.{mod-lt, suc-mul, pow-suc, mod-eq_of_lt}
+use native.Mathlib.Decide.{ℕ_discrete}
 use native.Mathlib.Omega.{arith}
-use lib.Dec.{T, eqb, eqb→eq, leb, ltb, ltb→lt}
+use lib.Dec.{T, eqb, eqb→eq, leb, leb→le}
 use lib.Pow.{pow-add, pow_pos, shr_lt, split}
 use lib.Arith.{digits_lt}
 use lib.Bits.{bit_or, or_shifted}
-use borrow.Author.Tests.{eqb-true, ne_eqb, le-leb, lt-ltb}
+use lib.Count.{count_leading_zeros}
+use borrow.Author.Tests.{ne_eqb}
 use Rattle.std.specs.Int.{from_bool}
-use Rattle.laws.specs.Choice.{pick, both}
-use Rattle.laws.proofs.Computed.{below, implies, at, where_at, true→T, both_left, both_right, both_i}
+use Rattle.laws.specs.Choice.{pick}
+use Rattle.laws.proofs.Computed.{below, at}
 use Rattle.bits.specs.Bits.{has_bit, with_bit, without_bit, highest_bit, bit_of}
-
-weighed : (n w : ℕ) → n / w % 2 ≡ 1 → Dec (n < w) → w ≤ n
-weighed n w e (yes h) = let q : n / w ≡ 0 = div-eq_of_lt h in omega arith
-weighed n w e (no h) = omega arith
-
--- a number that has a bit is at least the bit's weight
-pub bit_le : (n w : ℕ) → has_bit n w ≡ true → w ≤ n
-bit_le n w e = weighed n w (eqb-true (n / w % 2) 1 e) (dec_lt n w)
 
 -- clearing makes no number greater
 cleared : (t : Bool) (n w : ℕ) → pick t (n - w) n ≤ n
@@ -73,20 +66,17 @@ is_one d = eqb d 1
 pub with_other : (n i j : ℕ) → n < 64 → i < 6 → j < 6 → (i ≡ j → ⊥) → has_bit (with_bit n (2 ^ i)) (2 ^ j) ≡ has_bit n (2 ^ j)
 with_other n i j hn hi hj ne = ap is_one (rw (ne_eqb i j ne) at (placed with_bit 1 tt n i j hn hi hj))
 
--- the highest bit of six is the one whose weight is reached, and not twice that
-abbrev reached : ℕ → ℕ → Bool
-reached n k = both (leb (2 ^ k) n) (ltb n (2 * 2 ^ k))
+-- the highest bit of six, by leading zeros
+abbrev by_zeros : ℕ → ℕ
+by_zeros n = pick (eqb (count_leading_zeros 8 n) 8) 6 (7 - count_leading_zeros 8 n)
 
-abbrev is_highest : ℕ → ℕ → Bool
-is_highest n k = both (eqb k (highest_bit n)) (ltb k 6)
+pub by_zeros_lem : (n : ℕ) → n < 64 → highest_bit n ≡ by_zeros n
+unfolding count_leading_zeros highest_bit
+by_zeros_lem n h = eqb→eq (highest_bit n) (by_zeros n) (at (λ n. eqb (highest_bit n) (by_zeros n)) 64 tt n h)
 
-pub highest : (n k : ℕ) → n < 64 → k < 8 → 2 ^ k ≤ n → n < 2 * 2 ^ k → (k ≡ highest_bit n) × (k < 6)
-unfolding highest_bit
-highest n k hn hk low high =
-    let h : T (is_highest n k) =
-    where_at (reached n) (is_highest n) 8 (at (λ n. below 8 (λ k. implies (reached n k) (is_highest n k))) 64 tt n hn) k hk
-    (both_i (leb (2 ^ k) n) (ltb n (2 * 2 ^ k)) (true→T (le-leb (2 ^ k) n low)) (true→T (lt-ltb n (2 * 2 ^ k) high))) in
-    (eqb→eq k (highest_bit n) (both_left (eqb k (highest_bit n)) (ltb k 6) h), ltb→lt k 6 (both_right (eqb k (highest_bit n)) (ltb k 6) h))
+pub zeros_below : (n : ℕ) → n < 64 → 2 ≤ count_leading_zeros 8 n
+unfolding count_leading_zeros
+zeros_below n h = leb→le 2 (count_leading_zeros 8 n) (at (λ n. leb 2 (count_leading_zeros 8 n)) 64 tt n h)
 
 -- k bits joined to a number that was shifted up by k, within w bits
 pub joined : (w k n b : ℕ) → n * 2 ^ k < 2 ^ w → b < 2 ^ k → bit_or (n * 2 ^ k % 2 ^ w) b ≡ n * 2 ^ k + b

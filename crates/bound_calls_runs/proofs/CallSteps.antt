@@ -1,14 +1,15 @@
 -- A step from a record that stands at a place that is not excluded follows the flow rules with calls: the one lemma that the theory of routines asks of a machine.
+use Rattle.std.specs.Prelude.{Err, Ok}
 use mathlib.Core.Path.{◌≡◌, refl, sym, ap, ◌∙◌}
 use Prim.Native.Nat.{ℕ, suc, ◌≤◌, ◌<◌}
 use native.Mathlib.Omega.{arith}
 use Rattle.device.specs.declared.Device.{Device}
 use Rattle.device.specs.declared.Options.{Options}
+use Rattle.sheet.specs.declared.NoRow.{NoRow}
 use Rattle.sheet.specs.Table.{line_at}
 use Rattle.sheet.specs.Fields.{field_a}
-use Rattle.sheet.specs.Reading.{read_at}
+use Rattle.sheet.specs.Reading.{Read, read_at}
 use Rattle.sheet.specs.declared.Insn.{Insn}
-use Rattle.sheet.specs.declared.Read.{Read}
 use Rattle.reader.proofs.Rows.{read-in-fields}
 use Rattle.frame.specs.Frame.{PinsInRange}
 use Rattle.frame.specs.declared.Pins.{Pins}
@@ -79,7 +80,7 @@ module _ (rom : ℕ → ℕ → ℕ) (bytes : (p3 at : ℕ) → rom p3 at < 256)
   abbrev after : Done
   after = step_of rom o m x.pins
 
-  pub node-is : (i : Insn) → read_at (rom p3) m.core.pc ≡ Read.Row i → node ≡ call_node_row o.device m.core.pc (is_known v) i (line_at i.row)
+  pub node-is : (i : Insn) → read_at (rom p3) m.core.pc ≡ Ok i → node ≡ call_node_row o.device m.core.pc (is_known v) i (line_at i.row)
   unfolding call_node_of
   node-is i read = rw (← at.stands.at, read)
 
@@ -94,7 +95,7 @@ module _ (rom : ℕ → ℕ → ℕ) (bytes : (p3 at : ℕ) → rom p3 at < 256)
   not-ended n z (Ends.returns r) = n (rti-kind r)
   not-ended n z (Ends.stops a b) = omega (arith, a, z)
 
-  module _ (i : Insn) (read : read_at (rom p3) m.core.pc ≡ Read.Row i) where
+  module _ (i : Insn) (read : read_at (rom p3) m.core.pc ≡ Ok i) where
     abbrev did : Done
     did = executed (around rom o m x.pins p3 v at.stands i read) (looking rom o m x.pins p3 v at.stands)
 
@@ -140,13 +141,13 @@ module _ (rom : ℕ → ℕ → ℕ) (bytes : (p3 at : ℕ) → rom p3 at < 256)
         (λ w here knows. stands-then (there w here (λ e. at.stands.sf (knows e)))) (sp-then ∙ sp)
 
   read-follows : (r : Read) → read_at (rom p3) m.core.pc ≡ r → 1 ≤ (call_node_read o.device m.core.pc (is_known v) r).kind → Step
-  read-follows (Read.Row i) e k =
+  read-follows (Ok i) e k =
       let f = read-in-fields (rom p3) m.core.pc i e (bytes p3) in
       let l = line_at i.row in
       lifted i e (call-row-follows (around rom o m x.pins p3 v at.stands i e) l (looking rom o m x.pins p3 v at.stands) at.valid.core.regs.lr at.stands.running at.stands.ei p3 at.stands.bank at.valid.ram
       (is_known v) at.stands.sf (field_a l.codes) l.operation (line_fits i.row f.row) (line_branches i.row f.row) k)
-  read-follows Read.Unassigned e k = absurd (omega (arith, k))
-  read-follows Read.PastEnd e k = absurd (omega (arith, k))
+  read-follows (Err NoRow.Unassigned) e k = absurd (omega (arith, k))
+  read-follows (Err NoRow.PastEnd) e k = absurd (omega (arith, k))
 
   step_follows : 1 ≤ node.kind → Step
   unfolding call_node_of

@@ -1,5 +1,5 @@
 -- Request Q-9, demand 3 of handlers that call: "The statement about emulated runs then holds for runs in which no instruction but a call stores into a stack level from SP at that time (included) up to the SP at the start (not included)." One statement for both devices.
-use Rattle.std.specs.Prelude.{◌≡◌, Bool, true, false, List, [], ◌∷◌, ℕ, ◌+◌, ◌*◌, ◌≤◌, ◌<◌, length, take, get_or}
+use Rattle.std.specs.Prelude.{◌≡◌, Bool, true, false, List, [], ◌∷◌, ℕ, ◌+◌, ◌*◌, ◌≤◌, ◌<◌, length, take, get_or, Ok}
 use Rattle.numbers.specs.Sizes.{addresses}
 use Rattle.numbers.specs.ComesBack.{answered}
 use Rattle.device.specs.Device.{frame_size, rom_of}
@@ -9,7 +9,6 @@ use Rattle.sheet.specs.Operation.{Entry, Operation}
 use Rattle.sheet.specs.Table.{line_at}
 use Rattle.sheet.specs.Reading.{read_at}
 use Rattle.sheet.specs.declared.Insn.{Insn}
-use Rattle.sheet.specs.declared.Read.{Read}
 use Rattle.frame.specs.Frame.{are_frames, frames_of}
 use Rattle.frame.specs.declared.Pins.{Pins}
 use Rattle.ports.specs.declared.Mode.TheVariants.{Running}
@@ -17,9 +16,8 @@ use Rattle.record.specs.Stack.{level}
 use Rattle.record.specs.declared.Machine.{Machine}
 use Rattle.step_act.specs.Act.{shown}
 use Rattle.step.specs.Step.{step_of}
-use Rattle.run.specs.Run.{run_of}
+use Rattle.run.specs.Run.{RunPaper, run_of}
 use Rattle.run.specs.Answers.{RunOf, most_frames}
-use Rattle.run.specs.declared.Ran.{Ran}
 use Rattle.routines.specs.Answer.{Judged, HasBound}
 use Rattle.bound_calls.specs.CallFlow.{call_flow, call_cycles}
 use Rattle.bound_calls.specs.CallAnswer.{CallAnswer}
@@ -31,7 +29,7 @@ pub record ExecutesCall (rom : ℕ → ℕ → ℕ) (o : Options) (m : Machine) 
   pub accepts_nothing : m.core.ints.ei ≡ false
   pub insn : Insn
   pub entry : Entry
-  pub read : read_at (shown rom m) m.core.pc ≡ Read.Row insn
+  pub read : read_at (shown rom m) m.core.pc ≡ Ok insn
   pub is_call : (line_at insn.row).operation ≡ Operation.call entry
   pub completes : (step_of rom o m pins).stop ≡ 0
 
@@ -80,7 +78,7 @@ pub record Enough (d : Device) (frames : List ℕ) (N : ℕ) : Type 0 where
 -- any answers of the call run that conform end so, and where RTI is executed SP is what it was at the start
 pub record RunReturnsWithin (image : List ℕ) (o : Options) (m : Machine) (frames : List ℕ) (N : ℕ) : Type 0 where
   pub ends : RunEndsWithin image o m frames N
-  pub own : (q : Ran) → RunOf image o m (take (frame_size o.device * ends.before) frames) q → Returns (rom_of image) o q.machine ends.last → q.machine.core.ptrs.sp ≡ m.core.ptrs.sp
+  pub own : (q : RunPaper) → RunOf image o m (take (frame_size o.device * ends.before) frames) q → Returns (rom_of image) o q.machine ends.last → q.machine.core.ptrs.sp ≡ m.core.ptrs.sp
 
 -- the same of the answers: the bound answers N with a depth, P3 being that which the device looks at (reader/specs/Answer.antt, `p3_given`), and the call run is given such a buffer
 abbrev pub Demand3OfCalls : Type 0

@@ -1,4 +1,5 @@
 -- From steps to the call run: it answers to the frames up to the step that ends the handler within N cycles, with RTI executed or a named stop.
+use Rattle.std.specs.Prelude.{Some}
 use mathlib.Core.Path.{◌≡◌, refl, ap, ◌∙◌}
 use mathlib.Core.Logic.{inl, inr}
 use mathlib.Core.Bool.{true}
@@ -11,15 +12,13 @@ use borrow.Author.Tests.{eq-eqb, ne_eqb}
 use Rattle.device.specs.Device.{image_size, frame_size, rom_of}
 use Rattle.frame.specs.Frame.{are_frames, frames_of}
 use Rattle.frame.specs.declared.Pins.{Pins}
-use Rattle.frame.specs.declared.Frame.TheVariants.{Seen}
 use Rattle.frame.proofs.Sequence.{length-frames, frame-number}
 use Rattle.record.specs.Valid.{Valid}
 use Rattle.record.specs.declared.Machine.{Machine}
 use Rattle.step.specs.Step.{step_of}
 use Rattle.device.specs.declared.Options.{Options}
-use Rattle.run.specs.Run.{run_of}
+use Rattle.run.specs.Run.{RunPaper, run_of}
 use Rattle.run.specs.Answers.{RunOf, most_frames}
-use Rattle.run.specs.declared.Ran.{Ran}
 use Rattle.bound_runs.specs.Handler.{Ends, EndsWithin, RunEnds, RunEndsWithin}
 use Rattle.run.proofs.Rest.{run-rest}
 use Rattle.frame.proofs.First.{frames-take, are-take}
@@ -42,7 +41,7 @@ module _ (rom : ℕ → ℕ → ℕ) (o : Options) (m : Machine) (N : ℕ) (befo
 
 module _ (image : List ℕ) (o : Options) (m : Machine) (frames : List ℕ) (len : length image ≡ image_size o.device) (valid : Valid o.device m) (good : are_frames o.device frames ≡ true) (few : length frames ≤ most_frames * frame_size o.device) where
   -- the call's answer to the first k frames
-  answer-is : (k : ℕ) (l : List Pins) (r : Ran) → frame_size o.device * k ≤ length frames → take k (frames_of o.device frames) ≡ l → RunOf image o m (take (frame_size o.device * k) frames) r → r ≡ run_of (rom_of image) o m l
+  answer-is : (k : ℕ) (l : List Pins) (r : RunPaper) → frame_size o.device * k ≤ length frames → take k (frames_of o.device frames) ≡ l → RunOf image o m (take (frame_size o.device * k) frames) r → r ≡ run_of (rom_of image) o m l
   answer-is k l r h e a = a.runs len valid (rw length-take (omega arith)) (are-take o.device k frames h good) ∙ ap (run_of (rom_of image) o m) (frames-take o.device k frames h ∙ e)
 
   -- as many frames as are asked of are in the buffer
@@ -52,7 +51,7 @@ module _ (image : List ℕ) (o : Options) (m : Machine) (frames : List ℕ) (len
       frames_fit o.device j (length frames) (omega arith)
 
   -- the call's answer to the frames before the last
-  answer-before : (N : ℕ) → N ≤ length (frames_of o.device frames) → (e : EndsWithin (rom_of image) o m (frames_of o.device frames) N) (q : Ran)
+  answer-before : (N : ℕ) → N ≤ length (frames_of o.device frames) → (e : EndsWithin (rom_of image) o m (frames_of o.device frames) N) (q : RunPaper)
       → RunOf image o m (take (frame_size o.device * length e.before) frames) q → q ≡ run_of (rom_of image) o m e.before
   answer-before N enough e q a =
       let k = length e.before in
@@ -66,7 +65,7 @@ module _ (image : List ℕ) (o : Options) (m : Machine) (frames : List ℕ) (len
         before = k;
         steps = e.steps;
         last = e.last;
-        shown = frame-number o.device frames good k e.last (omega (arith, e.steps)) ∙ ap Seen (rw e.parts (get_or-append_seam e.before e.last e.after e.last));
+        shown = frame-number o.device frames good k e.last (omega (arith, e.steps)) ∙ ap Some (rw e.parts (get_or-append_seam e.before e.last e.after e.last));
         answers =
             λ q r a b.
             rw (
@@ -77,7 +76,7 @@ module _ (image : List ℕ) (o : Options) (m : Machine) (frames : List ℕ) (len
       }
 
   -- the call's answer to the frames before the step that ends the handler, and that step's frame
-  pub answer-then : (N : ℕ) (enough : N ≤ length (frames_of o.device frames)) (e : EndsWithin (rom_of image) o m (frames_of o.device frames) N) (q : Ran)
+  pub answer-then : (N : ℕ) (enough : N ≤ length (frames_of o.device frames)) (e : EndsWithin (rom_of image) o m (frames_of o.device frames) N) (q : RunPaper)
       → RunOf image o m (take (frame_size o.device * (ends-by-call N enough e).before) frames) q → q ≡ run_of (rom_of image) o m e.before
   unfolding ends-by-call
   answer-then N enough e q a = answer-before N enough e q a

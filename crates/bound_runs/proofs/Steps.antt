@@ -1,13 +1,14 @@
 -- A step from a record that stands at a place that is not excluded follows the flow rules.
+use Rattle.std.specs.Prelude.{Err, Ok}
 use mathlib.Core.Path.{◌≡◌, refl, sym, ap, ◌∙◌}
 use mathlib.Core.Logic.{◌⊎◌}
 use Prim.Native.Nat.{ℕ, ◌≤◌, ◌<◌}
 use native.Mathlib.Omega.{arith}
+use Rattle.sheet.specs.declared.NoRow.{NoRow}
 use Rattle.sheet.specs.Table.{line_at}
 use Rattle.sheet.specs.Fields.{field_a}
-use Rattle.sheet.specs.Reading.{read_at}
+use Rattle.sheet.specs.Reading.{Read, read_at}
 use Rattle.sheet.specs.declared.Insn.{Insn}
-use Rattle.sheet.specs.declared.Read.{Read}
 use Rattle.frame.specs.declared.Pins.{Pins}
 use Rattle.record.specs.Valid.{Valid}
 use Rattle.record.specs.declared.Machine.{Machine}
@@ -47,7 +48,7 @@ module _ (rom : ℕ → ℕ → ℕ) (o : Options) (m : Machine) (pins : Pins) (
   step_is : step_of rom o m pins ≡ after_time (run_read (rom p3) o looking (read_at (rom p3) m.core.pc))
   step_is = step-runs rom o m pins (ap is_running stands.running) ∙ acts-so
 
-  module _ (i : Insn) (read : read_at (rom p3) m.core.pc ≡ Read.Row i) where
+  module _ (i : Insn) (read : read_at (rom p3) m.core.pc ≡ Ok i) where
     abbrev pub around : Around
     around = record { rom = rom p3; options = o; insn = i }
 
@@ -78,12 +79,12 @@ module _ (rom : ℕ → ℕ → ℕ) (o : Options) (m : Machine) (pins : Pins) (
 
   module _ (bytes : (p3 at : ℕ) → rom p3 at < 256) (valid : Valid o.device m) where
     read-follows : (r : Read) → read_at (rom p3) m.core.pc ≡ r → Allowed (node_read o.device m.core.pc (is_known v) r) → StepFollows rom o m pins p3 v
-    read-follows (Read.Row i) e k =
+    read-follows (Ok i) e k =
         let f = read-in-fields (rom p3) m.core.pc i e (bytes p3) in
         let l = line_at i.row in
         lifted i e (row-follows (around i e) l looking valid.core.regs.lr stands.running stands.ei p3 stands.bank (is_known v) stands.sf (field_a l.codes) l.operation (line_fits i.row f.row) (line_branches i.row f.row) k)
-    read-follows Read.Unassigned e k = absurd (not_allowed k)
-    read-follows Read.PastEnd e k = absurd (not_allowed k)
+    read-follows (Err NoRow.Unassigned) e k = absurd (not_allowed k)
+    read-follows (Err NoRow.PastEnd) e k = absurd (not_allowed k)
 
     pub step_follows : GoesOn (flow_graph o.device (rom p3)) v ⊎ EndsPath (flow_graph o.device (rom p3)) v → StepFollows rom o m pins p3 v
     unfolding flow_graph node_of

@@ -1,5 +1,5 @@
 -- Demand 3 (docs/PROMISES.md): "Every emulated run from there (running, SF set, EI clear, frames enough) reaches the return or a named stop having spent at most N, for any pins." One statement for both devices.
-use Rattle.std.specs.Prelude.{◌≡◌, ◌⊎◌, true, false, List, [], ◌∷◌, ◌++◌, ℕ, suc, ◌+◌, ◌*◌, ◌≤◌, ◌<◌, length, take}
+use Rattle.std.specs.Prelude.{◌≡◌, ◌⊎◌, true, false, List, [], ◌∷◌, ◌++◌, ℕ, suc, ◌+◌, ◌*◌, ◌≤◌, ◌<◌, length, take, Ok, Some}
 use Rattle.numbers.specs.Sizes.{addresses}
 use Rattle.device.specs.Device.{frame_size, rom_of}
 use Rattle.device.specs.declared.Device.{Device}
@@ -7,19 +7,16 @@ use Rattle.sheet.specs.Operation.Operation.{return_flag}
 use Rattle.sheet.specs.Table.{line_at}
 use Rattle.sheet.specs.Reading.{read_at}
 use Rattle.sheet.specs.declared.Insn.{Insn}
-use Rattle.sheet.specs.declared.Read.{Read}
 use Rattle.frame.specs.Frame.{frame_at, PinsInRange}
 use Rattle.frame.specs.declared.Pins.{Pins}
-use Rattle.frame.specs.declared.Frame.TheVariants.{Seen}
 use Rattle.ports.specs.declared.Mode.TheVariants.{Running}
 use Rattle.record.specs.Valid.{Valid}
 use Rattle.record.specs.declared.Machine.{Machine}
 use Rattle.step_act.specs.Act.{shown}
 use Rattle.step.specs.Step.{step_of}
 use Rattle.device.specs.declared.Options.{Options}
-use Rattle.run.specs.Run.{run_of}
+use Rattle.run.specs.Run.{RunPaper, run_of}
 use Rattle.run.specs.Answers.{RunOf}
-use Rattle.run.specs.declared.Ran.{Ran}
 use Rattle.bound_flow.specs.Bound.{HasBound}
 
 -- a record at the start of a handler: "running, SF set, EI clear". Q-6: "demand 3 there speaks of runs whose record starts with that P3"
@@ -36,7 +33,7 @@ pub record Returns (rom : ℕ → ℕ → ℕ) (o : Options) (m : Machine) (pins
   pub running : m.core.mode ≡ Running
   pub accepts_nothing : m.core.ints.ei ≡ false
   pub insn : Insn
-  pub read : read_at (shown rom m) m.core.pc ≡ Read.Row insn
+  pub read : read_at (shown rom m) m.core.pc ≡ Ok insn
   pub is_rti : (line_at insn.row).operation ≡ return_flag
   pub completes : (step_of rom o m pins).stop ≡ 0
 
@@ -70,7 +67,7 @@ Demand3 =
     → EndsWithin rom o m frames N
 
 -- the call run answers q to the frames before a handler's last step and r to those with its frame, the last: the step executes RTI, or it is a named stop
-pub record RunEnds (rom : ℕ → ℕ → ℕ) (o : Options) (last : Pins) (before N : ℕ) (q r : Ran) : Type 0 where
+pub record RunEnds (rom : ℕ → ℕ → ℕ) (o : Options) (last : Pins) (before N : ℕ) (q r : RunPaper) : Type 0 where
   pub completes : q.number ≡ 0
   pub cycles : r.cycles ≤ N
   pub ends : ((r.number ≡ 0) × (r.steps ≡ suc before) × Returns rom o q.machine last) ⊎ ((31 ≤ r.number) × (r.number ≤ 34))
@@ -80,5 +77,5 @@ pub record RunEndsWithin (image : List ℕ) (o : Options) (m : Machine) (frames 
   pub before : ℕ
   pub steps : suc before ≤ N
   pub last : Pins
-  pub shown : frame_at o.device frames (frame_size o.device * before) ≡ Seen last
-  pub answers : (q r : Ran) → RunOf image o m (take (frame_size o.device * before) frames) q → RunOf image o m (take (frame_size o.device * suc before) frames) r → RunEnds (rom_of image) o last before N q r
+  pub shown : frame_at o.device frames (frame_size o.device * before) ≡ Some last
+  pub answers : (q r : RunPaper) → RunOf image o m (take (frame_size o.device * before) frames) q → RunOf image o m (take (frame_size o.device * suc before) frames) r → RunEnds (rom_of image) o last before N q r

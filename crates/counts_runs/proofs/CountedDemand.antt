@@ -1,4 +1,5 @@
 -- Demand 3 under counts: the theory of counted flows, for the emulated machine.
+use Rattle.std.specs.Prelude.{Err, Ok}
 use mathlib.Core.Path.{◌≡◌, refl, sym, ap, ◌∙◌}
 use mathlib.Core.Bool.{Bool}
 use mathlib.Core.List.{List, [], ◌∷◌, ◌++◌}
@@ -8,11 +9,11 @@ use native.Mathlib.Decide.{ℕ_discrete}
 use lib.ListN.{length}
 use Rattle.device.specs.declared.Device.{Device}
 use Rattle.device.specs.declared.Options.{Options}
+use Rattle.sheet.specs.declared.NoRow.{NoRow}
 use Rattle.sheet.specs.Operation.{Operation, Entry}
 use Rattle.sheet.specs.Table.{Line, line_at}
-use Rattle.sheet.specs.Reading.{read_at}
+use Rattle.sheet.specs.Reading.{Read, read_at}
 use Rattle.sheet.specs.declared.Insn.{Insn}
-use Rattle.sheet.specs.declared.Read.{Read}
 use Rattle.frame.specs.declared.Pins.{Pins}
 use Rattle.record.specs.declared.Machine.{Machine}
 use Rattle.step.specs.Step.{step_of}
@@ -67,7 +68,7 @@ module _ (rom : ℕ → ℕ → ℕ) (bytes : (p3 at : ℕ) → rom p3 at < 256)
 
   module _ (m : Machine) (x : Shown o.device) (v : ℕ) (at : At o.device p3 m v) where
     abbrev Row : Type 0
-    Row = (i : Insn) × (read_at (rom p3) m.core.pc ≡ Read.Row i)
+    Row = (i : Insn) × (read_at (rom p3) m.core.pc ≡ Ok i)
 
     -- a place that is not excluded has a row
     row_at : 1 ≤ (call_node_of o.device (rom p3) v).kind → Row
@@ -75,14 +76,14 @@ module _ (rom : ℕ → ℕ → ℕ) (bytes : (p3 at : ℕ) → rom p3 at < 256)
     row_at k = go (read_at (rom p3) m.core.pc) refl (rw at.stands.at k)
       where
         go : (r : Read) → read_at (rom p3) m.core.pc ≡ r → 1 ≤ (call_node_read o.device m.core.pc (is_known v) r).kind → Row
-        go (Read.Row i) e k = (i, e)
-        go Read.Unassigned e k = absurd (omega (arith, k))
-        go Read.PastEnd e k = absurd (omega (arith, k))
+        go (Ok i) e k = (i, e)
+        go (Err NoRow.Unassigned) e k = absurd (omega (arith, k))
+        go (Err NoRow.PastEnd) e k = absurd (omega (arith, k))
 
-    kind-of-row : (i : Insn) → read_at (rom p3) m.core.pc ≡ Read.Row i → (call_node_row o.device m.core.pc (is_known v) i (line_at i.row)).kind ≡ (call_node_of o.device (rom p3) v).kind
+    kind-of-row : (i : Insn) → read_at (rom p3) m.core.pc ≡ Ok i → (call_node_row o.device m.core.pc (is_known v) i (line_at i.row)).kind ≡ (call_node_of o.device (rom p3) v).kind
     kind-of-row i e = ap (λ (n : CallNode). n.kind) (sym (node-is rom bytes o p3 start m x v at i e))
 
-    shown-row : (i : Insn) → read_at (rom p3) m.core.pc ≡ Read.Row i → read_at (rom m.core.ports.p3) m.core.pc ≡ Read.Row i
+    shown-row : (i : Insn) → read_at (rom p3) m.core.pc ≡ Ok i → read_at (rom m.core.ports.p3) m.core.pc ≡ Ok i
     shown-row i e = ap (λ (p : ℕ). read_at (rom p) m.core.pc) at.stands.bank ∙ e
 
     executes-call : (step_of rom o m x.pins).stop ≡ 0 → (call_node_of o.device (rom p3) v).kind ≡ 3 → ExecutesCall rom o m x.pins

@@ -1,12 +1,11 @@
 -- COUNTS.md, "What N promises". "Runs are those of demand 3 (running, SF set, EI clear, stack spared)." One statement for both devices.
-use Rattle.std.specs.Prelude.{◌≡◌, Bool, false, List, [], ◌∷◌, ◌++◌, ℕ, suc, ◌+◌, ◌≤◌, ◌<◌, length}
+use Rattle.std.specs.Prelude.{◌≡◌, Bool, false, List, [], ◌∷◌, ◌++◌, ℕ, suc, ◌+◌, ◌≤◌, ◌<◌, length, Ok}
 use Rattle.numbers.specs.Sizes.{addresses}
 use Rattle.device.specs.declared.Options.{Options}
 use Rattle.sheet.specs.Operation.{Operation}
 use Rattle.sheet.specs.Table.{line_at}
 use Rattle.sheet.specs.Reading.{read_at}
 use Rattle.sheet.specs.declared.Insn.{Insn}
-use Rattle.sheet.specs.declared.Read.{Read}
 use Rattle.frame.specs.declared.Pins.{Pins}
 use Rattle.ports.specs.declared.Mode.TheVariants.{Running}
 use Rattle.record.specs.declared.Machine.{Machine}
@@ -26,7 +25,7 @@ pub record ExecutesRet (rom : ℕ → ℕ → ℕ) (o : Options) (m : Machine) (
   pub running : m.core.mode ≡ Running
   pub accepts_nothing : m.core.ints.ei ≡ false
   pub insn : Insn
-  pub read : read_at (shown rom m) m.core.pc ≡ Read.Row insn
+  pub read : read_at (shown rom m) m.core.pc ≡ Ok insn
   pub is_ret : (line_at insn.row).operation ≡ Operation.return
   pub completes : (step_of rom o m pins).stop ≡ 0
 

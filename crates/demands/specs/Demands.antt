@@ -1,11 +1,10 @@
 -- The three demands (docs/PROMISES.md) of what the public calls answer, on either device: the page to read first. Each line cites the definitions that say it, and proofs/Proved.antt proves each.
 -- A call has the name of include/em73862.h, without the device. That it ends, whatever is handed in, is shown of each exported function: none has a `requires`.
-use Rattle.std.specs.Prelude.{ℕ, List, ◌≡◌, length}
+use Rattle.std.specs.Prelude.{ℕ, List, ◌≡◌, length, Some}
 use Rattle.device.specs.Device.{image_size, rom_of}
 use Rattle.device.specs.declared.Device.{Device}
 use Rattle.device.specs.declared.Options.{Options}
 use Rattle.frame.specs.Frame.{frame_of}
-use Rattle.frame.specs.declared.Frame.{Frame}
 use Rattle.frame.specs.declared.Pins.{Pins}
 use Rattle.record.specs.Valid.{Valid}
 use Rattle.record.specs.declared.Machine.{Machine}
@@ -22,7 +21,7 @@ use Rattle.record_calls.specs.Calls.{ResetCall, StepCall, DisplayCall}
 -- what a step leaves of the record's bytes where its number is not 0: of a refusal the bytes that came, of a stop those that the look at the frame left
 pub data LeavesRecord (o : Options) (bytes frame bytes' : List ℕ) : Type 0 where
   refusal_keeps : bytes' ≡ bytes → LeavesRecord o bytes frame bytes'
-  stop_leaves : (m : Machine) (pins : Pins) → Holds bytes m → frame_of o.device frame ≡ Frame.Seen pins → bytes' ≡ record_bytes (look_step o m pins).machine → LeavesRecord o bytes frame bytes'
+  stop_leaves : (m : Machine) (pins : Pins) → Holds bytes m → frame_of o.device frame ≡ Some pins → bytes' ≡ record_bytes (look_step o m pins).machine → LeavesRecord o bytes frame bytes'
 
 -- "Bad input is refused by number, in a fixed order; a refusal changes no record or buffer; a stop leaves what the look at the frame left (Q-4)." The order of the refusals stands in what each call answers;
 -- a record that comes back unrefused is valid again
@@ -44,7 +43,7 @@ pub record GivesStep (image : List ℕ) (o : Options) (m : Machine) (pins : Pins
 -- "Each step gives exactly the record, stop and cycle count of the written definition. A code read and written back is the same bytes; an instruction written and read back is the same instruction."
 pub record SecondDemand : Type 0 where
   pub step : {image : List ℕ} {o : Options} {bytes frame : List ℕ} {number cycles : ℕ} {bytes' : List ℕ} → StepCall image o bytes frame number cycles bytes'
-      → (m : Machine) → Holds bytes m → length image ≡ image_size o.device → Valid o.device m → (pins : Pins) → frame_of o.device frame ≡ Frame.Seen pins
+      → (m : Machine) → Holds bytes m → length image ≡ image_size o.device → Valid o.device m → (pins : Pins) → frame_of o.device frame ≡ Some pins
       → GivesStep image o m pins number cycles bytes'
   pub read_then_written : ReadThenWritten
   pub written_then_read : WrittenThenRead

@@ -39,7 +39,9 @@ fn pin_wakes(level: bool, enabled: u8, old: u8, new: u8, w: u8) -> bool
 fn port_wakes(level: bool, enabled: u8, old: u8, new: u8) -> bool
     ensures { result ≡ port_wakes level enabled old new }
 {
-    [1, 2, 4, 8].iter().any(|w| pin_wakes(level, enabled, old, new, *w))
+    [1, 2, 4, 8]
+        .iter()
+        .any(|w| pin_wakes(level, enabled, old, new, *w))
 }
 
 // Whether an enabled wake pin reads 0, or without level fell: bits 0 to 3 of enabled are for P0, bits 4 to 7 for P8.

@@ -1,66 +1,29 @@
 -- Frames that have the characters of the one before them, 24 characters at a time.
-use Prim.Native.Nat.{ℕ, zero, suc, ◌+◌, ◌-◌, ◌*◌, ◌/◌, ◌<◌, ◌≤◌}
-use mathlib.Core.Bool.{true, false}
+use Prim.Native.Nat.{ℕ, zero, suc, ◌+◌, ◌-◌, ◌/◌, ◌<◌, ◌≤◌}
+use mathlib.Core.Bool.{true}
 use mathlib.Core.List.{List}
 use mathlib.Core.Path.{◌≡◌, ap, sym, subst, ◌∙◌}
-use native.Mathlib.Decide.{dec_lt}
 use native.Mathlib.Omega.{arith}
-use lib.ListN.{length, get_or, drop, length-take, length-drop}
+use lib.ListN.{length, get_or, take, drop, length-take, length-drop}
 use lib.Seq.{get_or-take, get_or-drop, ext_get_or}
-use Rattle.laws.proofs.Computed.{true→T}
 use Rattle.device.specs.Device.{digits_of, frame_size}
 use Rattle.device.specs.declared.Device.{Device}
-use Rattle.frame.specs.Judged.{AfterFrame, byte, Four, Again, Between}
+use Rattle.frame.specs.Judged.{AfterFrame, byte, Between}
 use Rattle.frame.specs.Frame.{is_frame, chars_at, is_frame_at, are_frames}
 use Rattle.frame.proofs.Sizes.{some, times, in_24}
 use Rattle.frame.proofs.Sequence.{frame-good}
-
--- the lowest byte of a number, and the others
-low : (a b x y : ℕ) → a < 256 → b < 256 → a + 256 * x ≡ b + 256 * y → a ≡ b
-low a b x y h k e = omega arith
-
-high : (a b x y : ℕ) → a < 256 → b < 256 → a + 256 * x ≡ b + 256 * y → x ≡ y
-high a b x y h k e = let l : a ≡ b = low a b x y h k e in omega arith
-
-record Bytes (s : List ℕ) (at to : ℕ) : Type 0 where
-  e0 : byte s at ≡ byte s to
-  e1 : byte s (at + 1) ≡ byte s (to + 1)
-  e2 : byte s (at + 2) ≡ byte s (to + 2)
-  e3 : byte s (at + 3) ≡ byte s (to + 3)
-
--- four bytes as a number are equal where the bytes are
-four_bytes : (s : List ℕ) (at to x y : ℕ) → Four s at x → Four s to y → x ≡ y → Bytes s at to
-four_bytes s at to x y f g e =
-    let a : byte s at + 256 * (byte s (at + 1) + 256 * (byte s (at + 2) + 256 * byte s (at + 3))) ≡ byte s to + 256 * (byte s (to + 1) + 256 * (byte s (to + 2) + 256 * byte s (to + 3))) = omega (arith, f.value, g.value) in
-    let b = high _ _ _ _ f.b0 g.b0 a in
-    let c = high _ _ _ _ f.b1 g.b1 b in
-    record { e0 = low _ _ _ _ f.b0 g.b0 a; e1 = low _ _ _ _ f.b1 g.b1 b; e2 = low _ _ _ _ f.b2 g.b2 c; e3 = high _ _ _ _ f.b2 g.b2 c }
-
-four_at : (s : List ℕ) (n at : ℕ) → Bytes s at (at + n) → (i : ℕ) → i < 4 → byte s (at + i) ≡ byte s (at + n + i)
-four_at s n at q zero h = let p : at + 0 ≡ at = omega arith in let r : at + n ≡ at + n + 0 = omega arith in ap (byte s) p ∙ q.e0 ∙ ap (byte s) r
-four_at s n at q (suc zero) h = q.e1
-four_at s n at q (suc (suc zero)) h = q.e2
-four_at s n at q (suc (suc (suc zero))) h = q.e3
-four_at s n at q (suc (suc (suc (suc i)))) h = absurd (omega arith)
 
 module _ (s : List ℕ) (n at : ℕ) where
   -- k bytes are those n bytes earlier
   abbrev pub Same : ℕ → ℕ → Type 0
   Same from k = (i : ℕ) → i < k → byte s (from + i + n) ≡ byte s (from + i)
 
-  pub four-again : (x y : ℕ) → Four s at x → Four s (at + n) y → x ≡ y → Same at 4
-  four-again x y f g e i h = let p : at + i + n ≡ at + n + i = omega arith in ap (byte s) p ∙ sym (four_at s n at (four_bytes s at (at + n) x y f g e) i h)
-
-  -- more of them
-  joined? : (j k : ℕ) → Same at j → Same (at + j) k → (i : ℕ) → i < j + k → Dec (i < j) → byte s (at + i + n) ≡ byte s (at + i)
-  joined? j k f g i h (yes l) = f i l
-  joined? j k f g i h (no l) = subst (λ (m : ℕ). byte s (m + n) ≡ byte s m) (omega arith) (g (i - j) (omega arith))
-
-  pub joined : (j k : ℕ) → Same at j → Same (at + j) k → Same at (j + k)
-  joined j k f g i h = joined? j k f g i h (dec_lt i j)
-
-  pub not-again : (k : ℕ) → Again s n at k false
-  not-again k = record { same = λ e. absurd (true→T e) }
+  -- where the parts of the buffer are equal
+  pub same_parts : (k : ℕ) → take k (drop (at + n) s) ≡ take k (drop at s) → Same at k
+  same_parts k e i h =
+      let c : (from : ℕ) → get_or (take k (drop from s)) i 0 ≡ byte s (from + i) = λ from. get_or-take k (drop from s) i 0 h ∙ get_or-drop from s i 0 in
+      let p : at + i + n ≡ at + n + i = omega arith in
+      ap (byte s) p ∙ sym (c (at + n)) ∙ ap (λ (l : List ℕ). get_or l i 0) e ∙ c at
 
   -- a frame again
   next-frame : at + n + n ≤ length s → Same at n → chars_at n s (at + n) ≡ chars_at n s at

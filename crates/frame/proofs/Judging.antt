@@ -1,6 +1,6 @@
 -- Frames judged one after another, and how far the whole was judged.
 use Prim.Native.Nat.{ℕ, ◌+◌, ◌-◌, ◌%◌, ◌<◌, ◌≤◌}
-use mathlib.Core.Bool.{Bool, true, false}
+use mathlib.Core.Bool.{Bool, true, false, ◌&&◌}
 use mathlib.Core.List.{List}
 use mathlib.Core.Path.{◌≡◌, refl, ap, sym, subst, ◌∙◌}
 use native.Mathlib.Decide.{dec_lt}
@@ -23,6 +23,10 @@ both_assoc false b c = refl
 not-true→false : (b : Bool) → (b ≡ true → ⊥) → b ≡ false
 not-true→false true h = absurd (h refl)
 not-true→false false h = refl
+
+and_both : (a b : Bool) → (a && b) ≡ both a b
+and_both true b = refl
+and_both false b = refl
 
 both_with_true : (a : Bool) → both a true ≡ a
 both_with_true true = refl
@@ -58,14 +62,14 @@ module _ (d : Device) (s : List ℕ) where
     pub along-fits : at < to → at + frame_size d ≤ to
     along-fits h = let f = whole_fits d (to - at) a.left (omega arith) in omega (arith, a.before)
 
-    pub along-next : (r : Bool) → to ≤ length s → at < to → r ≡ is_frame_at d s at → Along d s from to (at + frame_size d) (both ok r)
+    pub along-next : (r : Bool) → to ≤ length s → at < to → r ≡ is_frame_at d s at → Along d s from to (at + frame_size d) (ok && r)
     along-next r l h e =
         let p : to - at - frame_size d ≡ to - (at + frame_size d) = omega arith in
         record {
           after = omega (arith, a.after);
           before = along-fits h;
           left = subst (λ (x : ℕ). x % frame_size d ≡ 0) p (whole_less d (to - at) a.left);
-          done = one_more from at ok r (omega arith) a.done e;
+          done = rw and_both (one_more from at ok r (omega arith) a.done e);
         }
 
     pub along_end : to ≤ at → Between d s from to ok

@@ -49,10 +49,6 @@ pub whole_less_24 : (d : Device) (x : ℕ) → x % frame_size d ≡ 0 → (x - 2
 whole_less_24 Em73862 x w = omega arith
 whole_less_24 Em73P982 x w = omega arith
 
-pub whole_24 : (d : Device) → 24 % frame_size d ≡ 0
-whole_24 Em73862 = omega arith
-whole_24 Em73P982 = omega arith
-
 -- the characters of k frames, added up
 abbrev pub times : ℕ → ℕ → ℕ
 times zero n = 0

@@ -1,5 +1,5 @@
--- How frames are judged: four bytes as a number, frames that have the characters of the one before, and those between two places.
-use Rattle.std.specs.Prelude.{ℕ, ◌+◌, ◌-◌, ◌*◌, ◌<◌, ◌≤◌, Bool, true, List, ◌≡◌, get_or, drop}
+-- How frames are judged: frames that have the characters of the one before, and those between two places.
+use Rattle.std.specs.Prelude.{ℕ, ◌+◌, ◌-◌, ◌<◌, ◌≤◌, Bool, true, List, ◌≡◌, get_or, drop}
 use Rattle.laws.specs.Choice.{both}
 use Rattle.device.specs.Device.{frame_size}
 use Rattle.device.specs.declared.Device.{Device}
@@ -7,18 +7,6 @@ use Rattle.frame.specs.Frame.{is_frame_at, are_frames}
 
 abbrev pub byte : List ℕ → ℕ → ℕ
 byte s i = get_or s i 0
-
--- a byte as it is
-pub record Wide (c r : ℕ) : Type 0 where
-  pub value : r ≡ c
-  pub small : r < 256
-
-pub record Four (s : List ℕ) (at r : ℕ) : Type 0 where
-  pub value : r ≡ byte s at + 256 * byte s (at + 1) + 65536 * byte s (at + 2) + 16777216 * byte s (at + 3)
-  pub b0 : byte s at < 256
-  pub b1 : byte s (at + 1) < 256
-  pub b2 : byte s (at + 2) < 256
-  pub b3 : byte s (at + 3) < 256
 
 -- r only where k bytes from at + n on are those from at on
 pub record Again (s : List ℕ) (n at k : ℕ) (r : Bool) : Type 0 where

@@ -3,111 +3,64 @@
 
 mod help;
 
-ghost use Rattle.std.specs.Prelude.{◌<◌, ◌≤◌, length};
+ghost use Rattle.std.specs.Prelude.{◌<◌};
 
-use crate::help::is_asked;
+use crate::help::MANUAL;
 use device::Device;
-use hex_chunks::{HexChunks, Told, feed, finish, start};
+use hex_chunks::{Told, feed, finish, start};
+use hex_reader::fault::HexRefusal;
 use hex_reader::work::{IMAGE_SIZE, P982_IMAGE_SIZE, P982_WORK_SIZE, WORK_SIZE};
-use program::arguments::is_given;
+use program::arguments::no_word;
+use program::help::answer;
 use program::image::chosen_device;
-use program::part::read_behind;
-use program::streams::{Ending, STDERR_FILENO, ending_of, say, show};
-use program::words::Choice;
+use program::part::read_into;
+use program::streams::{Failure, STDERR_FILENO, explain, show};
 
-fn usage() {
-    io::write_all(STDERR_FILENO, b"usage: fromhex [--device NAME] < TEXT\n");
+// Says what is wrong with the text, and in which line.
+fn refuse(refusal: HexRefusal) -> Failure {
+    explain(b"refused ");
+    io::print_decimal(STDERR_FILENO, u64::from(refusal.number()));
+    explain(b" line ");
+    io::print_decimal(STDERR_FILENO, refusal.line() as u64);
+    explain(b"\n");
+    Failure::Refused
 }
 
-fn refuse(number: u8, line: usize) {
-    io::write_all(STDERR_FILENO, b"refused ");
-    io::print_decimal(STDERR_FILENO, number as u64);
-    io::write_all(STDERR_FILENO, b" line ");
-    io::print_decimal(STDERR_FILENO, line as u64);
-    io::write_all(STDERR_FILENO, b"\n");
-}
-
-fn end(state: HexChunks, size: usize, work: &mut [u8], image: &mut [u8]) -> Ending
-    requires { size ≤ 65536 }
+// For a device whose image has IMAGE bytes. A proved loop has to end, and nothing says that a text does: no run uses up the turns.
+fn read<const IMAGE: usize, const WORK: usize>(rt: &HostRuntime) -> Result<(), Failure>
+    requires { (IMAGE < 65536) × (WORK < 65536) }
 {
-    let last = finish(state, size, work, image);
-    let told = last.told;
-    match told {
-        Told::Good => ending_of(false, show(image)),
-        Told::Refused { number, line } => {
-            refuse(number, line);
-            Ending::Done
-        }
-        Told::More => Ending::Done,
-    }
-}
-
-// The size is that of the device's image. A proved loop has to end, and nothing says that a text does: no run uses up the turns.
-fn session(
-    rt: &HostRuntime,
-    size: usize,
-    part: &mut [u8],
-    work: &mut [u8],
-    image: &mut [u8],
-) -> Ending
-    requires { (0 < length part.old) × (size ≤ 65536) }
-{
+    let mut part = io::large_buffer();
+    let mut work = [0u8; WORK];
+    let mut image = [0u8; IMAGE];
     let mut state = start();
-    let mut turns = u64::MAX;
-    while turns > 0 {
-        let got = read_behind(&mut rt.stdin(), part, 0);
-        if got.failed {
-            return Ending::CannotRead;
-        }
-        let n = got.count;
+    for _ in 0..u64::MAX {
+        let n = read_into(&mut rt.stdin(), &mut part)?;
         if n == 0 {
-            return end(state, size, work, image);
+            return match finish(state, IMAGE, &mut work, &mut image).told {
+                Ok(Told::Good) => show(&image),
+                Ok(Told::More) => Ok(()),
+                Err(refusal) => Err(refuse(refusal)),
+            };
         }
-        let fed = feed(state, &part[..n], size, work, image);
-        let told = fed.told;
-        if let Told::Refused { number, line } = told {
-            refuse(number, line);
-            return Ending::Done;
+        let fed = feed(state, &part[..n], IMAGE, &mut work, &image);
+        if let Err(refusal) = fed.told {
+            return Err(refuse(refusal));
         }
         state = fed.state;
-        turns -= 1;
     }
-    Ending::Done
+    Ok(())
 }
 
-fn read_em73862(rt: &HostRuntime) -> Ending {
-    let mut part = io::large_buffer();
-    let mut work = [0u8; WORK_SIZE];
-    let mut image = [0u8; IMAGE_SIZE];
-    session(rt, IMAGE_SIZE, &mut part, &mut work, &mut image)
-}
-
-fn read_em73p982(rt: &HostRuntime) -> Ending {
-    let mut part = io::large_buffer();
-    let mut work = [0u8; P982_WORK_SIZE];
-    let mut image = [0u8; P982_IMAGE_SIZE];
-    session(rt, P982_IMAGE_SIZE, &mut part, &mut work, &mut image)
-}
-
-fn read(rt: &HostRuntime, d: Device) -> Ending {
-    match d {
-        Device::Em73862 => read_em73862(rt),
-        Device::Em73P982 => read_em73p982(rt),
+fn run(rt: &HostRuntime) -> Result<(), Failure> {
+    let c = chosen_device(rt)?;
+    no_word(rt, usize::from(c.before) + 1)?;
+    match c.device {
+        Device::Em73862 => read::<IMAGE_SIZE, WORK_SIZE>(rt),
+        Device::Em73P982 => read::<P982_IMAGE_SIZE, P982_WORK_SIZE>(rt),
     }
 }
 
 fn main(rt: HostRuntime) {
-    if is_asked(&rt) {
-        return;
-    }
-    let Choice::Made(c) = chosen_device(&rt) else {
-        usage();
-        return;
-    };
-    if is_given(&rt, c.before as usize + 1) {
-        usage();
-        return;
-    }
-    let d = c.device;
-    say(read(&rt, d));
+    answer(&rt, &MANUAL, run)
 }

@@ -13,15 +13,22 @@ use Rattle.hex_chunks.specs.Cut.{Session, fed, told, after_chunk, image_of_readi
 use Rattle.hex_chunks.specs.Carries.{Carries, Tells}
 use Rattle.hex_chunks.specs.Run as runs
 use Rattle.hex_chunks.specs.declared.Told.{Told}
+use Rattle.hex_reader.specs.declared.fault.HexRefusal.{HexRefusal}
+use Rattle.hex_reader.specs.declared.fault.HexRefusal.TheVariants.{Buffer, Fault}
+use Rattle.std.specs.Prelude as std
 use Rattle.hex_chunks.proofs.Sessions.{in-ranges}
 use Rattle.hex_chunks.proofs.RunAsWhole.{FitsAll, fits_one, run_as_whole}
 use Rattle.hex_calls.specs.Layout.{state_of, is_state}
 use Rattle.hex_calls.proofs.state.Ranges.{is_state_lem}
 use Rattle.hex_calls.specs.Chunks.{number_of, line_of, BytesRun, ends, feeds, BytesRunAsWhole}
 
+-- what is told
+abbrev Answered : Type 0
+Answered = std.Result Told HexRefusal
+
 -- the run on states that a run on bytes is, and the last answer
 record OnStates (image_size : ℕ) (state work image : List ℕ) (chunks : List (List ℕ)) (number line : ℕ) (imageAfter : List ℕ) : Type 0 where
-  told : Told
+  told : Answered
   run : runs.Run image_size (state_of state) work image chunks told imageAfter
   number_of_lem : number ≡ number_of told
   line_of_lem : line ≡ line_of told
@@ -40,9 +47,11 @@ on_states image_size {chunks = d ∷ ds} session c s f w i (feeds {stateAfter = 
     let rest = on_states image_size (after_chunk image_size session d) (rw left.state taken) next fits.1 (x.call.size ∙ w) i r in
     record { told = rest.told; run = runs.feeds x.call (rw left.state at rest.run); number_of_lem = rest.number_of_lem; line_of_lem = rest.line_of_lem }
 
-as_read_lem : (image_size : ℕ) (image imageAfter : List ℕ) (number line : ℕ) (reading : Reading) (t : Told) → Tells t (told reading) → number ≡ number_of t → line ≡ line_of t → imageAfter ≡ image_of_reading image_size image reading → ◌≡◌ {A = Result} (record { number = number; line = line; image = imageAfter }) (result_of image_size image reading)
+as_read_lem : (image_size : ℕ) (image imageAfter : List ℕ) (number line : ℕ) (reading : Reading) (t : Answered) → Tells t (told reading) → number ≡ number_of t → line ≡ line_of t → imageAfter ≡ image_of_reading image_size image reading → ◌≡◌ {A = Result} (record { number = number; line = line; image = imageAfter }) (result_of image_size image reading)
 as_read_lem image_size image imageAfter number line (good ds) t e n l m = rw (n, l, m, e)
-as_read_lem image_size image imageAfter number line (refused x y) t e n l m = rw (n, l, m, e)
+as_read_lem image_size image imageAfter number line (refused x y) (std.Ok t) e n l m = absurd e
+as_read_lem image_size image imageAfter number line (refused x y) (std.Err (Buffer r)) e n l m = absurd e
+as_read_lem image_size image imageAfter number line (refused x y) (std.Err (Fault f)) e n l m = rw (n, l, m, e.0, e.1)
 
 pub bytes_run_as_whole : BytesRunAsWhole
 unfolding read_into

@@ -1,10 +1,14 @@
 -- What the calls on a state in bytes answer, by the way that led there.
-use mathlib.Core.Bool.{Bool, true, false}
+use mathlib.Core.Bool.{true}
 use mathlib.Core.Path.{◌≡◌, refl}
 use mathlib.Core.List.{List, []}
 use Prim.Native.Nat.{ℕ}
 use native.Mathlib.Decide.{ℕ_discrete}
 use lib.ListN.{length}
+use Rattle.std.specs.Prelude.{Err}
+use Rattle.numbers.specs.Numbered.{refusal_number}
+use Rattle.numbers.specs.declared.Refusal.{Refusal}
+use Rattle.numbers.specs.declared.Refusal.TheVariants.{ImageOfAnotherSize, WorkBufferIsNot9216Bytes}
 use Rattle.hex_reader.specs.Work.{work_size}
 use Rattle.hex_chunks.specs.Cut.{fed}
 use Rattle.hex_chunks.specs.Carries.{Carries, Sized, FeedCall, EndCall}
@@ -22,13 +26,6 @@ pub start_new : (image_size : ℕ) (before after : List ℕ) (s : HexChunks) →
 start_new image_size before after s e p c =
     let ranges = in-ranges image_size s [] (fed []) (c []) in
     record { no_state = λ n. absurd (n e); new = λ _. (refl, is_state_lem after s p.2 p.0 p.1 ranges, λ work. rw p.1 (c work)) }
-
--- of a test that the code asks the other way round
-pub is_not : (a : Bool) {b : Bool} → a ≡ b → a ≡ false → b ≡ true → ⊥
-is_not a e n t = cc
-
-pub is_so : (a : Bool) {b : Bool} → a ≡ b → a ≡ true → b ≡ true
-is_so a e n = cc
 
 unchanged : (refusal : ℕ) (state work image : List ℕ) → Unchanged refusal refusal 0 state state work work image image
 unchanged refusal state work image = record { answer = refl; no_line = refl; state_kept = refl; work_kept = refl; image_kept = refl }
@@ -52,13 +49,13 @@ module _ (image_size : ℕ) (state work image : List ℕ) where
         feeds = λ _ i. absurd (n i);
       }
 
-  feed-by : (chunk : List ℕ) (r : ℕ) → Sized image_size work image r → (r ≡ 0 → ⊥) → Dec (length work ≡ work_size image_size) → Dec (length image ≡ image_size) → FeedBytes image_size state state chunk work work image r 0
-  feed-by chunk r z n (no w) i = rw (z.short_work w) (feed-47 chunk w)
-  feed-by chunk r z n (yes w) (no i) = rw (z.short_image w i) (feed-1 chunk w i)
-  feed-by chunk r z n (yes w) (yes i) = absurd (n (z.both_right w i))
+  feed-by : (chunk : List ℕ) (x : Refusal) → Sized image_size work image (Err x) → Dec (length work ≡ work_size image_size) → Dec (length image ≡ image_size) → FeedBytes image_size state state chunk work work image (refusal_number x) 0
+  feed-by chunk x z (no w) i = let q : x ≡ WorkBufferIsNot9216Bytes = let p = z.short_work w in cc in rw q (feed-47 chunk w)
+  feed-by chunk x z (yes w) (no i) = let q : x ≡ ImageOfAnotherSize = let p = z.short_image w i in cc in rw q (feed-1 chunk w i)
+  feed-by chunk x z (yes w) (yes i) = let p = z.both_right w i in cc
 
-  pub feed-refused : (chunk : List ℕ) (r : ℕ) → Sized image_size work image r → (r ≡ 0 → ⊥) → FeedBytes image_size state state chunk work work image r 0
-  feed-refused chunk r z n = feed-by chunk r z n (ℕ_discrete (length work) (work_size image_size)) (ℕ_discrete (length image) image_size)
+  pub feed-refused : (chunk : List ℕ) (x : Refusal) → Sized image_size work image (Err x) → FeedBytes image_size state state chunk work work image (refusal_number x) 0
+  feed-refused chunk x z = feed-by chunk x z (ℕ_discrete (length work) (work_size image_size)) (ℕ_discrete (length image) image_size)
 
   pub feed-2 : (chunk : List ℕ) → length work ≡ work_size image_size → length image ≡ image_size → (is_state state ≡ true → ⊥) → FeedBytes image_size state state chunk work work image 2 0
   feed-2 chunk w i n =
@@ -96,13 +93,13 @@ module _ (image_size : ℕ) (state work image : List ℕ) where
         ends = λ _ i. absurd (n i);
       }
 
-  end_by : (r : ℕ) → Sized image_size work image r → (r ≡ 0 → ⊥) → Dec (length work ≡ work_size image_size) → Dec (length image ≡ image_size) → EndBytes image_size state state work work image image r 0
-  end_by r z n (no w) i = rw (z.short_work w) (end-47 w)
-  end_by r z n (yes w) (no i) = rw (z.short_image w i) (end-1 w i)
-  end_by r z n (yes w) (yes i) = absurd (n (z.both_right w i))
+  end_by : (x : Refusal) → Sized image_size work image (Err x) → Dec (length work ≡ work_size image_size) → Dec (length image ≡ image_size) → EndBytes image_size state state work work image image (refusal_number x) 0
+  end_by x z (no w) i = let q : x ≡ WorkBufferIsNot9216Bytes = let p = z.short_work w in cc in rw q (end-47 w)
+  end_by x z (yes w) (no i) = let q : x ≡ ImageOfAnotherSize = let p = z.short_image w i in cc in rw q (end-1 w i)
+  end_by x z (yes w) (yes i) = let p = z.both_right w i in cc
 
-  pub end_refused : (r : ℕ) → Sized image_size work image r → (r ≡ 0 → ⊥) → EndBytes image_size state state work work image image r 0
-  end_refused r z n = end_by r z n (ℕ_discrete (length work) (work_size image_size)) (ℕ_discrete (length image) image_size)
+  pub end_refused : (x : Refusal) → Sized image_size work image (Err x) → EndBytes image_size state state work work image image (refusal_number x) 0
+  end_refused x z = end_by x z (ℕ_discrete (length work) (work_size image_size)) (ℕ_discrete (length image) image_size)
 
   pub end-2 : length work ≡ work_size image_size → length image ≡ image_size → (is_state state ≡ true → ⊥) → EndBytes image_size state state work work image image 2 0
   end-2 w i n =

@@ -8,10 +8,12 @@ use lib.ListN.{length}
 use mathlib.Core.Bool.{Bool, true, false}
 use Rattle.hex_reader.specs.Work.{work_size}
 use Rattle.hex_reader.specs.Reader.{Result}
-use Rattle.hex_writer.proofs.Answers.{one_answer}
+use Rattle.hex_writer.specs.Writer.{Result as Written}
 use Rattle.hex_chunks.specs.Cut.{Session}
 use Rattle.hex_chunks.specs.Carries.{Carries, Fits}
 use Rattle.hex_chunks.specs.declared.Told.{Told}
+use Rattle.hex_reader.specs.declared.fault.HexRefusal.{HexRefusal}
+use Rattle.std.specs.Prelude as std
 use Rattle.hex_chunks.proofs.OneAnswer.{one-feed, one_end}
 use Rattle.hex_calls.specs.Layout.{state_of, is_state}
 use Rattle.hex_calls.specs.Calls.{ReadCall, WriteCall}
@@ -23,7 +25,8 @@ one_read image_size text before after other r q line place f g =
     (ap (λ (x : Result). x.number) e, ap (λ (x : Result). x.line) e, ap (λ (x : Result). x.image) e)
 
 pub one_write : (image_size : ℕ) (image before after other : List ℕ) (r q : ℕ) → WriteCall image_size image before r after → WriteCall image_size image before q other → (r ≡ q) × (after ≡ other)
-one_write image_size image before after other r q f g = one_answer image_size image before after other r q f g
+one_write image_size image before after other r q f g =
+    let e = f ∙ sym g in (ap (λ (x : Written). x.number) e, ap (λ (x : Written). x.text) e)
 
 start_by : {image_size : ℕ} {before a b : List ℕ} {r q : ℕ} → StartCall image_size before a r → StartCall image_size before b q → Dec (length before ≡ 550) → r ≡ q
 start_by f g (yes e) = (f.new e).0 ∙ sym (g.new e).0
@@ -36,7 +39,11 @@ one_start {before = before} f g = start_by f g (ℕ_discrete (length before) 550
 unchanged_one : {refusal n l m k : ℕ} {state a b work u v image i j : List ℕ} → Unchanged refusal n l state a work u image i → Unchanged refusal m k state b work v image j → (n ≡ m) × (l ≡ k) × (i ≡ j)
 unchanged_one f g = (f.answer ∙ sym g.answer, f.no_line ∙ sym g.no_line, f.image_kept ∙ sym g.image_kept)
 
-told_one : {t u : Told} {n l m k : ℕ} → t ≡ u → n ≡ number_of t → l ≡ line_of t → m ≡ number_of u → k ≡ line_of u → (n ≡ m) × (l ≡ k)
+-- what is told
+abbrev Answered : Type 0
+Answered = std.Result Told HexRefusal
+
+told_one : {t u : Answered} {n l m k : ℕ} → t ≡ u → n ≡ number_of t → l ≡ line_of t → m ≡ number_of u → k ≡ line_of u → (n ≡ m) × (l ≡ k)
 told_one e p q r s = (p ∙ (ap number_of e ∙ sym r), q ∙ (ap line_of e ∙ sym s))
 
 is_it : (b : Bool) → Dec (b ≡ true)

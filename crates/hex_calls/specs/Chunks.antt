@@ -1,25 +1,26 @@
 -- Document 02, Q-10, on numbers and byte buffers: the calls of a reader that is fed chunks, on a state in bytes. image_size is the size of the device's image.
-use Rattle.std.specs.Prelude.{ℕ, ◌^◌, ◌<◌, ◌≡◌, true, List, [], ◌∷◌, length}
+use Rattle.std.specs.Prelude.{ℕ, ◌^◌, ◌<◌, ◌≡◌, true, List, [], ◌∷◌, length, Result, Ok, Err}
 use Rattle.numbers.specs.ComesBack.{image_of_another_size, record_outside_the_ranges, work_buffer_is_not_9216_bytes}
 use Rattle.hex_reader.specs.Work.{work_size}
+use Rattle.hex_reader.specs.Fault.{number_of_refusal, line_of_refusal}
+use Rattle.hex_reader.specs.declared.fault.HexRefusal.{HexRefusal}
 use Rattle.hex_chunks.specs.Cut.{fed, joined}
 use Rattle.hex_chunks.specs.Carries.{Carries, FeedCall, EndCall}
 use Rattle.hex_chunks.specs.declared.Told.{Told}
-use Rattle.hex_chunks.specs.declared.Told.TheVariants.{More, Good, Refused}
+use Rattle.hex_chunks.specs.declared.Told.TheVariants.{More, Good}
 use Rattle.hex_chunks.specs.declared.Fed.{Fed}
 use Rattle.hex_calls.specs.Calls.{ReadCall}
 use Rattle.hex_calls.specs.Layout.{packed, state_of, state_size, is_state}
 
 -- the number of an answer: nothing is told yet, the whole text is good, or the refusal
-abbrev pub number_of : Told → ℕ
-number_of More = 255
-number_of Good = 0
-number_of (Refused number line) = number
+abbrev pub number_of : Result Told HexRefusal → ℕ
+number_of (Ok More) = 255
+number_of (Ok Good) = 0
+number_of (Err refusal) = number_of_refusal refusal
 
-abbrev pub line_of : Told → ℕ
-line_of More = 0
-line_of Good = 0
-line_of (Refused number line) = line
+abbrev pub line_of : Result Told HexRefusal → ℕ
+line_of (Ok t) = 0
+line_of (Err refusal) = line_of_refusal refusal
 
 -- a new state, or a buffer that is no state
 pub record StartCall (image_size : ℕ) (before after : List ℕ) (r : ℕ) : Type 0 where

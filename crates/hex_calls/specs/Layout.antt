@@ -1,10 +1,13 @@
 -- The state of a reader of chunks as 550 bytes, for C: how they are made of a state, and what state they are.
-use Rattle.std.specs.Prelude.{ℕ, zero, suc, ◌+◌, ◌*◌, ◌/◌, ◌%◌, ◌^◌, ◌<◌, Bool, true, not, List, [], ◌∷◌, ◌++◌, eqb, leb, length, get_or, take, drop}
+use Rattle.std.specs.Prelude.{ℕ, zero, suc, ◌+◌, ◌*◌, ◌/◌, ◌%◌, ◌^◌, ◌<◌, Bool, true, not, List, [], ◌∷◌, ◌++◌, eqb, leb, length, get_or, take, drop, Result, Ok, Err}
 use Rattle.laws.specs.Choice.{pick, both}
 use Rattle.bits.specs.Bits.{bit_of}
+use Rattle.numbers.specs.Numbered.{refusal_number}
+use Rattle.numbers.proofs.OneNumber.{refusal_of_number}
+use Rattle.hex_reader.specs.declared.fault.HexFault.{HexFault}
 use Rattle.hex_chunks.specs.Kept.{held_size}
 use Rattle.hex_reader.specs.declared.progress.Stage.{Stage}
-use Rattle.hex_reader.specs.declared.progress.Stage.TheVariants.{Going, Ended, Stopped}
+use Rattle.hex_reader.specs.declared.progress.Stage.TheVariants.{Going, Ended}
 use Rattle.hex_chunks.specs.declared.HexChunks.{HexChunks}
 
 -- a number in n bytes, the low one first
@@ -18,39 +21,37 @@ word_at bytes at zero = 0
 word_at bytes at (suc n) = get_or bytes at 0 + 256 * word_at bytes (suc at) n
 
 -- the stage: 0 before the end record, 1 after it, 2 stopped; then the refusal and its line
-abbrev pub stage_bytes : Stage → List ℕ
-stage_bytes Going = 0 ∷ 0 ∷ word_bytes 8 0
-stage_bytes Ended = 1 ∷ 0 ∷ word_bytes 8 0
-stage_bytes (Stopped number line) = 2 ∷ number ∷ word_bytes 8 line
+abbrev pub stage_bytes : Result Stage HexFault → List ℕ
+stage_bytes (Ok Going) = 0 ∷ 0 ∷ word_bytes 8 0
+stage_bytes (Ok Ended) = 1 ∷ 0 ∷ word_bytes 8 0
+stage_bytes (Err first) = 2 ∷ refusal_number first.refusal ∷ word_bytes 8 first.line
 
-abbrev pub stage_at : List ℕ → ℕ → Stage
+abbrev pub stage_at : List ℕ → ℕ → Result Stage HexFault
 stage_at bytes at =
-    pick (eqb (get_or bytes at 0) 0) Going
-    (pick (eqb (get_or bytes at 0) 1) Ended (Stopped (get_or bytes (at + 1) 0) (word_at bytes (at + 2) 8)))
+    pick (eqb (get_or bytes at 0) 0) (Ok Going)
+    (pick (eqb (get_or bytes at 0) 1) (Ok Ended) (Err (record { refusal = refusal_of_number (get_or bytes (at + 1) 0); line = word_at bytes (at + 2) 8 })))
 
 -- the line of a fault is a number of eight bytes
-abbrev pub StageFits : Stage → Type 0
-StageFits Going = Unit
-StageFits Ended = Unit
-StageFits (Stopped number line) = line < 2 ^ 64
+abbrev pub StageFits : Result Stage HexFault → Type 0
+StageFits (Ok stage) = Unit
+StageFits (Err first) = first.line < 2 ^ 64
 
 -- the line that is begun and how many characters it has, its number, the stage, whether the work buffer is in use, whether the end was declared of a good text
-abbrev pub numbers_in : ℕ → ℕ → Stage → Bool → Bool → List ℕ
+abbrev pub numbers_in : ℕ → ℕ → Result Stage HexFault → Bool → Bool → List ℕ
 numbers_in count line stage begun over =
     word_bytes 8 count ++ (word_bytes 8 line ++ (stage_bytes stage ++ (bit_of begun ∷ bit_of over ∷ [])))
 
 abbrev pub numbers_of : HexChunks → List ℕ
-numbers_of s = numbers_in s.count s.line s.stage s.begun s.over
+numbers_of s = numbers_in s.held.count s.line s.stage s.begun s.over
 
 unfoldable pub packed : HexChunks → List ℕ
-packed s = s.held ++ numbers_of s
+packed s = s.held.chars ++ numbers_of s
 
 -- the state of the bytes of the line and of those behind it
 abbrev pub state_from : List ℕ → List ℕ → HexChunks
 state_from held numbers =
     record {
-      held = held;
-      count = word_at numbers 0 8;
+      held = record { chars = held; count = word_at numbers 0 8 };
       line = word_at numbers 8 8;
       stage = stage_at numbers 16;
       begun = not (eqb (get_or numbers 26 0) 0);

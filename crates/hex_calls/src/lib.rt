@@ -4,121 +4,135 @@
 
 pub mod state;
 
-ghost use Rattle.std.specs.Prelude.{◌≡◌, ◌≤◌};
+ghost use Rattle.std.specs.Prelude.{◌≡◌};
+ghost use Rattle.device.specs.Device.{image_size};
 ghost use Rattle.hex_calls.specs.Chunks.{number_of, line_of, StartCall, FeedBytes, EndBytes};
 ghost use Rattle.hex_calls.specs.Calls.{ReadCall, WriteCall};
 
-use crate::state::{STATE_SIZE, is_state, pack, unpack};
-use hex_chunks::{Told, feed, finish, refusal_of, start};
-use hex_reader::work::{IMAGE_SIZE, P982_IMAGE_SIZE};
-use hex_reader::{read_hex, read_p982_hex};
-use hex_writer::{write_hex, write_p982_hex};
-
-// A buffer that is no state, by its size or by its ranges: document 01's refusal of a record.
-const NO_STATE: u8 = 2;
+use crate::state::{STATE_SIZE, pack, unpack};
+use device::{Device, image_size};
+use hex_chunks::{Told, check_buffers, feed, finish, start};
+use hex_reader::fault::HexRefusal;
+use hex_reader::read_hex;
+use hex_writer::write_hex;
+use numbers::Refusal;
 
 // Nothing is told yet.
 const MORE: u8 = 255;
 
-// A new state is one for either device.
+// A new state is one for either device. A buffer that is no state, by its size or by its ranges, has document 01's refusal of a record.
 fn start_state(state: &mut [u8]) -> u8
     ensures start_call { StartCall 8192 state.old state.new result }
     ensures start_call_2 { StartCall 16384 state.old state.new result }
 {
     if state.len() != STATE_SIZE {
-        return NO_STATE;
+        return u8::from(Refusal::RecordOutsideTheRanges);
     }
     pack(start(), state);
     0
 }
 
-fn number_of(told: Told) -> u8
+fn number_of(told: Result<Told, HexRefusal>) -> u8
     ensures { result ≡ number_of told }
 {
     match told {
-        Told::More => MORE,
-        Told::Good => 0,
-        Told::Refused { number, line: _ } => number,
+        Ok(Told::More) => MORE,
+        Ok(Told::Good) => 0,
+        Err(refusal) => refusal.number(),
     }
 }
 
-fn line_of(told: Told) -> usize
+fn line_of(told: Result<Told, HexRefusal>) -> usize
     ensures { result ≡ line_of told }
 {
     match told {
-        Told::More => 0,
-        Told::Good => 0,
-        Told::Refused { number: _, line } => line,
+        Ok(_) => 0,
+        Err(refusal) => refusal.line(),
     }
 }
 
-// A chunk is fed to the reader of a device whose image has the size.
-fn feed_sized(
-    size: usize,
+// A text is read into the image of a device.
+fn read_text(d: Device, text: &[u8], image: &mut [u8], line: &mut usize) -> u8
+    ensures { ReadCall (image_size d) text.now image.old result line.new image.new }
+{
+    let (number, place) = match read_hex(d, text, image) {
+        Ok(()) => (0, 0),
+        Err(refusal) => (refusal.number(), refusal.line()),
+    };
+    *line = place;
+    number
+}
+
+fn write_text(d: Device, image: &[u8], text: &mut [u8]) -> u8
+    ensures { WriteCall (image_size d) image.now text.old result text.new }
+{
+    match write_hex(d, image, text) {
+        Ok(()) => 0,
+        Err(refusal) => u8::from(refusal),
+    }
+}
+
+// A chunk is fed to the reader of a device.
+fn feed_chunk(
+    d: Device,
     state: &mut [u8],
     chunk: &[u8],
     work: &mut [u8],
     image: &[u8],
     line: &mut usize,
 ) -> u8
-    requires { size ≤ 65536 }
-    ensures { FeedBytes size state.old state.new chunk.now work.old work.new image.now result line.new }
+    ensures { FeedBytes (image_size d) state.old state.new chunk.now work.old work.new image.now result line.new }
 {
     *line = 0;
-    let refusal = refusal_of(size, work, image);
-    if refusal != 0 {
-        return refusal;
+    let size = image_size(d);
+    if let Err(refusal) = check_buffers(size, work, image) {
+        return u8::from(refusal);
     }
-    if !is_state(state) {
-        return NO_STATE;
-    }
-    let fed = feed(unpack(state), chunk, size, work, image);
-    let told = fed.told;
+    let Some(s) = unpack(state) else {
+        return u8::from(Refusal::RecordOutsideTheRanges);
+    };
+    let fed = feed(s, chunk, size, work, image);
     pack(fed.state, state);
-    *line = line_of(told);
-    number_of(told)
+    *line = line_of(fed.told);
+    number_of(fed.told)
 }
 
 // The end is declared to it.
-fn end_sized(
-    size: usize,
+fn declare_end(
+    d: Device,
     state: &mut [u8],
     work: &mut [u8],
     image: &mut [u8],
     line: &mut usize,
 ) -> u8
-    requires { size ≤ 65536 }
-    ensures { EndBytes size state.old state.new work.old work.new image.old image.new result line.new }
+    ensures { EndBytes (image_size d) state.old state.new work.old work.new image.old image.new result line.new }
 {
     *line = 0;
-    let refusal = refusal_of(size, work, image);
-    if refusal != 0 {
-        return refusal;
+    let size = image_size(d);
+    if let Err(refusal) = check_buffers(size, work, image) {
+        return u8::from(refusal);
     }
-    if !is_state(state) {
-        return NO_STATE;
-    }
-    let last = finish(unpack(state), size, work, image);
-    let told = last.told;
+    let Some(s) = unpack(state) else {
+        return u8::from(Refusal::RecordOutsideTheRanges);
+    };
+    let last = finish(s, size, work, image);
     pack(last.state, state);
-    *line = line_of(told);
-    number_of(told)
+    *line = line_of(last.told);
+    number_of(last.told)
 }
 
 #[unsafe(no_mangle)]
 pub extern "C" fn em73862_hex_read(text: &[u8], image: &mut [u8], line: &mut usize) -> u8
     ensures { ReadCall 8192 text.now image.old result line.new image.new }
 {
-    let answer = read_hex(text, image);
-    *line = answer.line;
-    answer.number
+    read_text(Device::Em73862, text, image, line)
 }
 
 #[unsafe(no_mangle)]
 pub extern "C" fn em73862_hex_write(image: &[u8], text: &mut [u8]) -> u8
     ensures { WriteCall 8192 image.now text.old result text.new }
 {
-    write_hex(image, text)
+    write_text(Device::Em73862, image, text)
 }
 
 #[unsafe(no_mangle)]
@@ -138,7 +152,7 @@ pub extern "C" fn em73862_hex_feed(
 ) -> u8
     ensures { FeedBytes 8192 state.old state.new chunk.now work.old work.new image.now result line.new }
 {
-    feed_sized(IMAGE_SIZE, state, chunk, work, image, line)
+    feed_chunk(Device::Em73862, state, chunk, work, image, line)
 }
 
 #[unsafe(no_mangle)]
@@ -150,23 +164,21 @@ pub extern "C" fn em73862_hex_end(
 ) -> u8
     ensures { EndBytes 8192 state.old state.new work.old work.new image.old image.new result line.new }
 {
-    end_sized(IMAGE_SIZE, state, work, image, line)
+    declare_end(Device::Em73862, state, work, image, line)
 }
 
 #[unsafe(no_mangle)]
 pub extern "C" fn em73p982_hex_read(text: &[u8], image: &mut [u8], line: &mut usize) -> u8
     ensures { ReadCall 16384 text.now image.old result line.new image.new }
 {
-    let read = read_p982_hex(text, image);
-    *line = read.line;
-    read.number
+    read_text(Device::Em73P982, text, image, line)
 }
 
 #[unsafe(no_mangle)]
 pub extern "C" fn em73p982_hex_write(image: &[u8], text: &mut [u8]) -> u8
     ensures { WriteCall 16384 image.now text.old result text.new }
 {
-    write_p982_hex(image, text)
+    write_text(Device::Em73P982, image, text)
 }
 
 #[unsafe(no_mangle)]
@@ -186,7 +198,7 @@ pub extern "C" fn em73p982_hex_feed(
 ) -> u8
     ensures { FeedBytes 16384 state.old state.new chunk.now work.old work.new image.now result line.new }
 {
-    feed_sized(P982_IMAGE_SIZE, state, chunk, work, image, line)
+    feed_chunk(Device::Em73P982, state, chunk, work, image, line)
 }
 
 #[unsafe(no_mangle)]
@@ -198,5 +210,5 @@ pub extern "C" fn em73p982_hex_end(
 ) -> u8
     ensures { EndBytes 16384 state.old state.new work.old work.new image.old image.new result line.new }
 {
-    end_sized(P982_IMAGE_SIZE, state, work, image, line)
+    declare_end(Device::Em73P982, state, work, image, line)
 }

@@ -12,16 +12,19 @@ use Rattle.hex_reader.specs.Lines.{is_cr, without_cr}
 use Rattle.hex_reader.proofs.lines.Splits.{clear, split_lf}
 use Rattle.hex_reader.specs.Progress.{Progress, going, after_line, after_lines}
 use Rattle.hex_reader.specs.Reached.{Reached, is_stopped}
+use Rattle.std.specs.Prelude.{Result, Ok, Err}
+use Rattle.numbers.specs.Numbered.{refusal_number}
+use Rattle.hex_reader.specs.declared.fault.HexFault.{HexFault}
 use Rattle.hex_reader.specs.declared.progress.Stage.{Stage}
-use Rattle.hex_reader.specs.declared.progress.Stage.TheVariants.{Going, Ended, Stopped}
+use Rattle.hex_chunks.specs.declared.held.HeldLine.{HeldLine}
 use Rattle.hex_reader.proofs.progress.Stops.{lines_then, stays}
 use Rattle.hex_chunks.specs.Kept.{Kept, Completes}
 use Rattle.hex_chunks.specs.Cut.{completed, begun_after}
 use Rattle.hex_chunks.specs.Carries.{Along, Chunked}
 use Rattle.hex_chunks.proofs.Cuts.{completed_then, begun_then, completed_none, begun_more}
 
-pub kept_none : (held : List ℕ) → Kept held 0 []
-kept_none held = record { short = λ h. (refl, refl); long = λ h. absurd (let z : ⊥ = omega arith in z); most = omega arith }
+pub kept_none : (held : HeldLine) → held.count ≡ 0 → Kept held []
+kept_none held e = record { short = λ h. (rw e, e); long = λ h. absurd (omega arith); most = omega arith }
 
 pick_up_to : (t : Bool) (c : ℕ) → length (pick t [] (c ∷ [])) ≤ 1
 pick_up_to true c = omega arith
@@ -33,13 +36,12 @@ cr_up_to (c ∷ []) = pick_up_to (is_cr c) c
 cr_up_to (c ∷ d ∷ line) = let h = cr_up_to (d ∷ line) in omega arith
 
 module _ (image_size : ℕ) where
-  stopped-on : (r : Stage) (w : List ℕ) (p : Progress) → is_stopped r ≡ true → Reached image_size r w p → (n : ℕ) (ls : List (List ℕ)) → Reached image_size r w (after_lines image_size p n ls)
-  stopped-on Going w p e h n ls = absurd (let z : ◌≡◌ {A = ℕ} 0 1 = cc in omega arith)
-  stopped-on Ended w p e h n ls = absurd (let z : ◌≡◌ {A = ℕ} 0 1 = cc in omega arith)
-  stopped-on (Stopped number line) w p e h n ls = rw h (stays image_size number line n ls)
+  stopped-on : (r : Result Stage HexFault) (w : List ℕ) (p : Progress) → is_stopped r ≡ true → Reached image_size r w p → (n : ℕ) (ls : List (List ℕ)) → Reached image_size r w (after_lines image_size p n ls)
+  stopped-on (Ok stage) w p e h n ls = cc
+  stopped-on (Err first) w p e h n ls = rw h (stays image_size (refusal_number first.refusal) first.line n ls)
 
   -- a text, and how far it was read
-  module _ {text held work : List ℕ} {count n : ℕ} {stage : Stage} (a : Along image_size text held count n stage work) where
+  module _ {text work : List ℕ} {held : HeldLine} {n : ℕ} {stage : Stage} (a : Along image_size text held n (Ok stage) work) where
     abbrev begun : List ℕ
     begun = begun_after [] text
 
@@ -47,8 +49,8 @@ module _ (image_size : ℕ) where
     P = after_lines image_size (going []) 1 (completed [] text)
 
     -- a part of a line, without an LF
-    pub along-part : (part after : List ℕ) (r : ℕ) → up_to part ≡ length part → Kept after r (begun ++ part) → Along image_size (text ++ part) after r n stage work
-    along-part part after r h k =
+    pub along-part : (part : List ℕ) (after : HeldLine) → up_to part ≡ length part → Kept after (begun ++ part) → Along image_size (text ++ part) after n (Ok stage) work
+    along-part part after h k =
         let b : begun_after [] (text ++ part) ≡ begun ++ part = begun_then [] text part ∙ begun_more begun part h in
         let c : completed [] (text ++ part) ≡ completed [] text = completed_then [] text part ∙ (rw (completed_none begun part h) (append-nil (completed [] text))) in
         let m = a.counted in
@@ -69,17 +71,17 @@ module _ (image_size : ℕ) where
         let e : n ≡ 1 + length (completed [] text) = a.number in
         rw (lines-LF, lines_then image_size (going []) 1 (completed [] text) (without_cr begun ∷ []), e)
 
-    pub along-LF : (after : List ℕ) (r : Stage) (m : ℕ) → Completes image_size (without_cr begun) n stage work after r → is_stopped r ≡ false → m ≡ n + 1 → Along image_size (text ++ (10 ∷ [])) held 0 m r after
-    along-LF after r m c s e =
-        let l = c.long P a.reached s in
+    pub along-LF : (after : List ℕ) (empty : HeldLine) (r : Stage) (m : ℕ) → Completes image_size (without_cr begun) n stage work after (Ok r) → empty.count ≡ 0 → m ≡ n + 1 → Along image_size (text ++ (10 ∷ [])) empty m (Ok r) after
+    along-LF after empty r m c z e =
+        let l = c.long P a.reached refl in
         let b : begun_after [] (text ++ (10 ∷ [])) ≡ [] = begun_then [] text (10 ∷ []) in
         let k = a.counted in
         let j = a.number in
         record {
-          kept = rw b (kept_none held);
+          kept = rw b (kept_none empty z);
           number = rw lines-LF (omega (arith, length-append (completed [] text) (without_cr begun ∷ [])));
           reached = rw after-LF (c.reached P a.reached);
-          on = s;
+          on = refl;
           counted = rw b (omega (arith, cr_up_to begun, length-append text (10 ∷ [])));
         }
 
@@ -87,7 +89,7 @@ module _ (image_size : ℕ) where
     number_fits h = let k = a.counted in omega arith
 
     -- a line that stops the reading does so whatever follows
-    pub stops-LF : (after rest : List ℕ) (r : Stage) → Completes image_size (without_cr begun) n stage work after r → is_stopped r ≡ true → Reached image_size r after (after_lines image_size (going []) 1 (completed [] ((text ++ (10 ∷ [])) ++ rest)))
+    pub stops-LF : (after rest : List ℕ) (r : Result Stage HexFault) → Completes image_size (without_cr begun) n stage work after r → is_stopped r ≡ true → Reached image_size r after (after_lines image_size (going []) 1 (completed [] ((text ++ (10 ∷ [])) ++ rest)))
     stops-LF after rest r c s =
         let lined = text ++ (10 ∷ []) in
         let others = completed (begun_after [] lined) rest in
@@ -108,10 +110,10 @@ module _ (image_size : ℕ) where
     to_part =
         append_assoc text (take at chunk) (take (lf - at) rest) ∙ ap (λ (l : List ℕ). text ++ l) (rw (up, e) (sym (take-add at (up_to rest) chunk)))
 
-    pub chunk_part : {held work after : List ℕ} {count n r : ℕ} {stage : Stage} → Along image_size (text ++ take at chunk) held count n stage work → ((line : List ℕ) → Kept held count line → Kept after r (line ++ take (lf - at) rest)) → Along image_size (text ++ take lf chunk) after r n stage work
-    chunk_part {held} {work} {after} {count} {n} {r} {stage} a k =
+    pub chunk_part : {work : List ℕ} {held after : HeldLine} {n : ℕ} {stage : Stage} → Along image_size (text ++ take at chunk) held n (Ok stage) work → ((line : List ℕ) → Kept held line → Kept after (line ++ take (lf - at) rest)) → Along image_size (text ++ take lf chunk) after n (Ok stage) work
+    chunk_part {work} {held} {after} {n} {stage} a k =
         let c : up_to (take (lf - at) rest) ≡ length (take (lf - at) rest) = rw up (clear rest) in
-        subst (λ (t : List ℕ). Along image_size t after r n stage work) to_part (along-part a (take (lf - at) rest) after r c (k (begun_after [] (text ++ take at chunk)) a.kept))
+        subst (λ (t : List ℕ). Along image_size t after n (Ok stage) work) to_part (along-part a (take (lf - at) rest) after c (k (begun_after [] (text ++ take at chunk)) a.kept))
 
     module _ (h : lf < length chunk) where
       one_more : (s : List ℕ) → up_to s < length s → take (suc (up_to s)) s ≡ take (up_to s) s ++ (10 ∷ [])
@@ -127,23 +129,23 @@ module _ (image_size : ℕ) where
           append_assoc text (take lf chunk) (10 ∷ [])
           ∙ ap (λ (l : List ℕ). text ++ l) (rw (k, take-add at (suc (up_to rest)) chunk, one_more rest (omega arith), m) (append_assoc (take at chunk) (take (up_to rest) rest) (10 ∷ [])))
 
-      pub chunk-LF : {held work after : List ℕ} {count n m : ℕ} {stage r : Stage} → (a : Along image_size (text ++ take lf chunk) held count n stage work) → Completes image_size (without_cr (begun_after [] (text ++ take lf chunk))) n stage work after r → is_stopped r ≡ false → m ≡ n + 1 → Along image_size (text ++ take (lf + 1) chunk) held 0 m r after
-      chunk-LF {held} {work} {after} {m = m} {r = r} a c s q =
-          subst (λ (t : List ℕ). Along image_size t held 0 m r after) to-LF (along-LF a after r m c s q)
+      pub chunk-LF : {work after : List ℕ} {held empty : HeldLine} {n m : ℕ} {stage r : Stage} → (a : Along image_size (text ++ take lf chunk) held n (Ok stage) work) → Completes image_size (without_cr (begun_after [] (text ++ take lf chunk))) n stage work after (Ok r) → empty.count ≡ 0 → m ≡ n + 1 → Along image_size (text ++ take (lf + 1) chunk) empty m (Ok r) after
+      chunk-LF {after = after} {empty = empty} {m = m} {r = r} a c z q =
+          subst (λ (t : List ℕ). Along image_size t empty m (Ok r) after) to-LF (along-LF a after empty r m c z q)
 
-      pub chunk-stops : {held work after : List ℕ} {count n : ℕ} {stage r : Stage} → (a : Along image_size (text ++ take lf chunk) held count n stage work) → Completes image_size (without_cr (begun_after [] (text ++ take lf chunk))) n stage work after r → is_stopped r ≡ true → Reached image_size r after (after_lines image_size (going []) 1 (completed [] (text ++ chunk)))
+      pub chunk-stops : {work after : List ℕ} {held : HeldLine} {n : ℕ} {stage : Stage} {r : Result Stage HexFault} → (a : Along image_size (text ++ take lf chunk) held n (Ok stage) work) → Completes image_size (without_cr (begun_after [] (text ++ take lf chunk))) n stage work after r → is_stopped r ≡ true → Reached image_size r after (after_lines image_size (going []) 1 (completed [] (text ++ chunk)))
       chunk-stops {after = after} {r = r} a c s =
           let w : ((text ++ take lf chunk) ++ (10 ∷ [])) ++ drop (lf + 1) chunk ≡ text ++ chunk = rw to-LF (append_assoc text (take (lf + 1) chunk) (drop (lf + 1) chunk) ∙ rw (take-append-drop (lf + 1) chunk)) in
           subst (λ (t : List ℕ). Reached image_size r after (after_lines image_size (going []) 1 (completed [] t))) w (stops-LF a after (drop (lf + 1) chunk) r c s)
 
   -- the chunk is over
-  pub chunk-over : (text chunk : List ℕ) {held work : List ℕ} {count n lf : ℕ} {stage : Stage} → Along image_size (text ++ take lf chunk) held count n stage work → lf ≡ length chunk → Chunked image_size (text ++ chunk) (record { held = held; count = count; line = n; stage = stage; begun = true; over = false }) work
-  chunk-over text chunk {held} {work} {count} {n} {lf} {stage} a e =
-      let b : Along image_size (text ++ chunk) held count n stage work = rw (take_all lf chunk (omega arith)) at a in
+  pub chunk-over : (text chunk : List ℕ) {work : List ℕ} {held : HeldLine} {n lf : ℕ} {stage : Stage} → Along image_size (text ++ take lf chunk) held n (Ok stage) work → lf ≡ length chunk → Chunked image_size (text ++ chunk) (record { held = held; line = n; stage = Ok stage; begun = true; over = false }) work
+  chunk-over text chunk {work} {held} {n} {lf} {stage} a e =
+      let b : Along image_size (text ++ chunk) held n (Ok stage) work = rw (take_all lf chunk (omega arith)) at a in
       let k = b.number in
       record { reached = b.reached; along = λ h. b; begun = refl; over = refl; held = b.kept.most; lines = omega arith }
 
   -- a fault stopped it
-  pub chunk-stopped : (text : List ℕ) {held work : List ℕ} {count n : ℕ} (stage : Stage) → is_stopped stage ≡ true → Reached image_size stage work (after_lines image_size (going []) 1 (completed [] text)) → count ≤ 523 → 1 ≤ n → Chunked image_size text (record { held = held; count = count; line = n; stage = stage; begun = true; over = false }) work
-  chunk-stopped text stage s h most first =
-      record { reached = h; along = λ e. absurd (let z : ◌≡◌ {A = ℕ} 0 1 = cc in omega arith); begun = refl; over = refl; held = most; lines = first }
+  pub chunk-stopped : (text : List ℕ) {work : List ℕ} {held : HeldLine} {n : ℕ} (first : HexFault) → Reached image_size (Err first) work (after_lines image_size (going []) 1 (completed [] text)) → held.count ≤ 523 → 1 ≤ n → Chunked image_size text (record { held = held; line = n; stage = Err first; begun = true; over = false }) work
+  chunk-stopped text first h most lines =
+      record { reached = h; along = λ e. cc; begun = refl; over = refl; held = most; lines = lines }

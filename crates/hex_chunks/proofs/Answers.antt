@@ -11,24 +11,28 @@ use Rattle.hex_reader.proofs.work.Fills.{held_image}
 use Rattle.hex_reader.specs.Work.{work_size}
 use Rattle.hex_reader.specs.Progress.{Reading, good, refused, read_of}
 use Rattle.hex_reader.specs.Reached.{Held, IsFault, is_stopped}
-use Rattle.hex_reader.specs.declared.progress.Stage.TheVariants.{Ended, Stopped}
+use Rattle.hex_reader.specs.declared.progress.Stage.TheVariants.{Ended}
+use Rattle.hex_reader.specs.declared.progress.Stage.{Stage}
+use Rattle.std.specs.Prelude.{Ok, Err}
+use Rattle.numbers.specs.Numbered.{refusal_number}
+use Rattle.numbers.specs.declared.Refusal.{Refusal}
+use Rattle.numbers.specs.declared.Refusal.TheVariants.{ImageOfAnotherSize, WorkBufferIsNot9216Bytes}
+use Rattle.hex_reader.specs.declared.fault.HexFault.{HexFault}
+use Rattle.hex_reader.specs.declared.fault.HexRefusal.TheVariants.{Fault}
 use Rattle.hex_chunks.specs.Cut.{Session, fed, told, after_chunk, after_end, image_at_end}
 use Rattle.hex_reader.proofs.progress.Numbers.{read_in}
-use Rattle.hex_chunks.specs.Carries.{InRanges, Along, Chunked, Readied, Carries, Fits, Sized, Stays, TakesTo, Repeats, FeedCall, EndCall, told_of}
+use Rattle.hex_chunks.specs.Carries.{InRanges, Along, Chunked, Readied, Carries, Fits, Sized, Stays, TakesTo, Repeats, FeedCall, EndCall, told_of, refused_buffer}
 use Rattle.hex_chunks.specs.declared.HexChunks.{HexChunks}
-use Rattle.hex_chunks.specs.declared.Told.TheVariants.{Good, Refused}
+use Rattle.hex_chunks.specs.declared.Told.TheVariants.{Good}
 use Rattle.hex_chunks.specs.declared.Fed.{Fed}
 use Rattle.hex_chunks.proofs.Sessions.{ready, chunked, counts, not-final, final-tells, is-final}
 
--- the answer about a buffer that is refused, and one that is told again
-abbrev refusal : HexChunks → ℕ → Fed
-refusal s number = record { state = s; told = Refused number 0 }
-
+-- what was told is told again
 abbrev again : HexChunks → Fed
 again s = record { state = s; told = told_of s.over s.stage }
 
-stays_so : (number : ℕ) (s : HexChunks) (work image : List ℕ) → Stays number s work work image image (refusal s number)
-stays_so number s work image = record { answer = refl; state_kept = refl; work_kept = refl; image_kept = refl }
+stays_so : (refusal : Refusal) (s : HexChunks) (work image : List ℕ) → Stays refusal s work work image image (refused_buffer s refusal)
+stays_so refusal s work image = record { answer = refl; state_kept = refl; work_kept = refl; image_kept = refl }
 
 module _ (image_size : ℕ) where
   module _ (s : HexChunks) (work : List ℕ) where
@@ -57,33 +61,33 @@ module _ (image_size : ℕ) where
     repeats-so image = record { state_kept = refl; work_kept = refl; image_kept = refl }
 
     module _ (chunk image : List ℕ) where
-      feed-47 : (length work ≡ work_size image_size → ⊥) → FeedCall image_size s chunk work work image (refusal s 47)
+      feed-47 : (length work ≡ work_size image_size → ⊥) → FeedCall image_size s chunk work work image (refused_buffer s WorkBufferIsNot9216Bytes)
       feed-47 n =
           record {
             size = refl;
-            short_work = λ _. stays_so 47 s work image;
+            short_work = λ _. stays_so WorkBufferIsNot9216Bytes s work image;
             short_image = λ w. absurd (n w);
             feeds = λ w. absurd (n w);
             repeats = λ w. absurd (n w);
           }
 
-      feed-1 : length work ≡ work_size image_size → (length image ≡ image_size → ⊥) → FeedCall image_size s chunk work work image (refusal s 1)
+      feed-1 : length work ≡ work_size image_size → (length image ≡ image_size → ⊥) → FeedCall image_size s chunk work work image (refused_buffer s ImageOfAnotherSize)
       feed-1 w n =
           record {
             size = refl;
             short_work = λ m. absurd (m w);
-            short_image = λ _ _. stays_so 1 s work image;
+            short_image = λ _ _. stays_so ImageOfAnotherSize s work image;
             feeds = λ _ i. absurd (n i);
             repeats = λ _ i. absurd (n i);
           }
 
-      feed-by : (r : ℕ) → Sized image_size work image r → (r ≡ 0 → ⊥) → Dec (length work ≡ work_size image_size) → Dec (length image ≡ image_size) → FeedCall image_size s chunk work work image (refusal s r)
-      feed-by r z n (no w) i = rw (z.short_work w) (feed-47 w)
-      feed-by r z n (yes w) (no i) = rw (z.short_image w i) (feed-1 w i)
-      feed-by r z n (yes w) (yes i) = absurd (n (z.both_right w i))
+      feed-by : (e : Refusal) → Sized image_size work image (Err e) → Dec (length work ≡ work_size image_size) → Dec (length image ≡ image_size) → FeedCall image_size s chunk work work image (refused_buffer s e)
+      feed-by e z (no w) i = let q : e ≡ WorkBufferIsNot9216Bytes = let p = z.short_work w in cc in rw q (feed-47 w)
+      feed-by e z (yes w) (no i) = let q : e ≡ ImageOfAnotherSize = let p = z.short_image w i in cc in rw q (feed-1 w i)
+      feed-by e z (yes w) (yes i) = let p = z.both_right w i in cc
 
-      pub feed-refused : (r : ℕ) → Sized image_size work image r → (r ≡ 0 → ⊥) → FeedCall image_size s chunk work work image (refusal s r)
-      feed-refused r z n = feed-by r z n (ℕ_discrete (length work) (work_size image_size)) (ℕ_discrete (length image) image_size)
+      pub feed-refused : (e : Refusal) → Sized image_size work image (Err e) → FeedCall image_size s chunk work work image (refused_buffer s e)
+      feed-refused e z = feed-by e z (ℕ_discrete (length work) (work_size image_size)) (ℕ_discrete (length image) image_size)
 
       pub feed-last : length work ≡ work_size image_size → length image ≡ image_size → is_last → FeedCall image_size s chunk work work image (again s)
       feed-last w i f =
@@ -95,10 +99,10 @@ module _ (image_size : ℕ) where
             repeats = λ _ _ t c. repeats-so image;
           }
 
-      module _ (f : either s.over (is_stopped s.stage) ≡ false) (ready-work after : List ℕ) (r : HexChunks) (d : Readied image_size s.begun work ready-work) (t : (text : List ℕ) → Along image_size text s.held s.count s.line s.stage ready-work → length text + length chunk < 2 ^ 64 → Chunked image_size (text ++ chunk) r after) where
+      module _ (stage : Stage) (on : s.stage ≡ Ok stage) (f : either s.over (is_stopped s.stage) ≡ false) (ready-work after : List ℕ) (r : HexChunks) (d : Readied image_size s.begun work ready-work) (t : (text : List ℕ) → Along image_size text s.held s.line (Ok stage) ready-work → length text + length chunk < 2 ^ 64 → Chunked image_size (text ++ chunk) r after) where
         fed-feeds : (session : Session) → Carries image_size s work session → Fits session chunk → TakesTo image_size (after_chunk image_size session chunk) after (again r)
         fed-feeds (fed text) c fits =
-            let k = chunked image_size r after (text ++ chunk) (t text (ready image_size s work ready-work text d c.2) fits) (omega (arith, length-append text chunk)) in
+            let k = chunked image_size r after (text ++ chunk) (t text (rw on at (ready image_size s work ready-work text d c.2)) fits) (omega (arith, length-append text chunk)) in
             record { carries = k.0; tells = k.1 }
         fed-feeds (told x) c fits = absurd (told-last x c f)
 
@@ -113,33 +117,33 @@ module _ (image_size : ℕ) where
             }
 
     module _ (image : List ℕ) where
-      end-47 : (length work ≡ work_size image_size → ⊥) → EndCall image_size s work work image image (refusal s 47)
+      end-47 : (length work ≡ work_size image_size → ⊥) → EndCall image_size s work work image image (refused_buffer s WorkBufferIsNot9216Bytes)
       end-47 n =
           record {
-            short_work = λ _. stays_so 47 s work image;
+            short_work = λ _. stays_so WorkBufferIsNot9216Bytes s work image;
             short_image = λ w. absurd (n w);
             ends = λ w. absurd (n w);
             written = λ w. absurd (n w);
             repeats = λ w. absurd (n w);
           }
 
-      end-1 : length work ≡ work_size image_size → (length image ≡ image_size → ⊥) → EndCall image_size s work work image image (refusal s 1)
+      end-1 : length work ≡ work_size image_size → (length image ≡ image_size → ⊥) → EndCall image_size s work work image image (refused_buffer s ImageOfAnotherSize)
       end-1 w n =
           record {
             short_work = λ m. absurd (m w);
-            short_image = λ _ _. stays_so 1 s work image;
+            short_image = λ _ _. stays_so ImageOfAnotherSize s work image;
             ends = λ _ i. absurd (n i);
             written = λ _ i. absurd (n i);
             repeats = λ _ i. absurd (n i);
           }
 
-      end_by : (r : ℕ) → Sized image_size work image r → (r ≡ 0 → ⊥) → Dec (length work ≡ work_size image_size) → Dec (length image ≡ image_size) → EndCall image_size s work work image image (refusal s r)
-      end_by r z n (no w) i = rw (z.short_work w) (end-47 w)
-      end_by r z n (yes w) (no i) = rw (z.short_image w i) (end-1 w i)
-      end_by r z n (yes w) (yes i) = absurd (n (z.both_right w i))
+      end_by : (e : Refusal) → Sized image_size work image (Err e) → Dec (length work ≡ work_size image_size) → Dec (length image ≡ image_size) → EndCall image_size s work work image image (refused_buffer s e)
+      end_by e z (no w) i = let q : e ≡ WorkBufferIsNot9216Bytes = let p = z.short_work w in cc in rw q (end-47 w)
+      end_by e z (yes w) (no i) = let q : e ≡ ImageOfAnotherSize = let p = z.short_image w i in cc in rw q (end-1 w i)
+      end_by e z (yes w) (yes i) = let p = z.both_right w i in cc
 
-      pub end-refused-size : (r : ℕ) → Sized image_size work image r → (r ≡ 0 → ⊥) → EndCall image_size s work work image image (refusal s r)
-      end-refused-size r z n = end_by r z n (ℕ_discrete (length work) (work_size image_size)) (ℕ_discrete (length image) image_size)
+      pub end-refused-size : (e : Refusal) → Sized image_size work image (Err e) → EndCall image_size s work work image image (refused_buffer s e)
+      end-refused-size e z = end_by e z (ℕ_discrete (length work) (work_size image_size)) (ℕ_discrete (length image) image_size)
 
       pub end-last : length work ≡ work_size image_size → length image ≡ image_size → is_last → EndCall image_size s work work image image (again s)
       end-last w i f =
@@ -151,17 +155,17 @@ module _ (image_size : ℕ) where
             repeats = λ _ _ t c. repeats-so image;
           }
 
-      module _ (f : either s.over (is_stopped s.stage) ≡ false) (ready-work after : List ℕ) (d : Readied image_size s.begun work ready-work) where
+      module _ (stage : Stage) (on : s.stage ≡ Ok stage) (f : either s.over (is_stopped s.stage) ≡ false) (ready-work after : List ℕ) (d : Readied image_size s.begun work ready-work) where
         -- a good text
-        module _ (t : (text : List ℕ) → Along image_size text s.held s.count s.line s.stage ready-work → length text < 2 ^ 64 → Held image_size good after (read_of image_size text)) (r : Fed) (over : r.state.over ≡ true) (stage : r.state.stage ≡ Ended) (says : r.told ≡ Good) (count : r.state.count ≡ s.count) (lines : r.state.line ≡ s.line) where
+        module _ (t : (text : List ℕ) → Along image_size text s.held s.line (Ok stage) ready-work → length text < 2 ^ 64 → Held image_size good after (read_of image_size text)) (r : Fed) (over : r.state.over ≡ true) (ended-at : r.state.stage ≡ Ok Ended) (says : r.told ≡ Ok Good) (count : r.state.held.count ≡ s.held.count) (lines : r.state.line ≡ s.line) where
           good-held : (text : List ℕ) → Carries image_size s work (fed text) → Held image_size good after (read_of image_size text)
-          good-held text c = t text (ready image_size s work ready-work text d c.2) c.0
+          good-held text c = t text (rw on at (ready image_size s work ready-work text d c.2)) c.0
 
           good-ends : (session : Session) → Carries image_size s work session → TakesTo image_size (after_end image_size session) after r
           good-ends (fed text) c =
               let k = counts image_size s work text c in
-              let ranges : InRanges r.state = record { held = rw count k.0; lines = rw lines k.1; fault = rw stage tt } in
-              rw (good-held text c).is (record { carries = (over, rw stage refl, ranges); tells = says })
+              let ranges : InRanges r.state = record { held = rw count k.0; lines = rw lines k.1; fault = rw ended-at tt } in
+              rw (good-held text c).is (record { carries = (over, rw ended-at refl, ranges); tells = says })
           good-ends (told x) c = absurd (told-last x c f)
 
           good-image : (session : Session) → Carries image_size s work session → take image_size after ≡ image_at_end image_size session image
@@ -180,16 +184,16 @@ module _ (image_size : ℕ) where
               }
 
         -- a text that is refused
-        module _ (number line : ℕ) (t : (text : List ℕ) → Along image_size text s.held s.count s.line s.stage ready-work → length text < 2 ^ 64 → read_of image_size text ≡ refused number line) (r : Fed) (stage : r.state.stage ≡ Stopped number line) (says : r.told ≡ Refused number line) (count : r.state.count ≡ s.count) (lines : r.state.line ≡ s.line) where
-          refused-text : (text : List ℕ) → Carries image_size s work (fed text) → read_of image_size text ≡ refused number line
-          refused-text text c = t text (ready image_size s work ready-work text d c.2) c.0
+        module _ (first : HexFault) (t : (text : List ℕ) → Along image_size text s.held s.line (Ok stage) ready-work → length text < 2 ^ 64 → read_of image_size text ≡ refused (refusal_number first.refusal) first.line) (r : Fed) (stops : r.state.stage ≡ Err first) (says : r.told ≡ Err (Fault first)) (count : r.state.held.count ≡ s.held.count) (lines : r.state.line ≡ s.line) where
+          refused-text : (text : List ℕ) → Carries image_size s work (fed text) → read_of image_size text ≡ refused (refusal_number first.refusal) first.line
+          refused-text text c = t text (rw on at (ready image_size s work ready-work text d c.2)) c.0
 
           refused-ends : (session : Session) → Carries image_size s work session → TakesTo image_size (after_end image_size session) after r
           refused-ends (fed text) c =
               let k = counts image_size s work text c in
-              let f : IsFault number = rw (refused-text text c) at (read_in image_size text) in
-              let ranges : InRanges r.state = record { held = rw count k.0; lines = rw lines k.1; fault = rw stage f } in
-              rw (refused-text text c) (record { carries = (stage, ranges); tells = says })
+              let f : IsFault (refusal_number first.refusal) = rw (refused-text text c) at (read_in image_size text) in
+              let ranges : InRanges r.state = record { held = rw count k.0; lines = rw lines k.1; fault = rw stops f } in
+              rw (refused-text text c) (record { carries = (rw stops (refl, refl), ranges); tells = rw says (refl, refl) })
           refused-ends (told x) c = absurd (told-last x c f)
 
           refused-image : (session : Session) → Carries image_size s work session → image ≡ image_at_end image_size session image

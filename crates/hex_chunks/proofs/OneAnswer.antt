@@ -1,5 +1,5 @@
 -- Each call has one answer: any two that keep its promise, of a state that carries a session, tell the same and leave the same image.
-use mathlib.Core.Path.{◌≡◌, sym, ◌∙◌}
+use mathlib.Core.Path.{◌≡◌, sym, ap, ◌∙◌}
 use mathlib.Core.List.{List}
 use Prim.Native.Nat.{ℕ}
 use native.Mathlib.Decide.{ℕ_discrete}
@@ -7,17 +7,36 @@ use lib.ListN.{length}
 use Rattle.hex_reader.specs.Work.{work_size}
 use Rattle.hex_reader.specs.Progress.{good, refused}
 use Rattle.hex_chunks.specs.Cut.{Session, fed, told, after_chunk, after_end}
-use Rattle.hex_chunks.specs.Carries.{Carries, Tells, Fits, Stays, FeedCall, EndCall}
+use Rattle.hex_chunks.specs.Carries.{Carries, TellsFaultAt, Tells, Fits, Stays, FeedCall, EndCall}
+use Rattle.std.specs.Prelude.{Result, Ok, Err}
+use Rattle.numbers.specs.declared.Refusal.{Refusal}
+use Rattle.numbers.proofs.OneNumber.{one_refusal}
+use Rattle.hex_reader.specs.declared.fault.HexFault.{HexFault}
+use Rattle.hex_reader.specs.declared.fault.HexRefusal.{HexRefusal}
+use Rattle.hex_reader.specs.declared.fault.HexRefusal.TheVariants.{Buffer, Fault}
 use Rattle.hex_chunks.specs.declared.HexChunks.{HexChunks}
 use Rattle.hex_chunks.specs.declared.Told.{Told}
 use Rattle.hex_chunks.specs.declared.Fed.{Fed}
 
-tells_one : (session : Session) (t u : Told) → Tells t session → Tells u session → t ≡ u
+same_fault : (x y : HexFault) → x.refusal ≡ y.refusal → x.line ≡ y.line → x ≡ y
+same_fault x y r l = λ i. record { refusal = r i; line = l i }
+
+fault_one : (t u : Result Told HexRefusal) (number line : ℕ) → TellsFaultAt t number line → TellsFaultAt u number line → t ≡ u
+fault_one (Ok x) u number line p q = absurd p
+fault_one (Err (Buffer x)) u number line p q = absurd p
+fault_one (Err (Fault x)) (Ok y) number line p q = absurd q
+fault_one (Err (Fault x)) (Err (Buffer y)) number line p q = absurd q
+fault_one (Err (Fault x)) (Err (Fault y)) number line p q =
+    let r : x.refusal ≡ y.refusal = one_refusal x.refusal y.refusal (p.0 ∙ sym q.0) in
+    let l : x.line ≡ y.line = p.1 ∙ sym q.1 in
+    ap (λ (f : HexFault). Err (Fault f)) (same_fault x y r l)
+
+tells_one : (session : Session) (t u : Result Told HexRefusal) → Tells t session → Tells u session → t ≡ u
 tells_one (fed text) t u p q = p ∙ sym q
 tells_one (told (good ds)) t u p q = p ∙ sym q
-tells_one (told (refused number line)) t u p q = p ∙ sym q
+tells_one (told (refused number line)) t u p q = fault_one t u number line p q
 
-stays_one : {number : ℕ} {s : HexChunks} {work a b image i j : List ℕ} {r q : Fed} → Stays number s work a image i r → Stays number s work b image j q → (r.told ≡ q.told) × (i ≡ j)
+stays_one : {refusal : Refusal} {s : HexChunks} {work a b image i j : List ℕ} {r q : Fed} → Stays refusal s work a image i r → Stays refusal s work b image j q → (r.told ≡ q.told) × (i ≡ j)
 stays_one f g = (f.answer ∙ sym g.answer, f.image_kept ∙ sym g.image_kept)
 
 module _ (image_size : ℕ) where

@@ -9,6 +9,8 @@ use Rattle.hex_reader.specs.Progress.{Progress, going, ended, stopped, Reading, 
 use Rattle.hex_chunks.specs.Cut.{Session, fed, told, completed, by_progress, fed_to, after_chunk, after_end, after_chunks, image_of_reading, image_at_end, joined}
 use Rattle.hex_chunks.specs.Carries.{Carries, Tells, Fits}
 use Rattle.hex_chunks.specs.Run.{Run, ends, feeds, RunAsWhole}
+use Rattle.std.specs.Prelude.{Result}
+use Rattle.hex_reader.specs.declared.fault.HexRefusal.{HexRefusal}
 use Rattle.hex_chunks.specs.declared.HexChunks.{HexChunks}
 use Rattle.hex_chunks.specs.declared.Told.{Told}
 use Rattle.hex_chunks.proofs.AnyCutting.{any_cutting}
@@ -52,7 +54,7 @@ module _ (image_size : ℕ) where
   )
   fits_one (told r) c cs h = (tt, tt)
 
-  run-from : {s : HexChunks} {work image imageAfter : List ℕ} {chunks : List (List ℕ)} {t : Told} (session : Session) → Carries image_size s work session → FitsAll session chunks → length work ≡ work_size image_size → length image ≡ image_size
+  run-from : {s : HexChunks} {work image imageAfter : List ℕ} {chunks : List (List ℕ)} {t : Result Told HexRefusal} (session : Session) → Carries image_size s work session → FitsAll session chunks → length work ≡ work_size image_size → length image ≡ image_size
       → Run image_size s work image chunks t imageAfter → Tells t (after_end image_size (after_chunks image_size session chunks)) × (imageAfter ≡ image_at_end image_size (after_chunks image_size session chunks) image)
   run-from session c f w i (ends e) = ((e.ends w i session c).tells, e.written w i session c)
   run-from {chunks = d ∷ ds} session c f w i (feeds e r) =

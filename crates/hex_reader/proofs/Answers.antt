@@ -8,26 +8,26 @@ use Rattle.hex_reader.proofs.work.Fills.{held_image}
 use Rattle.hex_reader.specs.Progress.{good, refused, read_of}
 use Rattle.hex_reader.specs.Reached.{Held}
 use Rattle.hex_reader.specs.Reader.{Result, read_into, ReadHex}
-use Rattle.hex_reader.specs.declared.HexRead.{HexRead}
+use Rattle.std.specs.Prelude.{Ok, Err}
+use Rattle.numbers.specs.declared.Refusal.TheVariants.{ImageOfAnotherSize}
+use Rattle.hex_reader.specs.Fault.{HexAnswer, fault, buffer, number_of_answer, line_of_answer}
+use Rattle.hex_reader.specs.declared.fault.HexFault.{HexFault}
+use Rattle.numbers.specs.Numbered.{refusal_number}
 
 module _ (image_size : ℕ) (text before : List ℕ) where
-  pub wrong_size : (length before ≡ image_size → ⊥) → ReadHex image_size text before before (record { number = 1; line = 0 })
+  pub wrong_size : (length before ≡ image_size → ⊥) → ReadHex image_size text before before (Err (buffer ImageOfAnotherSize))
   unfolding read_into
   wrong_size n = rw (ne_eqb (length before) image_size n)
 
-  pub refuses : (number line : ℕ) → length before ≡ image_size → read_of image_size text ≡ refused number line → ReadHex image_size text before before (record { number = number; line = line })
+  pub refuses : (first : HexFault) → length before ≡ image_size → read_of image_size text ≡ refused (refusal_number first.refusal) first.line → ReadHex image_size text before before (Err (fault first))
   unfolding read_into
-  refuses number line e r = rw (eq-eqb (length before) image_size e, r)
+  refuses first e r = rw (eq-eqb (length before) image_size e, r)
 
-  pub reads : (work after : List ℕ) → length before ≡ image_size → Held image_size good work (read_of image_size text) → after ≡ take (length before) work → ReadHex image_size text before after (record { number = 0; line = 0 })
+  pub reads : (work after : List ℕ) → length before ≡ image_size → Held image_size good work (read_of image_size text) → after ≡ take (length before) work → ReadHex image_size text before after (Ok tt)
   unfolding read_into
   reads work after e h c = rw (eq-eqb (length before) image_size e, h.is, c, e, held_image image_size work h.records h.holds)
 
-numbers_of : Result → HexRead
-numbers_of x = record { number = x.number; line = x.line }
-
--- any two answers to the same text and buffer are equal, and leave the same bytes
-pub one_answer : (image_size : ℕ) (text before after other : List ℕ) (r q : HexRead) → ReadHex image_size text before after r → ReadHex image_size text before other q → (r ≡ q) × (after ≡ other)
-unfolding numbers_of
+-- any two answers to the same text and buffer have the same number and line, and leave the same bytes
+pub one_answer : (image_size : ℕ) (text before after other : List ℕ) (r q : HexAnswer) → ReadHex image_size text before after r → ReadHex image_size text before other q → (number_of_answer r ≡ number_of_answer q) × (line_of_answer r ≡ line_of_answer q) × (after ≡ other)
 one_answer image_size text before after other r q f g =
-    let e = f ∙ sym g in (ap numbers_of e, ap (λ (x : Result). x.image) e)
+    let e = f ∙ sym g in (ap (λ (x : Result). x.number) e, ap (λ (x : Result). x.line) e, ap (λ (x : Result). x.image) e)

@@ -1,9 +1,9 @@
+pub mod Fault
 pub mod Reader
 pub mod Record
 pub mod Reads
 pub mod Lines
 pub mod Found
-pub mod Shifted
 pub mod Given
 pub mod Work
 pub mod Takes

@@ -1,9 +1,9 @@
 -- Document 02, Q-3: "lines ending in LF or CRLF, the last perhaps in none".
-use Rattle.std.specs.Prelude.{ℕ, ◌≤◌, ◌<◌, ◌-◌, ◌≡◌, Bool, false, List, [], ◌∷◌, eqb, length, take, drop}
+use Rattle.std.specs.Prelude.{ℕ, ◌≤◌, ◌<◌, ◌-◌, ◌≡◌, Bool, false, List, [], ◌∷◌, eqb, length, drop}
 use Prim.Native.Char.{code}
 use Rattle.laws.specs.Choice.{pick, both}
 use Rattle.text.specs.Script.{is_lf, on_first}
-use Rattle.hex_reader.specs.declared.lines.Ends.{Ends}
+use Rattle.hex_reader.specs.declared.lines.LineOf.{LineOf}
 
 abbrev pub is_cr : ℕ → Bool
 is_cr c = eqb c (code "\r")
@@ -24,10 +24,9 @@ without_cr [] = []
 without_cr (c ∷ []) = pick (is_cr c) [] (c ∷ [])
 without_cr (c ∷ d ∷ cs) = c ∷ without_cr (d ∷ cs)
 
--- the line that begins at a place: where it ends, and where the next one begins
-pub record LineAt (text : List ℕ) (at : ℕ) (r : Ends) : Type 0 where
-  pub first : hex_lines (drop at text) ≡ take (r.to - at) (drop at text) ∷ hex_lines (drop r.next text)
-  pub from : at ≤ r.to
-  pub ending : r.to ≤ r.next
+-- the line that begins at a place, and where the next one begins
+pub record LineAt (text : List ℕ) (at : ℕ) (r : LineOf) : Type 0 where
+  pub first : hex_lines (drop at text) ≡ r.line.now ∷ hex_lines (drop r.next text)
+  pub size : length r.line.now ≤ r.next - at
   pub later : at < r.next
   pub within : r.next ≤ length text

@@ -4,7 +4,7 @@ use Rattle.laws.specs.Choice.{pick}
 use Rattle.numbers.specs.ComesBack.{image_of_another_size}
 use Rattle.hex_reader.specs.Given.{image_of}
 use Rattle.hex_reader.specs.Progress.{Reading, good, refused, read_of}
-use Rattle.hex_reader.specs.declared.HexRead.{HexRead}
+use Rattle.hex_reader.specs.Fault.{HexAnswer, number_of_answer, line_of_answer}
 
 -- the answer's number, the line of the first fault, and the image buffer; no line is 0
 pub record Result : Type 0 where
@@ -24,5 +24,5 @@ read_into image_size text before =
     (record { number = image_of_another_size; line = 0; image = before })
 
 -- what the call answers and leaves is that
-abbrev pub ReadHex : ℕ → List ℕ → List ℕ → List ℕ → HexRead → Type 0
-ReadHex image_size text before after r = record { number = r.number; line = r.line; image = after } ≡ read_into image_size text before
+abbrev pub ReadHex : ℕ → List ℕ → List ℕ → List ℕ → HexAnswer → Type 0
+ReadHex image_size text before after r = record { number = number_of_answer r; line = line_of_answer r; image = after } ≡ read_into image_size text before

@@ -1,5 +1,5 @@
 -- Document 02, Q-10: a buffer that "carries the work: the bytes so far, with one bit for each address already given". For an image of 8,192 bytes it has 9,216, for one of 16,384 it has 18,432.
-use Rattle.std.specs.Prelude.{ℕ, ◌+◌, ◌/◌, ◌%◌, ◌^◌, ◌<◌, ◌≤◌, ◌≡◌, Bool, true, List, length, get_or}
+use Rattle.std.specs.Prelude.{ℕ, ◌+◌, ◌/◌, ◌%◌, ◌^◌, ◌<◌, ◌≡◌, Bool, true, List, length, get_or}
 use Rattle.bits.specs.Bits.{has_bit}
 use Rattle.hex_reader.specs.Given.{Given, byte_at, is_given}
 
@@ -23,10 +23,3 @@ pub record Puts (image_size : ℕ) (before after : List ℕ) (a byte : ℕ) : Ty
   pub byte_other : (x : ℕ) → x < image_size → (x ≡ a → ⊥) → get_or after x 0 ≡ get_or before x 0
   pub bit_there : bit_of image_size after a ≡ true
   pub bit_other : (x : ℕ) → x < image_size → (x ≡ a → ⊥) → bit_of image_size after x ≡ bit_of image_size before x
-
--- a part of a buffer holds one byte throughout
-pub record Filled (before after : List ℕ) (from to byte : ℕ) : Type 0 where
-  pub size : length after ≡ length before
-  pub inside : (i : ℕ) → from ≤ i → i < to → get_or after i 0 ≡ byte
-  pub below : (i : ℕ) → i < from → get_or after i 0 ≡ get_or before i 0
-  pub above : (i : ℕ) → to ≤ i → get_or after i 0 ≡ get_or before i 0

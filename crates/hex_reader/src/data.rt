@@ -1,70 +1,56 @@
 // A data record after others: 43 and 44, and its bytes taken into the work buffer.
 ghost use Rattle.std.specs.Prelude.{◌≡◌, false, List, ◌∷◌, ℕ, ◌+◌, ◌<◌, leb, length};
+ghost use Rattle.hex_reader.specs.Record.{bytes_of};
 ghost use Rattle.hex_reader.specs.Reads.{Stands};
 ghost use Rattle.hex_reader.specs.Given.{Given, some};
 ghost use Rattle.hex_reader.specs.Work.{work_size, bit_of, Holds};
-ghost use Rattle.hex_reader.specs.Takes.{record_at, Takes};
+ghost use Rattle.hex_reader.specs.Takes.{record_of, Takes};
 
 use crate::line::byte_at;
 use crate::work::{is_given, put};
-use numbers::{GIVEN_TWICE, PAST_1FFF};
+use numbers::Refusal;
 
 fn is_past(size: usize, address: usize, count: usize) -> bool
     requires { (address < 65536) × (count < 256) }
     ensures { result ≡ some count (λ k. leb size (address + k)) }
 {
-    if count == 0 {
-        return false;
-    }
-    size < address + count
+    count != 0 && size < address + count
 }
 
 fn is_twice(work: &[u8], size: usize, address: usize, count: usize) -> bool
     requires { (length work.now ≡ work_size size) × ((k : ℕ) → k < count → address + k < size) }
     ensures { result ≡ some count (λ k. bit_of size work.now (address + k)) }
 {
-    let mut i = 0;
-    while i < count {
-        if is_given(work, size, address + i) {
+    for k in 0..count {
+        if is_given(work, size, address + k) {
             return true;
         }
-        i += 1;
     }
     false
 }
 
-fn store(text: &[u8], address: usize, count: usize, first: usize, size: usize, work: &mut [u8])
-    requires stands { Stands text.now address count first }
-    requires work_len { (length work.old ≡ work_size size) × ((k : ℕ) → k < count → address + k < size) × ((k : ℕ) → k < count → bit_of size work.old (address + k) ≡ false) }
+fn store(address: usize, digits: &[u8], size: usize, work: &mut [u8])
+    requires stands { Stands address digits.now }
+    requires work_len { (length work.old ≡ work_size size) × ((k : ℕ) → k < length (bytes_of digits.now) → address + k < size) × ((k : ℕ) → k < length (bytes_of digits.now) → bit_of size work.old (address + k) ≡ false) }
     ensures work_len_unchanged { length work.new ≡ length work.old }
-    ensures holds { (ds : List Given) → Holds size work.old ds → Holds size work.new (record_at text.now address count first ∷ ds) }
+    ensures holds { (ds : List Given) → Holds size work.old ds → Holds size work.new (record_of address digits.now ∷ ds) }
 {
-    let mut i = 0;
-    while i < count {
-        let byte = byte_at(text, first + 2 * i);
-        put(work, size, address + i, byte as u8);
-        i += 1;
+    for k in 0..digits.len() / 2 {
+        put(work, size, address + k, byte_at(digits, 2 * k));
     }
 }
 
-// 0 where the record is taken, else its refusal.
-pub fn take_data(
-    text: &[u8],
-    address: usize,
-    count: usize,
-    first: usize,
-    size: usize,
-    work: &mut [u8],
-) -> u8
-    requires { (Stands text.now address count first) × (length work.old ≡ work_size size) }
-    ensures { Takes size work.old work.new (record_at text.now address count first) result }
+pub fn take_data(address: usize, digits: &[u8], size: usize, work: &mut [u8]) -> Result<(), Refusal>
+    requires { (Stands address digits.now) × (length work.old ≡ work_size size) }
+    ensures { Takes size work.old work.new (record_of address digits.now) result }
 {
+    let count = digits.len() / 2;
     if is_past(size, address, count) {
-        return PAST_1FFF;
+        return Err(Refusal::Past1FFF);
     }
     if is_twice(work, size, address, count) {
-        return GIVEN_TWICE;
+        return Err(Refusal::GivenTwice);
     }
-    store(text, address, count, first, size, work);
-    0
+    store(address, digits, size, work);
+    Ok(())
 }

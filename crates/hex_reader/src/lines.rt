@@ -1,41 +1,40 @@
 // The lines of a text of Intel HEX: where one ends, and where the next begins.
-ghost use Rattle.std.specs.Prelude.{◌≡◌, ◌<◌, ◌≤◌, length, take};
+ghost use Rattle.std.specs.Prelude.{◌≡◌, ◌<◌, length};
 ghost use Rattle.hex_reader.specs.Lines.{without_cr, LineAt};
 
 use text::script::line_end;
 
-// The place after a line's last character, and the place after its ending.
+// A line without its ending, and the place after that.
 #[derive(Clone, Copy)]
-pub struct Ends {
-    pub to: usize,
+pub struct LineOf<'a> {
+    pub line: &'a [u8],
     pub next: usize,
 }
 
-// How many of the characters before an LF are the line's: all but a CR at their end.
-pub fn without_cr(line: &[u8]) -> usize
-    ensures { (take result line.now ≡ without_cr line.now) × (result ≤ length line.now) }
+// The characters before an LF that are the line's: all but a CR at their end.
+pub fn without_cr(characters: &[u8]) -> &[u8]
+    ensures { result.now ≡ without_cr characters.now }
 {
-    let size = line.len();
-    if size == 0 {
-        return 0;
+    match characters {
+        [line @ .., b'\r'] => line,
+        _ => characters,
     }
-    if line[size - 1] == b'\r' {
-        return size - 1;
-    }
-    size
 }
 
-pub fn line_at(text: &[u8], at: usize) -> Ends
+pub fn line_at(text: &[u8], at: usize) -> LineOf<'_>
     requires { at < length text.now }
     ensures { LineAt text.now at result }
 {
     let lf = line_end(text, at);
+    let characters = &text[at..lf];
     if lf == text.len() {
-        return Ends { to: lf, next: lf };
+        return LineOf {
+            line: characters,
+            next: lf,
+        };
     }
-    let size = without_cr(&text[at..lf]);
-    Ends {
-        to: at + size,
+    LineOf {
+        line: without_cr(characters),
         next: lf + 1,
     }
 }

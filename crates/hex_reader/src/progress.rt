@@ -1,103 +1,62 @@
 // A text of Intel HEX read line by line, up to its first fault: the stage that is reached, with the data records in the work buffer.
-ghost use Rattle.std.specs.Prelude.{◌≡◌, ℕ, length};
+ghost use Rattle.std.specs.Prelude.{◌≡◌, ℕ, List, length};
 ghost use Rattle.hex_reader.specs.Reads.{Placed};
 ghost use Rattle.hex_reader.specs.Work.{work_size};
 ghost use Rattle.hex_reader.specs.Progress.{Progress, at_end};
-ghost use Rattle.hex_reader.specs.Reached.{Reached, Concluded, Advances, is_stopped};
+ghost use Rattle.hex_reader.specs.Reached.{Reached, Concluded, TakenOn, Advances};
 
 use crate::data::take_data;
+use crate::fault::HexFault;
 use crate::line::Line;
-use numbers::END_MISSING_OR_TEXT_AFTER;
+use numbers::Refusal;
 
-// Before the end record, after it, or stopped by the first fault.
+// Before the end record, or after it.
 #[derive(Clone, Copy)]
 pub enum Stage {
     Going,
     Ended,
-    Stopped { number: u8, line: usize },
 }
 
-#[derive(Clone, Copy)]
-pub enum Outcome {
-    Good,
-    Refused { number: u8, line: usize },
-}
-
-fn after_judged(text: &[u8], line: Line, n: usize, size: usize, work: &mut [u8]) -> Stage
-    requires { (Placed text.now line) × (length work.old ≡ work_size size) }
-    ensures { Advances size text.now line n Stage.Going work.old work.new result }
+fn after_judged(line: Result<Line, Refusal>, size: usize, work: &mut [u8]) -> Result<Stage, Refusal>
+    requires { (Placed line) × (length work.old ≡ work_size size) }
+    ensures { TakenOn size line.entry Stage.Going work.old work.new result }
 {
-    match line {
-        Line::Data {
-            address,
-            count,
-            first,
-        } => {
-            let refusal = take_data(text, address, count, first, size, work);
-            if refusal == 0 {
-                return Stage::Going;
-            }
-            Stage::Stopped {
-                number: refusal,
-                line: n,
-            }
+    match line? {
+        Line::Data { address, digits } => {
+            take_data(address, digits, size, work)?;
+            Ok(Stage::Going)
         }
-        Line::End => Stage::Ended,
-        Line::Fault(number) => Stage::Stopped {
-            number: number,
-            line: n,
-        },
+        Line::End => Ok(Stage::Ended),
     }
 }
 
 // Line n of a text, judged.
 pub fn after_line(
-    text: &[u8],
-    line: Line,
+    line: Result<Line, Refusal>,
     n: usize,
     stage: Stage,
     size: usize,
     work: &mut [u8],
-) -> Stage
-    requires { (Placed text.now line) × (length work.old ≡ work_size size) }
-    ensures { Advances size text.now line n stage work.old work.new result }
+) -> Result<Stage, HexFault>
+    requires { (Placed line) × (length work.old ≡ work_size size) }
+    ensures { Advances size line.entry n stage work.old work.new result }
 {
-    match stage {
-        Stage::Going => after_judged(text, line, n, size, work),
-        Stage::Ended => Stage::Stopped {
-            number: END_MISSING_OR_TEXT_AFTER,
-            line: n,
-        },
-        Stage::Stopped { number, line: at } => Stage::Stopped {
-            number: number,
-            line: at,
-        },
-    }
-}
-
-pub fn is_stopped(stage: Stage) -> bool
-    ensures { result ≡ is_stopped stage }
-{
-    match stage {
-        Stage::Going => false,
-        Stage::Ended => false,
-        Stage::Stopped { number: _, line: _ } => true,
-    }
+    let on = match stage {
+        Stage::Going => after_judged(line, size, work),
+        Stage::Ended => Err(Refusal::EndMissingOrTextAfter),
+    };
+    on.map_err(|refusal| HexFault { refusal, line: n })
 }
 
 // The text is over where line n would stand.
-pub fn conclude(stage: Stage, n: usize, work: &[u8]) -> Outcome
-    ensures { (image_size : ℕ) (p : Progress) → Reached image_size stage work.now p → Concluded image_size result work.now (at_end p n) }
+pub fn conclude(stage: Stage, n: usize) -> Result<(), HexFault>
+    ensures { (image_size : ℕ) (work : List ℕ) (p : Progress) → Reached image_size (Ok stage) work p → Concluded image_size result work (at_end p n) }
 {
     match stage {
-        Stage::Going => Outcome::Refused {
-            number: END_MISSING_OR_TEXT_AFTER,
+        Stage::Going => Err(HexFault {
+            refusal: Refusal::EndMissingOrTextAfter,
             line: n,
-        },
-        Stage::Ended => Outcome::Good,
-        Stage::Stopped { number, line } => Outcome::Refused {
-            number: number,
-            line: line,
-        },
+        }),
+        Stage::Ended => Ok(()),
     }
 }

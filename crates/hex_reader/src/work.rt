@@ -1,6 +1,6 @@
 // The work buffer of a reader of Intel HEX: the bytes so far, and behind them one bit for each address that was given. Both are as many as the device's image has bytes.
 ghost use Rattle.std.specs.Prelude.{◌≡◌, false, [], ◌<◌, ◌≤◌, length, take};
-ghost use Rattle.hex_reader.specs.Work.{work_size, bit_of, Holds, Puts, Filled};
+ghost use Rattle.hex_reader.specs.Work.{work_size, bit_of, Holds, Puts};
 
 use bits::{bit_at, weight};
 
@@ -12,6 +12,8 @@ pub const P982_IMAGE_SIZE: usize = 16384;
 pub const WORK_SIZE: usize = 9216;
 
 pub const P982_WORK_SIZE: usize = 18432;
+
+pub const LARGEST_WORK: usize = P982_WORK_SIZE;
 
 // The buffer that goes with an image.
 pub fn work_size(size: usize) -> usize
@@ -42,25 +44,13 @@ pub fn put(work: &mut [u8], size: usize, address: usize, byte: u8)
     work[at] = bits;
 }
 
-fn fill(work: &mut [u8], from: usize, to: usize, byte: u8)
-    requires { (from ≤ to) × (to ≤ length work.old) }
-    ensures { Filled work.old work.new from to byte }
-{
-    let mut i = from;
-    while i < to {
-        work[i] = byte;
-        i += 1;
-    }
-}
-
 // Nothing is given yet.
 pub fn clear(work: &mut [u8], size: usize)
     requires { length work.old ≡ work_size size }
     ensures { Holds size work.new [] }
 {
-    let end = work.len();
-    fill(work, 0, size, NOT_MENTIONED);
-    fill(work, size, end, 0);
+    work[..size].fill(NOT_MENTIONED);
+    work[size..].fill(0);
 }
 
 // The buffer begins with the image's bytes.
@@ -68,9 +58,5 @@ pub fn copy_image(work: &[u8], image: &mut [u8])
     requires { length image.old ≤ length work.now }
     ensures { image.new ≡ take (length image.old) work.now }
 {
-    let mut i = 0;
-    while i < image.len() {
-        image[i] = work[i];
-        i += 1;
-    }
+    image.copy_from_slice(&work[..image.len()]);
 }

@@ -5,6 +5,7 @@ use Prim.Native.Char.{code}
 use Rattle.laws.specs.Choice.{pick}
 use Rattle.numbers.specs.ComesBack.{image_of_another_size, output_buffer_under_22540_bytes}
 use Rattle.text.specs.Digits.{hex}
+use Rattle.hex_reader.specs.Fault.{Taken, number_of}
 use Rattle.hex_reader.specs.Record.{total}
 
 -- bytes in pairs of digits, "upper case"
@@ -69,5 +70,5 @@ written_from image_size image before =
     (record { number = image_of_another_size; text = before })
 
 -- what the call answers and leaves is that
-abbrev pub WriteHex : ℕ → List ℕ → List ℕ → List ℕ → ℕ → Type 0
-WriteHex image_size image before after r = record { number = r; text = after } ≡ written_from image_size image before
+abbrev pub WriteHex : ℕ → List ℕ → List ℕ → List ℕ → Taken → Type 0
+WriteHex image_size image before after r = record { number = number_of r; text = after } ≡ written_from image_size image before

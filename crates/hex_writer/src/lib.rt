@@ -3,14 +3,14 @@
 
 pub mod round_trip;
 
-ghost use Rattle.std.specs.Prelude.{◌≡◌, ◌∷◌, ◌++◌, ◌+◌, ◌*◌, ◌<◌, ◌≤◌, ◌%◌, ◌/◌, length, drop};
-ghost use Rattle.laws.specs.Writing.{Wrote};
+ghost use Rattle.std.specs.Prelude.{◌≡◌, ◌++◌, ◌+◌, ◌*◌, ◌<◌, ◌≤◌, ◌%◌, length, drop};
+ghost use Rattle.device.specs.Device.{image_size};
 ghost use Rattle.hex_reader.specs.Record.{total};
 ghost use Rattle.hex_writer.specs.Writer.{hex_bytes, record_text, text_of, text_size, InRecords, WriteHex};
 
-use hex_reader::work::{IMAGE_SIZE, P982_IMAGE_SIZE};
-use numbers::{IMAGE_OF_ANOTHER_SIZE, OUTPUT_BUFFER_UNDER_22540_BYTES};
-use text::digits::{number, put};
+use device::{Device, image_size};
+use numbers::Refusal;
+use text::Text;
 
 pub const TEXT_SIZE: usize = 22540;
 
@@ -23,44 +23,56 @@ const END_RECORD: u8 = 1;
 // Bytes a record.
 const EACH: usize = 16;
 
+// Characters of a record with them, and of the end record.
+const LINE: usize = 44;
+
+const END_LINE: usize = 12;
+
+// How many characters the text of a device's image has.
+pub fn text_size(d: Device) -> usize
+    ensures { result ≡ text_size (image_size d) }
+{
+    match d {
+        Device::Em73862 => TEXT_SIZE,
+        Device::Em73P982 => P982_TEXT_SIZE,
+    }
+}
+
 // The sum of bytes and of what was summed before, modulo 256.
 fn sum_of(bytes: &[u8], before: u32) -> u32
     requires { before < 256 }
     ensures { result ≡ (before + total bytes.now) % 256 }
 {
     let mut sum = before;
-    let mut i = 0;
-    while i < bytes.len() {
-        sum = (sum + bytes[i] as u32) % 256;
-        i += 1;
+    for byte in bytes {
+        sum = (sum + u32::from(*byte)) % 256;
     }
     sum
 }
 
-fn put_bytes(out: &mut [u8], from: usize, bytes: &[u8]) -> usize
-    requires { from + 2 * length bytes.now ≤ length out.old }
-    ensures { (Wrote out.old out.new from result (hex_bytes bytes.now)) × (result ≡ from + 2 * length bytes.now) }
+fn put_bytes(line: &mut Text<LINE>, bytes: &[u8])
+    requires { length line.old + 2 * length bytes.now ≤ 44 }
+    ensures text { line.new ≡ line.old ++ hex_bytes bytes.now }
+    ensures size { length line.new ≡ length line.old + 2 * length bytes.now }
 {
-    let mut next = from;
-    let mut i = 0;
-    while i < bytes.len() {
-        next = number(out, next, 16, 2, bytes[i] as u32);
-        i += 1;
+    for byte in bytes {
+        line.number(16, 2, u32::from(*byte));
     }
-    next
 }
 
 // A record of the four bytes before its data, and its data.
-fn put_record(out: &mut [u8], from: usize, head: &[u8; 4], bytes: &[u8]) -> usize
-    requires { from + 12 + 2 * length bytes.now ≤ length out.old }
-    ensures { (Wrote out.old out.new from result (record_text (head.now ++ bytes.now))) × (result ≡ from + 12 + 2 * length bytes.now) }
+fn record(head: &[u8; 4], bytes: &[u8]) -> Text<LINE>
+    requires { length bytes.now ≤ 16 }
+    ensures { result ≡ record_text (head.now ++ bytes.now) }
 {
     let sum = sum_of(bytes, sum_of(head, 0));
-    let mut next = put(out, from, b':');
-    next = put_bytes(out, next, head);
-    next = put_bytes(out, next, bytes);
-    next = number(out, next, 16, 2, (256 - sum) % 256);
-    put(out, next, b'\n')
+    let mut line = Text::new();
+    line.put(b':');
+    put_bytes(&mut line, head);
+    put_bytes(&mut line, bytes);
+    line.number(16, 2, (256 - sum) % 256);
+    line.put(b'\n');
+    line
 }
 
 fn write_text(image: &[u8], out: &mut [u8])
@@ -68,49 +80,31 @@ fn write_text(image: &[u8], out: &mut [u8])
     ensures { out.new ≡ text_of (length image.now) image.now ++ drop (text_size (length image.now)) out.old }
 {
     let records = image.len() / EACH;
-    let mut next = 0;
-    let mut k = 0;
-    while k < records {
+    for k in 0..records {
         let address = EACH * k;
-        let end = address + EACH;
         let head = [
             EACH as u8,
             (address / 256) as u8,
             (address % 256) as u8,
             DATA_RECORD,
         ];
-        next = put_record(out, next, &head, &image[address..end]);
-        k += 1;
+        let line = record(&head, &image[address..address + EACH]);
+        out[LINE * k..LINE * k + LINE].copy_from_slice(line.as_slice());
     }
-    let head = [0, 0, 0, END_RECORD];
-    put_record(out, next, &head, &image[..0]);
+    let end = record(&[0, 0, 0, END_RECORD], &[]);
+    out[LINE * records..LINE * records + END_LINE].copy_from_slice(end.as_slice());
 }
 
-// 0 and the text of a device's image, or a refusal and the buffer as it was.
-fn write_sized(size: usize, room: usize, image: &[u8], out: &mut [u8]) -> u8
-    requires { (size % 16 ≡ 0) × (size ≤ 65536) × (room ≡ text_size size) }
-    ensures { WriteHex size image.now out.old out.new result }
+// The text of a device's image; a refusal leaves the buffer as it was.
+pub fn write_hex(d: Device, image: &[u8], out: &mut [u8]) -> Result<(), Refusal>
+    ensures { WriteHex (image_size d) image.now out.old out.new result }
 {
-    if image.len() != size {
-        return IMAGE_OF_ANOTHER_SIZE;
+    if image.len() != image_size(d) {
+        return Err(Refusal::ImageOfAnotherSize);
     }
-    if out.len() < room {
-        return OUTPUT_BUFFER_UNDER_22540_BYTES;
+    if out.len() < text_size(d) {
+        return Err(Refusal::OutputBufferUnder22540Bytes);
     }
     write_text(image, out);
-    0
-}
-
-// Of the EM73862.
-pub fn write_hex(image: &[u8], out: &mut [u8]) -> u8
-    ensures { WriteHex 8192 image.now out.old out.new result }
-{
-    write_sized(IMAGE_SIZE, TEXT_SIZE, image, out)
-}
-
-// Of the EM73P982.
-pub fn write_p982_hex(image: &[u8], out: &mut [u8]) -> u8
-    ensures { WriteHex 16384 image.now out.old out.new result }
-{
-    write_sized(P982_IMAGE_SIZE, P982_TEXT_SIZE, image, out)
+    Ok(())
 }

@@ -1,11 +1,10 @@
 -- The operands of a row in its mnemonic's order, and where the row goes.
 use Rattle.std.specs.Prelude.{ℕ, ◌<◌, Bool, true, false, List, [], ◌∷◌, get_or}
+use Rattle.std.specs.Option.{unwrap_or}
 use Rattle.laws.specs.Among.{among}
 use Rattle.laws.specs.Choice.{pick}
 use Rattle.numbers.specs.Sizes.{addresses}
 use Rattle.sheet.specs.Fields.{field_a, field_b}
-use Rattle.sheet.specs.Operation.{Operation}
-use Rattle.sheet.specs.Operation.Operation.{work, branch, call, return, return_flag, IL⟵IL-and-r, no_operation}
 use Rattle.sheet.specs.Table.{line_at}
 use Rattle.sheet.specs.declared.Insn.{Insn}
 use Rattle.text.specs.Digits.{characters}
@@ -30,6 +29,10 @@ starts_with (s ∷ ss) = s
 unfoldable pub begins_in_b : ℕ → Bool
 begins_in_b row = starts_with (slots_in (mnemonic_of row))
 
+-- those rows: CLP, CLR, SEP, SET, TF, TFP, TT, TTP, INA, INM, OUTA and OUTM; `among_them` of proofs/Goes.antt
+abbrev pub from_b : List ℕ
+from_b = 57 ∷ 59 ∷ 61 ∷ 63 ∷ 64 ∷ 67 ∷ 69 ∷ 70 ∷ 74 ∷ 75 ∷ 77 ∷ 78 ∷ []
+
 abbrev pub operands_in : Insn → List Bool → List ℕ
 operands_in i [] = []
 operands_in i (s ∷ ss) = pick s i.b i.a ∷ operands_in i ss
@@ -38,18 +41,6 @@ operands_in i (s ∷ ss) = pick s i.b i.a ∷ operands_in i ss
 unfoldable pub operand_at : Insn → ℕ → ℕ
 operand_at i k = get_or (operands_in i (slots_in (mnemonic_of i.row))) k 0
 
-abbrev pub is_branch_or_call : Operation → Bool
-is_branch_or_call (work s t) = false
-is_branch_or_call (branch t) = true
-is_branch_or_call (call e) = true
-is_branch_or_call return = false
-is_branch_or_call return_flag = false
-is_branch_or_call (IL⟵IL-and-r e) = false
-is_branch_or_call no_operation = false
-
-unfoldable pub goes_somewhere : ℕ → Bool
-goes_somewhere row = is_branch_or_call (line_at row).operation
-
 -- "where it goes if it is a branch or a call (8192 if neither)"
 unfoldable pub goes_from : ℕ → Insn → ℕ
-goes_from at i = pick (goes_somewhere i.row) (goes_to at i) addresses
+goes_from at i = unwrap_or (goes_to at i) addresses

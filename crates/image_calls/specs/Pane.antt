@@ -1,5 +1,5 @@
 -- What the calls of the pane answer, of an image of a device that is seen through the window of P3: include/em73862_pane.h and include/em73p982.h have their names. A primed name is what a call leaves where it was given the other.
-use Rattle.std.specs.Prelude.{ℕ, List, [], ◌++◌, ◌≡◌, eqb, ltb, length, drop}
+use Rattle.std.specs.Prelude.{ℕ, List, [], ◌++◌, ◌≡◌, eqb, ltb, length, drop, Result}
 use Rattle.laws.specs.Choice.{pick}
 use Rattle.numbers.specs.ComesBack.{Paper, value_at}
 use Rattle.device.specs.declared.Device.{Device}
@@ -7,7 +7,8 @@ use Rattle.reader.specs.Answer.{read_paper}
 use Rattle.notation.specs.Notation.{row_text}
 use Rattle.bound_calls.specs.CallAnswer.{CallAnswer}
 use Rattle.bound.specs.Answer.{paper_of as boundPaper}
-use Rattle.bound.specs.declared.Bounded.{Bounded}
+use Rattle.bound.specs.declared.Refused.{Refused}
+use Rattle.routines_bound.specs.declared.Greatest.{Greatest}
 use Rattle.image_calls.specs.Numbers.{insn_of}
 use Rattle.image_calls.specs.Operands.{operand_at, goes_from}
 
@@ -53,7 +54,7 @@ pub record NotationCall (d : Device) (image : List ℕ) (p3 address : ℕ) (buff
 
 -- _bound: path is N's buffer, deep the depth's
 pub record BoundCall (d : Device) (image : List ℕ) (p3 address : ℕ) (path deep : List ℕ) (number value depth : ℕ) (path' deep' : List ℕ) : Type 0 where
-  pub r : Bounded
+  pub r : Result Greatest Refused
   pub bounds : CallAnswer d image p3 address path path' deep deep' (boundPaper r)
   pub answer : number ≡ (boundPaper r).number
   pub given : value ≡ value_at (boundPaper r) 0

@@ -2,9 +2,8 @@
 use Rattle.std.specs.Prelude.{ℕ, ◌≡◌, length}
 use Rattle.numbers.specs.ComesBack.{Paper, value_at}
 use Rattle.sheet.specs.declared.Insn.{Insn}
-use Rattle.writer.specs.Writing.{Writes}
+use Rattle.writer.specs.Writing.{Written, Writes}
 use Rattle.writer.specs.Writing.{paper_of as codePaper}
-use Rattle.writer.specs.declared.Written.{Written}
 use Rattle.image_calls.specs.declared.write.WriteNumbers.{WriteNumbers}
 
 -- the writer's answer as the call hands it on

@@ -4,27 +4,26 @@
 
 pub mod write;
 
-ghost use Rattle.std.specs.Prelude.{◌≡◌, ◌<◌};
-ghost use Rattle.numbers.specs.ComesBack.{refused};
+ghost use Rattle.std.specs.Prelude.{◌≡◌, ◌<◌, IfOk};
+ghost use Rattle.laws.specs.Among.{among};
 ghost use Rattle.reader.specs.Answer.{paper_of, p3_given};
 ghost use Rattle.image_calls.specs.Numbers.{OfRead};
-ghost use Rattle.image_calls.specs.Operands.{Fits, begins_in_b, operand_at, goes_somewhere, goes_from};
-ghost use Rattle.image_calls.specs.Pane.{ReadCall, LengthCall, RowCall, NotationCall, BoundCall};
+ghost use Rattle.image_calls.specs.Operands.{Fits, from_b, operand_at, goes_from};
+ghost use Rattle.image_calls.specs.Pane.{goes_in, ReadCall, LengthCall, RowCall, NotationCall, BoundCall};
 
-use bound::bound;
+use bound::{BoundNumbers, bound};
 use device::Device;
-use numbers::{
-    ADDRESS_OVER_8191, IMAGE_OF_ANOTHER_SIZE, PAST_END, RECORD_OUTSIDE_THE_RANGES, UNASSIGNED_CODE,
-};
-use reader::{Answer, read};
+use numbers::Refusal;
+use reader::{Decoded, read};
 use sheet::flow::goes_to;
 use sheet::{Insn, rows};
+use text::text::Text;
 
 // A row has at most 16 characters; notation::row asks for room.
 const TEXT_ROOM: usize = 24;
 
 // "8192 if neither"
-const NOWHERE: u16 = 8192;
+const NOWHERE: u32 = 8192;
 
 // What the reader answers, as numbers.
 #[derive(Clone, Copy)]
@@ -42,57 +41,46 @@ pub struct Operands {
     pub second: u16,
 }
 
-fn no_row(number: u8) -> ReadNumbers
-    ensures { OfRead (refused number) result }
-{
-    ReadNumbers {
-        number: number,
-        insn: Insn { row: 0, a: 0, b: 0 },
-        bytes: 0,
-        cycles: 0,
-    }
-}
+impl From<Result<Decoded, Refusal>> for ReadNumbers {
+    ghost from_gives = { λ answer numbers. OfRead (paper_of answer) numbers };
 
-fn read_numbers(answer: Answer) -> ReadNumbers
-    ensures { OfRead (paper_of answer) result }
-{
-    match answer {
-        Answer::Row(d) => {
-            let insn = d.insn;
-            ReadNumbers {
+    fn from(answer: Result<Decoded, Refusal>) -> ReadNumbers {
+        match answer {
+            Ok(decoded) => ReadNumbers {
                 number: 0,
-                insn: insn,
-                bytes: d.bytes,
-                cycles: d.cycles,
-            }
+                insn: decoded.insn,
+                bytes: decoded.bytes,
+                cycles: decoded.cycles,
+            },
+            Err(refusal) => ReadNumbers {
+                number: u8::from(refusal),
+                insn: Insn { row: 0, a: 0, b: 0 },
+                bytes: 0,
+                cycles: 0,
+            },
         }
-        Answer::Unassigned => no_row(UNASSIGNED_CODE),
-        Answer::PastEnd => no_row(PAST_END),
-        Answer::ImageSize => no_row(IMAGE_OF_ANOTHER_SIZE),
-        Answer::P3Range => no_row(RECORD_OUTSIDE_THE_RANGES),
-        Answer::AddressRange => no_row(ADDRESS_OVER_8191),
     }
 }
 
 // Whether the first operand in a row's mnemonic is y or p.
 fn begins_in_b(row: u8) -> bool
-    ensures { result ≡ begins_in_b row }
+    ensures { result ≡ among from_b row }
 {
-    match row {
-        rows::CLP => true,
-        rows::CLR => true,
-        rows::SEP => true,
-        rows::SET => true,
-        rows::TF => true,
-        rows::TFP => true,
-        rows::TT => true,
-        rows::TTP => true,
-        rows::INA => true,
-        rows::INM => true,
-        rows::OUTA => true,
-        rows::OUTM => true,
-        _ => false,
-    }
+    matches!(
+        row,
+        rows::CLP
+            | rows::CLR
+            | rows::SEP
+            | rows::SET
+            | rows::TF
+            | rows::TFP
+            | rows::TT
+            | rows::TTP
+            | rows::INA
+            | rows::INM
+            | rows::OUTA
+            | rows::OUTM
+    )
 }
 
 // An operand that the row has not is 0.
@@ -102,27 +90,15 @@ fn in_order(insn: Insn) -> Operands
 {
     let b = insn.b as u16;
     if begins_in_b(insn.row) {
-        return Operands {
+        Operands {
             first: b,
             second: insn.a,
-        };
-    }
-    Operands {
-        first: insn.a,
-        second: b,
-    }
-}
-
-fn is_branch_or_call(row: u8) -> bool
-    ensures { result ≡ goes_somewhere row }
-{
-    match row {
-        rows::SBR => true,
-        rows::LBR => true,
-        rows::SLBR => true,
-        rows::LCALL => true,
-        rows::SCALL => true,
-        _ => false,
+        }
+    } else {
+        Operands {
+            first: insn.a,
+            second: b,
+        }
     }
 }
 
@@ -131,10 +107,18 @@ fn target(at: u16, insn: Insn) -> u16
     requires { (at < 8192) × (insn.a < 8192) }
     ensures { result ≡ goes_from at insn }
 {
-    if is_branch_or_call(insn.row) {
-        return goes_to(at, insn) as u16;
+    goes_to(at, insn).unwrap_or(NOWHERE) as u16
+}
+
+// Where the row that was read at an address goes; 0 with a refusal.
+fn destination(answer: Result<Decoded, Refusal>, address: u32) -> u16
+    requires { IfOk answer (λ decoded. (address < 8192) × (decoded.insn.a < 8192)) }
+    ensures { result ≡ goes_in (paper_of answer) address }
+{
+    match answer {
+        Ok(decoded) => target(address as u16, decoded.insn),
+        Err(_) => 0,
     }
-    NOWHERE
 }
 
 pub fn read_call(
@@ -148,7 +132,7 @@ pub fn read_call(
 ) -> u8
     ensures { ReadCall d image.now (p3_given d p3) address result row.new a.new b.new }
 {
-    let n = read_numbers(read(d, image, p3, address));
+    let n = ReadNumbers::from(read(d, image, p3, address));
     *row = n.insn.row;
     *a = n.insn.a;
     *b = n.insn.b;
@@ -165,7 +149,7 @@ pub fn length_call(
 ) -> u8
     ensures { LengthCall d image.now (p3_given d p3) address result bytes.new cycles.new }
 {
-    let n = read_numbers(read(d, image, p3, address));
+    let n = ReadNumbers::from(read(d, image, p3, address));
     *bytes = n.bytes;
     *cycles = n.cycles;
     n.number
@@ -185,20 +169,16 @@ pub fn row_call(
 ) -> u8
     ensures { RowCall d image.now (p3_given d p3) address result row.new first.new second.new goes.new bytes.new cycles.new }
 {
-    let n = read_numbers(read(d, image, p3, address));
-    let insn = n.insn;
-    let o = in_order(insn);
-    *row = insn.row;
-    *first = o.first;
-    *second = o.second;
+    let answer = read(d, image, p3, address);
+    let n = ReadNumbers::from(answer);
+    let operands = in_order(n.insn);
+    *row = n.insn.row;
+    *first = operands.first;
+    *second = operands.second;
+    *goes = destination(answer, address);
     *bytes = n.bytes;
     *cycles = n.cycles;
-    if n.number != 0 {
-        *goes = 0;
-        return n.number;
-    }
-    *goes = target(address as u16, insn);
-    0
+    n.number
 }
 
 pub fn notation_call(
@@ -211,19 +191,22 @@ pub fn notation_call(
 ) -> u8
     ensures { NotationCall d image.now (p3_given d p3) address text.old result length.new text.new }
 {
-    let n = read_numbers(read(d, image, p3, address));
-    if n.number != 0 {
-        *length = 0;
-        return n.number;
+    match read(d, image, p3, address) {
+        Ok(decoded) => {
+            let mut row = Text::<TEXT_ROOM>::new();
+            notation::row(&mut row, address as u16, decoded.insn);
+            let end = row.len();
+            *length = end as u32;
+            if end <= text.len() {
+                text[..end].copy_from_slice(row.as_slice());
+            }
+            0
+        }
+        Err(refusal) => {
+            *length = 0;
+            u8::from(refusal)
+        }
     }
-    let insn = n.insn;
-    let mut room = [0u8; TEXT_ROOM];
-    let end = notation::row(&mut room, 0, address as u16, insn);
-    *length = end as u32;
-    if end <= text.len() {
-        text[..end].copy_from_slice(&room[..end]);
-    }
-    0
 }
 
 pub fn bound_call(
@@ -238,7 +221,7 @@ pub fn bound_call(
 ) -> u8
     ensures { BoundCall d image.now (p3_given d p3) address path.old deep.old result value.new depth.new path.new deep.new }
 {
-    let n = bound::numbers_of(bound(d, image, p3, address, path, deep));
+    let n = BoundNumbers::from(bound(d, image, p3, address, path, deep));
     *value = n.value as u32;
     *depth = n.depth as u32;
     n.number

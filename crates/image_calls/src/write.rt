@@ -3,9 +3,9 @@ ghost use Rattle.std.specs.Prelude.{◌≡◌};
 ghost use Rattle.writer.specs.Writing.{paper_of as codePaper, from_paper as codeFrom};
 ghost use Rattle.image_calls.specs.Write.{OfWrite, WriteCall};
 
-use numbers::NOT_TO_BE_WRITTEN;
+use numbers::Refusal;
 use sheet::Insn;
-use writer::{Written, write};
+use writer::{Code, write};
 
 // What the writer answers, as numbers.
 #[derive(Clone, Copy)]
@@ -17,25 +17,26 @@ pub struct WriteNumbers {
     pub b2: u8,
 }
 
-fn write_numbers(code: Written) -> WriteNumbers
-    requires { codeFrom (codePaper code) ≡ code }
-    ensures { OfWrite (codePaper code) result }
-{
-    match code {
-        Written::Bytes(c) => WriteNumbers {
-            number: 0,
-            count: c.len,
-            b0: c.b0,
-            b1: c.b1,
-            b2: c.b2,
-        },
-        Written::Refused => WriteNumbers {
-            number: NOT_TO_BE_WRITTEN,
-            count: 0,
-            b0: 0,
-            b1: 0,
-            b2: 0,
-        },
+impl From<Result<Code, Refusal>> for WriteNumbers {
+    ghost from_gives = { λ answer numbers. codeFrom (codePaper answer) ≡ answer → OfWrite (codePaper answer) numbers };
+
+    fn from(answer: Result<Code, Refusal>) -> WriteNumbers {
+        match answer {
+            Ok(code) => WriteNumbers {
+                number: 0,
+                count: code.len,
+                b0: code.b0,
+                b1: code.b1,
+                b2: code.b2,
+            },
+            Err(refusal) => WriteNumbers {
+                number: u8::from(refusal),
+                count: 0,
+                b0: 0,
+                b1: 0,
+                b2: 0,
+            },
+        }
     }
 }
 
@@ -50,12 +51,7 @@ pub fn write_call(
 ) -> u8
     ensures { WriteCall (record { row = row; a = a; b = b }) result length.new b0.new b1.new b2.new }
 {
-    let insn = Insn {
-        row: row,
-        a: a,
-        b: b,
-    };
-    let n = write_numbers(write(insn));
+    let n = WriteNumbers::from(write(Insn { row, a, b }));
     *length = n.count;
     *b0 = n.b0;
     *b1 = n.b1;

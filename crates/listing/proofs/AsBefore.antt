@@ -7,14 +7,13 @@ use native.Mathlib.Decide.{ℕ_discrete}
 use borrow.Author.Tests.{ne_eqb}
 use lib.Dec.{eqb}
 use lib.ListN.{length}
+use Rattle.std.specs.Prelude.{Option, Some, None}
 use Rattle.laws.specs.Choice.{pick}
 use Rattle.laws.proofs.Computed.{true→T}
 use Rattle.device.specs.Device.{image_size, rom_of}
 use Rattle.device.specs.declared.Device.{Device}
 use Rattle.device.specs.declared.Options.{Options}
 use Rattle.frame.specs.Frame.{frame_of}
-use Rattle.frame.specs.declared.Frame.{Frame}
-use Rattle.frame.specs.declared.Frame.TheVariants.{Seen, NoFrame}
 use Rattle.frame.specs.declared.Pins.{Pins}
 use Rattle.record.specs.declared.Machine.{Machine}
 use Rattle.record.specs.Start.{fresh_machine}
@@ -83,9 +82,9 @@ module _ (rom : ℕ → ℕ → ℕ) (o : Options) (m : Machine) (pins : Pins) (
   step-alike (no z) = stopped (is_running m.core.mode) refl z
 
 module _ (d : Device) (rom : ℕ → ℕ → ℕ) where
-  line-alike : (m : Machine) (f : Frame) → m.core.mark ≡ false → Alike (frame_answer d rom m f) (frame_answer_before d rom m f)
-  line-alike m (Seen pins) free = step-alike rom (options d) m pins free (ℕ_discrete (step_of rom (options d) m pins).stop 0)
-  line-alike m NoFrame free = record { text = refl; ends = refl; machine = λ _. refl; unmarked = λ f. absurd (true→T (sym f)) }
+  line-alike : (m : Machine) (f : Option Pins) → m.core.mark ≡ false → Alike (frame_answer d rom m f) (frame_answer_before d rom m f)
+  line-alike m (Some pins) free = step-alike rom (options d) m pins free (ℕ_discrete (step_of rom (options d) m pins).stop 0)
+  line-alike m None free = record { text = refl; ends = refl; machine = λ _. refl; unmarked = λ f. absurd (true→T (sym f)) }
 
   told_by : (a b : Answer) (ls : List (List ℕ)) (t : Bool) → a.ends ≡ t → Alike a b → ((n : Machine) → n.core.mark ≡ false → told_over d rom n ls ≡ told_before d rom n ls)
       → a.text ++ pick a.ends [] (told_over d rom a.machine ls) ≡ b.text ++ pick b.ends [] (told_before d rom b.machine ls)

@@ -6,11 +6,11 @@ use Prim.Native.Nat.{ℕ, ◌<◌}
 use native.Mathlib.Omega.{arith}
 use borrow.Author.Tests.{eq-eqb, ne_eqb}
 use lib.ListN.{length, drop}
+use Rattle.std.specs.Prelude.{None}
 use Rattle.laws.specs.Choice.{pick}
 use Rattle.device.specs.Device.{image_size, frame_size, digits_of, rom_of}
 use Rattle.device.specs.declared.Device.{Device}
 use Rattle.frame.specs.Frame.{frame_of}
-use Rattle.frame.specs.declared.Frame.TheVariants.{NoFrame}
 use Rattle.frame.proofs.Characters.{no_frame, not_seen}
 use Rattle.record.specs.Start.{fresh_machine}
 use Rattle.record.specs.declared.Machine.{Machine}
@@ -32,7 +32,7 @@ image_refused d image script n = rw (ne_eqb (length image) (image_size d) n)
 pub record Going (d : Device) (image script printed rest : List ℕ) (m : Machine) : Type 0 where
   pub so : printed ++ told_over d (rom_of image) m (lines_of rest) ≡ listing_of d image script
 
-too_long : (d : Device) (line : List ℕ) → frame_size d < length line → frame_of d line ≡ NoFrame
+too_long : (d : Device) (line : List ℕ) → frame_size d < length line → frame_of d line ≡ None
 too_long d line h = not_seen d line (no_frame (digits_of d) line (λ e. omega arith))
 
 bad_text : (d : Device) (rom : ℕ → ℕ → ℕ) (m : Machine) (line : List ℕ) (ls : List (List ℕ)) → frame_size d < length line → told_over d rom m (line ∷ ls) ≡ refused_line 3
@@ -53,7 +53,7 @@ module _ {d : Device} {image script : List ℕ} where
   going-first e = record { so = rw (eq-eqb (length image) (image_size d) e) }
 
   module _ {printed : List ℕ} {m : Machine} where
-    module _ (part future : List ℕ) {before after ram : List ℕ} {from : ℕ} {r : Fed} (g : Going d image script printed (part ++ future) m) (f : Feeds d (rom_of image) m part before after from ram r) where
+    module _ (part future : List ℕ) {before after ram : List ℕ} {room : ℕ} {r : Fed} (g : Going d image script printed (part ++ future) m) (f : Feeds d (rom_of image) m part before after room ram r) where
       pub going_on : r.ended ≡ false → Going d image script (printed ++ f.text) (drop r.used part ++ future) (assembled r.core ram)
       going_on z = record { so = rw append_assoc (ap (λ (l : List ℕ). printed ++ l) (sym (rw z at (f.told future))) ∙ g.so) }
 

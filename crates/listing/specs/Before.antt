@@ -1,12 +1,11 @@
 -- Request Q-4: "The runner and the run use both calls; where no step stops their answers are those of before." Document 01's own listing, over its own step (step/specs/Before.antt).
-use Rattle.std.specs.Prelude.{ℕ, List, [], ◌∷◌, ◌++◌, ◌≡◌, eqb, length}
+use Rattle.std.specs.Prelude.{ℕ, Option, Some, None, List, [], ◌∷◌, ◌++◌, ◌≡◌, eqb, length}
 use Rattle.laws.specs.Choice.{pick}
 use Rattle.numbers.specs.ComesBack.{image_of_another_size}
 use Rattle.device.specs.Device.{image_size, rom_of}
 use Rattle.device.specs.declared.Device.{Device}
 use Rattle.frame.specs.Frame.{frame_of}
-use Rattle.frame.specs.declared.Frame.{Frame}
-use Rattle.frame.specs.declared.Frame.TheVariants.{Seen, NoFrame}
+use Rattle.frame.specs.declared.Pins.{Pins}
 use Rattle.record.specs.Start.{fresh_machine}
 use Rattle.record.specs.declared.Machine.{Machine}
 use Rattle.step.specs.Before.{step_before}
@@ -15,9 +14,9 @@ use Rattle.listing.specs.Lines.{header}
 use Rattle.text.specs.Script.{lines_of}
 use Rattle.listing.specs.Listing.{options, Answer, step_answer, bad_answer, listing_of}
 
-abbrev pub frame_answer_before : Device → (ℕ → ℕ → ℕ) → Machine → Frame → Answer
-frame_answer_before d rom m (Seen pins) = step_answer (step_before rom (options d) m pins)
-frame_answer_before d rom m NoFrame = bad_answer m
+abbrev pub frame_answer_before : Device → (ℕ → ℕ → ℕ) → Machine → Option Pins → Answer
+frame_answer_before d rom m (Some pins) = step_answer (step_before rom (options d) m pins)
+frame_answer_before d rom m None = bad_answer m
 
 abbrev pub told_before : Device → (ℕ → ℕ → ℕ) → Machine → List (List ℕ) → List ℕ
 told_before d rom m [] = []

@@ -1,13 +1,12 @@
 -- Document 01, the runner's listing: what it prints for an image and a script.
-use Rattle.std.specs.Prelude.{ℕ, Bool, true, false, not, List, [], ◌∷◌, ◌++◌, eqb, length}
+use Rattle.std.specs.Prelude.{ℕ, Bool, true, false, not, Option, Some, None, List, [], ◌∷◌, ◌++◌, eqb, length}
 use Rattle.laws.specs.Choice.{pick}
 use Rattle.numbers.specs.ComesBack.{image_of_another_size, no_frame}
 use Rattle.device.specs.Device.{image_size, rom_of}
 use Rattle.device.specs.declared.Device.{Device}
 use Rattle.device.specs.declared.Options.{Options}
 use Rattle.frame.specs.Frame.{frame_of}
-use Rattle.frame.specs.declared.Frame.{Frame}
-use Rattle.frame.specs.declared.Frame.TheVariants.{Seen, NoFrame}
+use Rattle.frame.specs.declared.Pins.{Pins}
 use Rattle.record.specs.Start.{fresh_machine}
 use Rattle.record.specs.declared.Machine.{Machine}
 use Rattle.row.specs.Rows.{Done}
@@ -34,9 +33,9 @@ step_answer x = record { text = step_line x.machine.core x.cycles x.stop; machin
 abbrev pub bad_answer : Machine → Answer
 bad_answer m = record { text = refused_line no_frame; machine = m; ends = true }
 
-abbrev pub frame_answer : Device → (ℕ → ℕ → ℕ) → Machine → Frame → Answer
-frame_answer d rom m (Seen pins) = step_answer (step_of rom (options d) m pins)
-frame_answer d rom m NoFrame = bad_answer m
+abbrev pub frame_answer : Device → (ℕ → ℕ → ℕ) → Machine → Option Pins → Answer
+frame_answer d rom m (Some pins) = step_answer (step_of rom (options d) m pins)
+frame_answer d rom m None = bad_answer m
 
 unfoldable pub answer_of : Device → (ℕ → ℕ → ℕ) → Machine → List ℕ → Answer
 answer_of d rom m line = frame_answer d rom m (frame_of d line)

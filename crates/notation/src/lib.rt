@@ -144,7 +144,7 @@ fn marked<const N: usize>(out: &mut Text<N>, base: u32, places: u32, v: u32, mar
     out.put(mark);
 }
 
-fn port<const N: usize>(out: &mut Text<N>, p: u32)
+fn port<const N: usize>(out: &mut Text<N>, p: u64)
     requires { (p < 256) × (length out.old + 4 ≤ N) }
     ensures { out.new ≡ out.old ++ (characters "P" ++ decimalOf p) }
 {
@@ -165,7 +165,7 @@ fn sign<const N: usize>(out: &mut Text<N>, at: u16, insn: Insn, c: u8)
         b'x' => marked(out, 16, 2, a, b'h'),
         b'y' => marked(out, 16, 1, b, b'h'),
         b'b' => out.number(10, 1, a),
-        b'p' => port(out, b),
+        b'p' => port(out, u64::from(insn.b)),
         b'r' => marked(out, 2, 6, a, b'B'),
         b'a' => marked(out, 16, 4, goes_to(at, insn).unwrap_or(0), b'h'),
         _ => out.put(c),

@@ -71,10 +71,7 @@ pub fn fresh(d: Device) -> Machine
 fn reset_core(d: Device, m: Core) -> Core
     ensures { result ≡ reset_core d m }
 {
-    let regs = Registers {
-        sf: true,
-        ..m.regs
-    };
+    let regs = Registers { sf: true, ..m.regs };
     fresh_core(d, regs, m.ptrs)
 }
 

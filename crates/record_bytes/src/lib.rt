@@ -1,8 +1,7 @@
 // The record as 416 bytes, and back. The layout loses nothing: proofs/Tells.antt, `one_record`.
 #![tactic(auto)]
 
-ghost use Rattle.std.specs.Prelude.{◌≡◌, [], ◌∷◌, ◌+◌, ◌/◌, ◌%◌, ◌<◌, ◌≤◌, length, take, drop};
-ghost use Rattle.laws.specs.Decides.{Decides};
+ghost use Rattle.std.specs.Prelude.{◌≡◌, [], ◌∷◌, ◌+◌, ◌/◌, ◌%◌, ◌<◌, ◌≤◌, MatchOption, length, take, drop};
 ghost use Rattle.laws.specs.Writing.{Wrote};
 ghost use Rattle.bits.specs.Bits.{bit_of};
 ghost use Rattle.record_bytes.specs.Layout.{head_size, record_size, two, four, mode_number, nibbles_of, others_of, head_of, Holds};
@@ -128,34 +127,26 @@ fn from_four(a: u8, b: u8, c: u8, d: u8) -> u32
     u32::from_le_bytes([a, b, c, d])
 }
 
-fn flag(b: u8) -> bool
-    requires { b < 2 }
-    ensures { bit_of result ≡ b }
-{
-    b == 1
-}
-
-#[tactic(auto, unfolding(crate::specs::Layout::mode_number))]
-fn mode_of(b: u8) -> Mode
-    requires { b < 3 }
-    ensures { mode_number result ≡ b }
+fn flag(b: u8) -> Option<bool>
+    ensures { MatchOption result (2 ≤ b) (λ f. bit_of f ≡ b) }
 {
     match b {
-        0 => Mode::Running,
-        1 => Mode::Sleep,
-        _ => Mode::Hold,
+        0 => Some(false),
+        1 => Some(true),
+        _ => None,
     }
 }
 
-fn flags_fit(head: &[u8; HEAD_BYTES]) -> bool
-    ensures { Decides result (FlagsFit head.now) }
+#[tactic(auto, unfolding(crate::specs::Layout::mode_number))]
+fn mode_of(b: u8) -> Option<Mode>
+    ensures { MatchOption result (3 ≤ b) (λ mode. mode_number mode ≡ b) }
 {
-    head[24] < 2
-        && head[25] < 2
-        && head[26] < 2
-        && head[27] < 2
-        && head[36] < 3
-        && head[37] < 2
+    match b {
+        0 => Some(Mode::Running),
+        1 => Some(Mode::Sleep),
+        2 => Some(Mode::Hold),
+        _ => None,
+    }
 }
 
 fn ports_of(head: &[u8; HEAD_BYTES]) -> Ports
@@ -181,31 +172,29 @@ fn ports_of(head: &[u8; HEAD_BYTES]) -> Ports
     }
 }
 
-fn registers_of(head: &[u8; HEAD_BYTES]) -> Registers
-    requires { FlagsFit head.now }
-    ensures { RegistersAt head.now result }
+fn registers_of(head: &[u8; HEAD_BYTES]) -> Option<Registers>
+    ensures { MatchOption result (FlagsFit head.now → ⊥) (RegistersAt head.now) }
 {
-    Registers {
+    Some(Registers {
         acc: head[0],
         hr: head[1],
         lr: head[2],
-        cf: flag(head[24]),
-        zf: flag(head[25]),
-        sf: flag(head[26]),
-    }
+        cf: flag(head[24])?,
+        zf: flag(head[25])?,
+        sf: flag(head[26])?,
+    })
 }
 
 // The due source as its byte has it: whether it agrees with latches and mask is judged with the record.
-fn interrupts_at(head: &[u8; HEAD_BYTES]) -> Interrupts
-    requires { FlagsFit head.now }
-    ensures { InterruptsAt head.now result }
+fn interrupts_at(head: &[u8; HEAD_BYTES]) -> Option<Interrupts>
+    ensures { MatchOption result (FlagsFit head.now → ⊥) (InterruptsAt head.now) }
 {
-    Interrupts {
-        ei: flag(head[27]),
+    Some(Interrupts {
+        ei: flag(head[27])?,
         il: head[28],
         mask: head[4],
         due: head[38],
-    }
+    })
 }
 
 fn timers_of(head: &[u8; HEAD_BYTES]) -> Timers
@@ -218,31 +207,29 @@ fn timers_of(head: &[u8; HEAD_BYTES]) -> Timers
     }
 }
 
-fn core_of(head: &[u8; HEAD_BYTES]) -> Core
-    requires { (length head.now ≡ head_size) × (FlagsFit head.now) }
-    ensures { head.now ≡ head_of result }
+fn core_of(head: &[u8; HEAD_BYTES]) -> Option<Core>
+    requires { length head.now ≡ head_size }
+    ensures { MatchOption result (FlagsFit head.now → ⊥) (λ m. head.now ≡ head_of m) }
 {
-    let ptrs = Pointers {
-        sp: head[3],
-        dp: from_two(head[18], head[19]),
-    };
-    let pins = Pins {
-        p0: head[33],
-        p8: head[34],
-        p4: head[35],
-        speech: head[43],
-    };
-    Core {
-        regs: registers_of(head),
+    Some(Core {
+        regs: registers_of(head)?,
         pc: from_two(head[16], head[17]),
-        ptrs: ptrs,
-        ints: interrupts_at(head),
+        ptrs: Pointers {
+            sp: head[3],
+            dp: from_two(head[18], head[19]),
+        },
+        ints: interrupts_at(head)?,
         timers: timers_of(head),
         ports: ports_of(head),
-        pins: pins,
-        mode: mode_of(head[36]),
-        mark: flag(head[37]),
-    }
+        pins: Pins {
+            p0: head[33],
+            p8: head[34],
+            p4: head[35],
+            speech: head[43],
+        },
+        mode: mode_of(head[36])?,
+        mark: flag(head[37])?,
+    })
 }
 
 fn head_at(bytes: &[u8]) -> [u8; HEAD_BYTES]
@@ -270,12 +257,8 @@ pub fn unpack(bytes: &[u8]) -> Option<Machine>
     if bytes.len() != RECORD_BYTES {
         return None;
     }
-    let head = head_at(bytes);
-    if !flags_fit(&head) {
-        return None;
-    }
     Some(Machine {
-        core: core_of(&head),
+        core: core_of(&head_at(bytes))?,
         ram: ram_at(bytes),
     })
 }

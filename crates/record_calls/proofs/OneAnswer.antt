@@ -2,25 +2,25 @@
 use Prim.Native.Nat.{ℕ}
 use mathlib.Core.List.{List}
 use mathlib.Core.Path.{◌≡◌, sym, ap, subst, ◌∙◌}
+use Rattle.std.specs.Prelude.{Result}
 use Rattle.numbers.specs.ComesBack.{record_outside_the_ranges}
+use Rattle.numbers.specs.declared.Refusal.{Refusal}
 use Rattle.device.specs.declared.Device.{Device}
 use Rattle.record.specs.Valid.{Valid}
 use Rattle.record.specs.declared.Machine.{Machine}
-use Rattle.record.specs.declared.start.AfterReset.{AfterReset}
 use Rattle.record.proofs.start.Starting.{reset_determined}
 use Rattle.record.proofs.valid.Validity.{valid?}
 use Rattle.record_bytes.specs.Layout.{record_bytes}
 use Rattle.record_bytes.proofs.Tells.{one_record}
 use Rattle.device.specs.declared.Options.{Options}
-use Rattle.step.specs.declared.Stepped.{Stepped}
-use Rattle.step.specs.Answers.{StepOf}
+use Rattle.step.specs.Answers.{StepPaper, StepOf}
 use Rattle.step.proofs.Answering.{one_answer as one-stepped}
 use Rattle.step.specs.Apart.{LookOf, ActOf}
 use Rattle.step.proofs.apart.Answering.{one_look as one-looked, one_act as one-acted}
-use Rattle.run.specs.declared.Ran.{Ran}
+use Rattle.run.specs.Run.{RunPaper}
 use Rattle.run.proofs.Answering.{one_answer as one-ran}
 use Rattle.display.proofs.Answers.{one_answer as one-shown}
-use Rattle.record_calls.specs.Calls.{Judged, no_record, record_of, unheld, FreshCall, wrong_length, fresh, ResetCall, ValidAnswer, ValidCall, NotStepped, Answers, StepCall, LookCall, ActCall, RunCall, DisplayCall}
+use Rattle.record_calls.specs.Calls.{number_of, left_by_reset, Judged, no_record, record_of, unheld, FreshCall, wrong_length, fresh, ResetCall, ValidAnswer, ValidCall, NotStepped, Answers, StepCall, LookCall, ActCall, RunCall, DisplayCall}
 
 -- two values that are each f of something, where the somethings are equal
 pub via : {A B : Type 0} (f : A → B) {x y : A} {a b : B} → x ≡ y → a ≡ f x → b ≡ f y → a ≡ b
@@ -46,12 +46,12 @@ module _ {d : Device} {bytes : List ℕ} {n n' : ℕ} {z z' : List ℕ} where
   pub one-reset : ResetCall d bytes n z → ResetCall d bytes n' z' → (n ≡ n') × (z ≡ z')
   one-reset =
       judged (λ a b. (agree a.refusal b.refusal, agree a.kept b.kept))
-      (λ m a b. let e : a.r ≡ b.r = reset_determined d m a.r b.r a.resets b.resets in (via (λ (r : AfterReset). r.refusal) e a.refusal b.refusal, via (λ (r : AfterReset). record_bytes r.machine) e a.left b.left))
+      (λ m a b. let e : a.r ≡ b.r = reset_determined d m a.r b.r a.resets b.resets in (via number_of e a.refusal b.refusal, via (λ (r : Result Machine Refusal). record_bytes (left_by_reset m r)) e a.left b.left))
 
   pub one-display : {dots : List ℕ} → DisplayCall d bytes dots n z → DisplayCall d bytes dots n' z' → (n ≡ n') × (z ≡ z')
   one-display {dots} =
       judged (λ a b. (agree a.refusal b.refusal, agree a.kept b.kept))
-      (λ m a b. one-shown d m dots z z' n n' a b)
+      (λ m a b. let s = one-shown d m dots z z' a.r b.r a.shows b.shows in (via number_of s.0 a.refusal b.refusal, s.1))
 
 valid_by : {d : Device} {m : Machine} {n n' : ℕ} → ValidAnswer d m n → ValidAnswer d m n' → Dec (Valid d m) → n ≡ n'
 valid_by a b (yes v) = agree (a.inside v) (b.inside v)
@@ -62,12 +62,12 @@ one_valid {d} = judged agree (λ m a b. valid_by a b (valid? d m))
 
 module _ {bytes : List ℕ} {n n' c c' : ℕ} {z z' : List ℕ} where
   -- of a promise with one answer
-  one-promised : (refusal : ℕ) (P : Machine → Stepped → Type 0) → ((m : Machine) (r s : Stepped) → P m r → P m s → r ≡ s)
+  one-promised : (refusal : ℕ) (P : Machine → StepPaper → Type 0) → ((m : Machine) (r s : StepPaper) → P m r → P m s → r ≡ s)
       → Judged bytes (NotStepped refusal bytes n c z) (λ m. Answers (P m) n c z) → Judged bytes (NotStepped refusal bytes n' c' z') (λ m. Answers (P m) n' c' z')
       → (n ≡ n') × (c ≡ c') × (z ≡ z')
   one-promised refusal P one =
       judged (λ a b. (agree a.refused b.refused, agree a.none b.none, agree a.kept b.kept))
-      (λ m a b. let e : a.r ≡ b.r = one m a.r b.r a.promised b.promised in (via (λ (r : Stepped). r.number) e a.answer b.answer, via (λ (r : Stepped). r.cycles) e a.spent b.spent, via (λ (r : Stepped). record_bytes r.machine) e a.left b.left))
+      (λ m a b. let e : a.r ≡ b.r = one m a.r b.r a.promised b.promised in (via (λ (r : StepPaper). r.number) e a.answer b.answer, via (λ (r : StepPaper). r.cycles) e a.spent b.spent, via (λ (r : StepPaper). record_bytes r.machine) e a.left b.left))
 
 module _ {image : List ℕ} {o : Options} {bytes frames : List ℕ} {n n' c c' : ℕ} {z z' : List ℕ} where
   pub one_step : StepCall image o bytes frames n c z → StepCall image o bytes frames n' c' z' → (n ≡ n') × (c ≡ c') × (z ≡ z')
@@ -86,4 +86,4 @@ module _ {image : List ℕ} {o : Options} {bytes frames : List ℕ} {n n' c c' :
   one-run =
       judged
       (λ a b. (agree a.refusal b.refusal, agree a.no_steps b.no_steps, agree a.no_cycles b.no_cycles, agree a.kept b.kept))
-      (λ m a b. let e : a.r ≡ b.r = one-ran image o m frames a.r b.r a.runs b.runs in (via (λ (r : Ran). r.number) e a.answer b.answer, via (λ (r : Ran). r.steps) e a.made b.made, via (λ (r : Ran). r.cycles) e a.spent b.spent, via (λ (r : Ran). record_bytes r.machine) e a.left b.left))
+      (λ m a b. let e : a.r ≡ b.r = one-ran image o m frames a.r b.r a.runs b.runs in (via (λ (r : RunPaper). r.number) e a.answer b.answer, via (λ (r : RunPaper). r.steps) e a.made b.made, via (λ (r : RunPaper). r.cycles) e a.spent b.spent, via (λ (r : RunPaper). record_bytes r.machine) e a.left b.left))

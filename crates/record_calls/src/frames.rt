@@ -1,10 +1,38 @@
 // A run of frames on the bytes of a record.
-ghost use Rattle.record_calls.specs.Calls.{options_of, RunCall};
+ghost use Rattle.std.specs.Prelude.{◌≡◌, OnOk, length};
+ghost use Rattle.record_bytes.specs.Layout.{record_size};
+ghost use Rattle.record_calls.specs.Calls.{options_of, RunPutBack, RunCall};
 
-use crate::{options_of, refusal};
+use crate::{options_of, stop_or_0, unheld};
 use device::Device;
+use numbers::Refusal;
 use record_bytes::{pack, unpack};
-use run::run;
+use run::{Ran, run};
+
+// What a run gives goes back to where its record came from; a refusal leaves the record's bytes as they were.
+fn put_back(
+    answer: Result<Ran, Refusal>,
+    bytes: &mut [u8],
+    steps: &mut u32,
+    cycles: &mut u32,
+) -> u8
+    requires { OnOk answer (length bytes.old ≡ record_size) }
+    ensures { RunPutBack answer bytes.old result steps.new cycles.new bytes.new }
+{
+    match answer {
+        Ok(x) => {
+            *steps = x.steps;
+            *cycles = x.cycles;
+            pack(x.machine, bytes);
+            stop_or_0(x.stop)
+        }
+        Err(refusal) => {
+            *steps = 0;
+            *cycles = 0;
+            u8::from(refusal)
+        }
+    }
+}
 
 // The run by the device, which em73862_run and em73p982_run hand on to.
 pub fn run_record(
@@ -19,15 +47,9 @@ pub fn run_record(
 ) -> u8
     ensures { RunCall image.now (options_of d wake sound) bytes.old frames.now result steps.new cycles.new bytes.new }
 {
-    let u = unpack(bytes);
-    if u.held {
-        let r = run(image, options_of(d, wake, sound), u.machine, frames);
-        *steps = r.steps;
-        *cycles = r.cycles;
-        pack(r.machine, bytes);
-        return r.number;
-    }
-    *steps = 0;
-    *cycles = 0;
-    refusal(d, image)
+    let answer = match unpack(bytes) {
+        Some(m) => run(image, options_of(d, wake, sound), m, frames),
+        None => Err(unheld(d, image)),
+    };
+    put_back(answer, bytes, steps, cycles)
 }

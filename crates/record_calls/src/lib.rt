@@ -6,26 +6,31 @@ pub mod compare;
 pub mod frames;
 pub mod why;
 
-ghost use Rattle.std.specs.Prelude.{◌≡◌};
-ghost use Rattle.record_calls.specs.Calls.{unheld, options_of, FreshCall, ResetCall, ValidCall, StepCall, LookCall, ActCall, DisplayCall};
+ghost use Rattle.std.specs.Prelude.{◌≡◌, OnOk, length};
+ghost use Rattle.numbers.specs.Numbered.{refusal_number};
+ghost use Rattle.record_bytes.specs.Layout.{record_size};
+ghost use Rattle.step.specs.Advance.{stop_or_0};
+ghost use Rattle.record_calls.specs.Calls.{unheld, options_of, number_of, PutBack, FreshCall, ResetCall, ValidCall, StepCall, LookCall, ActCall, DisplayCall};
 
 use device::{Device, Options, image_size};
 use display::display;
-use numbers::{IMAGE_OF_ANOTHER_SIZE, RECORD_OUTSIDE_THE_RANGES};
+use numbers::{Refusal, Stop};
 use record::start::{fresh, reset};
 use record::valid::is_valid;
 use record_bytes::{RECORD_BYTES, pack, unpack};
+use step::Stepped;
 use step::apart::{act, look};
 use step::step;
 
 // The refusal of a buffer that holds no record, where there is an image too.
-pub fn refusal(d: Device, image: &[u8]) -> u8
-    ensures { result ≡ unheld d image.now }
+pub(crate) fn unheld(d: Device, image: &[u8]) -> Refusal
+    ensures { refusal_number result ≡ unheld d image.now }
 {
     if image.len() == image_size(d) {
-        return RECORD_OUTSIDE_THE_RANGES;
+        Refusal::RecordOutsideTheRanges
+    } else {
+        Refusal::ImageOfAnotherSize
     }
-    IMAGE_OF_ANOTHER_SIZE
 }
 
 pub fn options_of(d: Device, wake: u8, sound: u8) -> Options
@@ -33,44 +38,72 @@ pub fn options_of(d: Device, wake: u8, sound: u8) -> Options
 {
     Options {
         device: d,
-        wake: wake,
+        wake,
         sound: sound != 0,
+    }
+}
+
+// The number of a stop, 0 where there is none.
+pub(crate) fn stop_or_0(stop: Option<Stop>) -> u8
+    ensures { result ≡ stop_or_0 stop }
+{
+    match stop {
+        Some(stop) => u8::from(stop),
+        None => 0,
+    }
+}
+
+// What a step gives goes back to where its record came from; a refusal leaves the record's bytes as they were.
+fn put_back(answer: Result<Stepped, Refusal>, bytes: &mut [u8], cycles: &mut u32) -> u8
+    requires { OnOk answer (length bytes.old ≡ record_size) }
+    ensures { PutBack answer bytes.old result cycles.new bytes.new }
+{
+    match answer {
+        Ok(x) => {
+            *cycles = u32::from(x.cycles);
+            pack(x.machine, bytes);
+            stop_or_0(x.stop)
+        }
+        Err(refusal) => {
+            *cycles = 0;
+            u8::from(refusal)
+        }
     }
 }
 
 pub fn fresh_record(d: Device, bytes: &mut [u8]) -> u8
     ensures { FreshCall d bytes.old result bytes.new }
 {
-    if bytes.len() != RECORD_BYTES {
-        return RECORD_OUTSIDE_THE_RANGES;
+    if bytes.len() == RECORD_BYTES {
+        pack(fresh(d), bytes);
+        0
+    } else {
+        u8::from(Refusal::RecordOutsideTheRanges)
     }
-    pack(fresh(d), bytes);
-    0
 }
 
 pub fn reset_record(d: Device, bytes: &mut [u8]) -> u8
     ensures { ResetCall d bytes.old result bytes.new }
 {
-    let u = unpack(bytes);
-    if u.held {
-        let r = reset(d, u.machine);
-        pack(r.machine, bytes);
-        return r.refusal;
+    let Some(m) = unpack(bytes) else {
+        return u8::from(Refusal::RecordOutsideTheRanges);
+    };
+    match reset(d, m) {
+        Ok(after) => {
+            pack(after, bytes);
+            0
+        }
+        Err(refusal) => u8::from(refusal),
     }
-    RECORD_OUTSIDE_THE_RANGES
 }
 
 pub fn judge_record(d: Device, bytes: &[u8]) -> u8
     ensures { ValidCall d bytes.now result }
 {
-    let u = unpack(bytes);
-    if u.held {
-        if is_valid(d, u.machine) {
-            return 0;
-        }
-        return RECORD_OUTSIDE_THE_RANGES;
+    match unpack(bytes) {
+        Some(m) if is_valid(d, m) => 0,
+        _ => u8::from(Refusal::RecordOutsideTheRanges),
     }
-    RECORD_OUTSIDE_THE_RANGES
 }
 
 pub fn step_record(
@@ -84,15 +117,11 @@ pub fn step_record(
 ) -> u8
     ensures { StepCall image.now (options_of d wake sound) bytes.old frame.now result cycles.new bytes.new }
 {
-    let u = unpack(bytes);
-    if u.held {
-        let r = step(image, options_of(d, wake, sound), u.machine, frame);
-        *cycles = r.cycles as u32;
-        pack(r.machine, bytes);
-        return r.number;
-    }
-    *cycles = 0;
-    refusal(d, image)
+    let answer = match unpack(bytes) {
+        Some(m) => step(image, options_of(d, wake, sound), m, frame),
+        None => Err(unheld(d, image)),
+    };
+    put_back(answer, bytes, cycles)
 }
 
 pub fn look_record(
@@ -105,15 +134,11 @@ pub fn look_record(
 ) -> u8
     ensures { LookCall (options_of d wake sound) bytes.old frame.now result cycles.new bytes.new }
 {
-    let u = unpack(bytes);
-    if u.held {
-        let r = look(options_of(d, wake, sound), u.machine, frame);
-        *cycles = r.cycles as u32;
-        pack(r.machine, bytes);
-        return r.number;
-    }
-    *cycles = 0;
-    RECORD_OUTSIDE_THE_RANGES
+    let answer = match unpack(bytes) {
+        Some(m) => look(options_of(d, wake, sound), m, frame),
+        None => Err(Refusal::RecordOutsideTheRanges),
+    };
+    put_back(answer, bytes, cycles)
 }
 
 pub fn act_record(
@@ -126,23 +151,21 @@ pub fn act_record(
 ) -> u8
     ensures { ActCall image.now (options_of d wake sound) bytes.old result cycles.new bytes.new }
 {
-    let u = unpack(bytes);
-    if u.held {
-        let r = act(image, options_of(d, wake, sound), u.machine);
-        *cycles = r.cycles as u32;
-        pack(r.machine, bytes);
-        return r.number;
-    }
-    *cycles = 0;
-    refusal(d, image)
+    let answer = match unpack(bytes) {
+        Some(m) => act(image, options_of(d, wake, sound), m),
+        None => Err(unheld(d, image)),
+    };
+    put_back(answer, bytes, cycles)
 }
 
 pub fn show_record(d: Device, bytes: &[u8], dots: &mut [u8]) -> u8
     ensures { DisplayCall d bytes.now dots.old result dots.new }
 {
-    let u = unpack(bytes);
-    if u.held {
-        return display(d, u.machine, dots);
+    let Some(m) = unpack(bytes) else {
+        return u8::from(Refusal::RecordOutsideTheRanges);
+    };
+    match display(d, m, dots) {
+        Ok(()) => 0,
+        Err(refusal) => u8::from(refusal),
     }
-    RECORD_OUTSIDE_THE_RANGES
 }

@@ -1,57 +1,41 @@
 // Executing one row: the arm is found by the row's group. What it gives is what the definition of crate row says.
 #![tactic(auto)]
 
-mod keeps;
-mod lends;
+mod groups;
 
-ghost use Rattle.std.specs.Prelude.{◌≡◌, ◌<◌};
-ghost use Rattle.sheet.specs.Fields.{InFields};
+ghost use Rattle.std.specs.Prelude.{◌≡◌, ◌+◌, ◌<◌};
 ghost use Rattle.device.specs.Device.{rom_of};
-ghost use Rattle.row_dispatch.specs.Groups.{InGroup, Packs};
 ghost use Rattle.row_dispatch.specs.Performs.{Ready, Performs, turn_of, turn_by};
 
 use device::Options;
 use device::image::Window;
-use keeps::{from_pointer, quiet};
-use lends::{read, turn, write};
+use groups::{Group, group_of};
 use numbers::Stop;
 use record::{Core, Ram};
 use row::Turn;
+use row_control::calls::call;
+use row_control::latches::latch;
+use row_control::returns::come_back;
 use row_ends::Act;
 use row_pointers::Pointed;
+use row_pointers::loads::{load_pointer, load_timer};
+use row_pointers::rom::{load_high, load_low};
+use row_pointers::stores::{store_pointer, store_timer};
+use row_ports::memory::{read_to_cell, write_from_cell};
+use row_ports::reads::read_row;
+use row_ports::writes::write_row;
+use row_ram::read_hl::read_by_hl;
+use row_ram::read_x::read_by_x;
+use row_ram::read_y::read_by_y;
+use row_ram::write_hl::write_by_hl;
+use row_ram::write_x::write_by_x;
+use row_ram::write_y::write_by_y;
+use row_ram_pair::{exchange_pair, load_pair};
+use row_registers::asks::asked;
+use row_registers::branches::branched;
+use row_registers::makes::made;
+use row_registers::moves::moved;
 use sheet::Insn;
-
-// The groups of the eight rows from row 8n on, a byte a row from the lowest up, and 25 for what is no row. They are found by a match: an array that is indexed is stored to the stack at each use.
-fn groups_from(n: u8) -> u64
-    requires { n < 14 }
-    ensures { Packs n result }
-{
-    match n {
-        0 => 0x00_09_00_11_10_06_07_19,
-        1 => 0x00_0A_0C_0A_0A_0A_0B_00,
-        2 => 0x01_06_01_0C_06_01_01_00,
-        3 => 0x0A_01_01_0A_01_01_0A_01,
-        4 => 0x06_01_0A_06_01_0A_06_01,
-        5 => 0x03_0D_0A_00_00_0B_06_0A,
-        6 => 0x02_02_02_06_07_08_03_03,
-        7 => 0x0C_15_15_0A_0C_15_15_0A,
-        8 => 0x14_16_08_16_16_06_02_08,
-        9 => 0x02_18_15_15_17_16_13_14,
-        10 => 0x02_13_12_12_12_12_02_02,
-        11 => 0x05_05_05_05_04_04_04_04,
-        12 => 0x0F_0F_0E_0E_0E_0E_05_05,
-        _ => 0x19_19_19_19_0F_0F_0F_0F,
-    }
-}
-
-fn group_of(i: Insn) -> u8
-    requires { InFields i }
-    ensures { InGroup result i }
-{
-    let eight = groups_from(i.row / 8);
-    let at = 8 * (i.row % 8);
-    ((eight >> at) % 256) as u8
-}
 
 // The scalars with what a row changed of them.
 fn with_act(m: Core, x: Act) -> Turn
@@ -82,7 +66,14 @@ fn with_pointed(m: Core, x: Pointed) -> Turn
     }
 }
 
-#[tactic(auto, using(crate::proofs::Arms::acted, crate::proofs::Arms::stopped, crate::proofs::Arms::settled_acted, crate::proofs::Arms::settled_stopped))]
+// The byte at 1000h + DP.
+fn rom_byte(window: Window, m: Core) -> u8
+    requires { m.ptrs.dp < 4096 }
+    ensures { result ≡ rom_of window.entry.bytes.now window.entry.p3 (0x1000 + m.ptrs.dp) }
+{
+    window.byte(0x1000 + m.ptrs.dp)
+}
+
 pub fn perform(
     window: Window,
     options: Options,
@@ -94,10 +85,30 @@ pub fn perform(
     ensures { Performs (rom_of window.entry.bytes.now window.entry.p3) options m i ram.old ram.new result }
 {
     match group_of(i) {
-        group @ 0..6 => Ok(with_act(m, quiet(m, i, group)?)),
-        group @ 6..10 => Ok(with_act(m, read(m, ram, i, group)?)),
-        group @ 10..14 => Ok(with_act(m, write(m, ram, i, group)?)),
-        group @ 14..18 => Ok(with_pointed(m, from_pointer(window, m, i, group)?)),
-        group => turn(options, m, ram, i, group),
+        Group::Moves => Ok(with_act(m, moved(m, i.row, i.a as u8))),
+        Group::Makes => Ok(with_act(m, made(m, i.row, i.a as u8))),
+        Group::Asks => Ok(with_act(m, asked(m, i.row, i.a as u8))),
+        Group::Branches => Ok(with_act(m, branched(m, i.row, i.a))),
+        Group::GetPointer => Ok(with_act(m, load_pointer(m, i.row)?)),
+        Group::GetTimer => Ok(with_act(m, load_timer(m, i.row)?)),
+        Group::ReadByHl => Ok(with_act(m, read_by_hl(m, ram, i)?)),
+        Group::ReadByX => Ok(with_act(m, read_by_x(m, ram, i)?)),
+        Group::ReadByY => Ok(with_act(m, read_by_y(m, ram, i)?)),
+        Group::LoadPair => Ok(with_act(m, load_pair(m, ram, i)?)),
+        Group::WriteByHl => Ok(with_act(m, write_by_hl(m, ram, i)?)),
+        Group::WriteByX => Ok(with_act(m, write_by_x(m, ram, i)?)),
+        Group::WriteByY => Ok(with_act(m, write_by_y(m, ram, i)?)),
+        Group::SwapPair => Ok(with_act(m, exchange_pair(m, ram, i)?)),
+        Group::SetPointer => Ok(with_pointed(m, store_pointer(m, i.row)?)),
+        Group::SetTimer => Ok(with_pointed(m, store_timer(m, i.row)?)),
+        Group::RomLow => Ok(with_pointed(m, load_low(m, rom_byte(window, m)))),
+        Group::RomHigh => Ok(with_pointed(m, load_high(m, rom_byte(window, m)))),
+        Group::Latches => Ok(latch(m, i.row, i.a as u8)),
+        Group::Returns => come_back(m, ram, i.row),
+        Group::Calls => call(m, ram, i.row, i.a),
+        Group::WritePort => write_row(options, m, i.row, i.a as u8, i.b),
+        Group::ReadPort => read_row(options, m, i.row, i.a as u8, i.b),
+        Group::PortToCell => read_to_cell(options, m, ram, i.b),
+        Group::CellToPort => write_from_cell(options, m, ram, i.b),
     }
 }

@@ -14,14 +14,13 @@ use Rattle.frame.specs.declared.Pins.{Pins}
 use Rattle.record.specs.declared.Machine.{Machine}
 use Rattle.step.specs.Step.{step_of}
 use Rattle.device.specs.declared.Options.{Options}
-use Rattle.run.specs.Run.{run_over, run_of}
-use Rattle.run.specs.declared.Ran.{Ran}
+use Rattle.run.specs.Run.{RunPaper, run_over, run_of}
 
 -- a run with steps and cycles before it
-abbrev pub later : ℕ → ℕ → Ran → Ran
+abbrev pub later : ℕ → ℕ → RunPaper → RunPaper
 later steps cycles r = record { number = r.number; steps = steps + r.steps; cycles = cycles + r.cycles; machine = r.machine }
 
-later_twice : (steps cycles more : ℕ) (r : Ran) → later (suc steps) (cycles + more) r ≡ later steps cycles (later 1 (0 + more) r)
+later_twice : (steps cycles more : ℕ) (r : RunPaper) → later (suc steps) (cycles + more) r ≡ later steps cycles (later 1 (0 + more) r)
 later_twice steps cycles more r =
     let s : suc steps + r.steps ≡ steps + (1 + r.steps) = omega arith in
     let c : cycles + more + r.cycles ≡ cycles + (0 + more + r.cycles) = omega arith in
@@ -31,7 +30,7 @@ later_twice steps cycles more r =
 later_stopped : (number steps cycles : ℕ) (m : Machine) → record { number = number; steps = steps; cycles = cycles; machine = m } ≡ later steps cycles (record { number = number; steps = 0; cycles = 0; machine = m })
 later_stopped number steps cycles m = rw (add-zero steps, add-zero cycles)
 
-later_picked : (t : Bool) (number steps cycles : ℕ) (m : Machine) (r q : Ran) → r ≡ later steps cycles q
+later_picked : (t : Bool) (number steps cycles : ℕ) (m : Machine) (r q : RunPaper) → r ≡ later steps cycles q
     → pick t r (record { number = number; steps = steps; cycles = cycles; machine = m }) ≡ later steps cycles (pick t q (record { number = number; steps = 0; cycles = 0; machine = m }))
 later_picked true number steps cycles m r q e = e
 later_picked false number steps cycles m r q e = later_stopped number steps cycles m

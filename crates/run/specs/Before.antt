@@ -5,17 +5,16 @@ use Rattle.frame.specs.declared.Pins.{Pins}
 use Rattle.record.specs.declared.Machine.{Machine}
 use Rattle.step.specs.Before.{step_before}
 use Rattle.device.specs.declared.Options.{Options}
-use Rattle.run.specs.Run.{run_of}
-use Rattle.run.specs.declared.Ran.{Ran}
+use Rattle.run.specs.Run.{RunPaper, run_of}
 
-abbrev pub run_over_before : (ℕ → ℕ → ℕ) → Options → List Pins → ℕ → ℕ → Machine → Ran
+abbrev pub run_over_before : (ℕ → ℕ → ℕ) → Options → List Pins → ℕ → ℕ → Machine → RunPaper
 run_over_before rom o [] steps cycles m = record { number = 0; steps = steps; cycles = cycles; machine = m }
 run_over_before rom o (pins ∷ others) steps cycles m =
     pick (eqb (step_before rom o m pins).stop 0)
     (run_over_before rom o others (suc steps) (cycles + (step_before rom o m pins).cycles) (step_before rom o m pins).machine)
     (record { number = (step_before rom o m pins).stop; steps = steps; cycles = cycles; machine = m })
 
-unfoldable pub run_before : (ℕ → ℕ → ℕ) → Options → Machine → List Pins → Ran
+unfoldable pub run_before : (ℕ → ℕ → ℕ) → Options → Machine → List Pins → RunPaper
 run_before rom o m frames = run_over_before rom o frames 0 0 m
 
 -- of a record without a mark, where no step stops

@@ -1,5 +1,5 @@
 -- One word more of a schedule, one round more, one block more.
-use Rattle.std.proofs.Common.{◌≡◌, ℕ, ◌+◌, ◌*◌, ◌<◌, List, [], ◌∷◌, ◌++◌, length, get_or, take, set, refl, add-one, take-suc, take-suc-set}
+use Rattle.std.proofs.Common.{◌≡◌, ℕ, ◌+◌, ◌*◌, ◌<◌, List, [], ◌∷◌, ◌++◌, length, get_or, take, set, refl, add-one, take-suc-set}
 use Rattle.sha256.specs.Sha256.{next_word, schedule, round, rounds, constants, after_block, after_blocks, initial}
 use Rattle.sha256.specs.declared.State.{State}
 
@@ -31,8 +31,3 @@ no_block bytes = refl
 pub word_written : (bytes : List ℕ) (from t : ℕ) (w : List ℕ) (next : ℕ) → t < length w → take t w ≡ schedule bytes from t → next ≡ next_word bytes from t (take t w)
     → take (t + 1) (set w t next) ≡ schedule bytes from (t + 1)
 word_written bytes from t w next h before e = rw (one_word, add-one, take-suc-set w t next, e, before) refl
-
--- a byte written behind those that are right
-pub byte_written : (wanted l : List ℕ) (i byte : ℕ) → i < length l → i < length wanted → take i l ≡ take i wanted → byte ≡ get_or wanted i 0
-    → take (i + 1) (set l i byte) ≡ take (i + 1) wanted
-byte_written wanted l i byte h k before e = rw (add-one, take-suc-set l i byte, take-suc wanted i 0, before, e) refl

@@ -61,11 +61,9 @@ fn scheduled(message: &[u8], from: usize) -> [u32; 64]
     ensures { result ≡ schedule (padded message.now) from 64 }
 {
     let mut w = [0u32; 64];
-    let mut t = 0;
-    while t < 64 {
+    for t in 0..64 {
         let next = next_word(message, from, &w, t);
         w[t] = next;
-        t += 1;
     }
     w
 }
@@ -103,10 +101,8 @@ fn all_rounds(before: State, w: &[u32; 64]) -> State
     ensures { result ≡ rounds w.now before 64 }
 {
     let mut s = before;
-    let mut t = 0;
-    while t < 64 {
+    for t in 0..64 {
         s = one_round(s, CONSTANTS[t], w[t]);
-        t += 1;
     }
     s
 }
@@ -153,22 +149,11 @@ fn hash(message: &[u8]) -> State
     requires { length message.now < 2 ^ 32 }
     ensures { result ≡ hash_of message.now }
 {
-    let count = blocks(message.len());
     let mut s = start();
-    let mut i = 0;
-    while i < count {
+    for i in 0..blocks(message.len()) {
         s = take_block(s, message, 64 * i);
-        i += 1;
     }
     s
-}
-
-// The byte of a word that k bytes follow.
-fn word_byte(word: u32, k: u32) -> u8
-    requires { k < 4 }
-    ensures { result ≡ word / 2 ^ (8 * k) % 256 }
-{
-    ((word >> 8 * k) % 256) as u8
 }
 
 fn write_words(s: State, digest: &mut [u8])
@@ -176,11 +161,8 @@ fn write_words(s: State, digest: &mut [u8])
     ensures { digest.new ≡ joined (words_of s) }
 {
     let words = [s.a, s.b, s.c, s.d, s.e, s.f, s.g, s.h];
-    let mut i = 0;
-    while i < DIGEST_BYTES {
-        let byte = word_byte(words[i / 4], (3 - i % 4) as u32);
-        digest[i] = byte;
-        i += 1;
+    for (i, word) in words.iter().enumerate() {
+        digest[4 * i..4 * i + 4].copy_from_slice(&word.to_be_bytes());
     }
 }
 

@@ -36,19 +36,14 @@ fn padded_byte(message: &[u8], at: usize) -> u8
     length_byte(length, end - 1 - at)
 }
 
-fn wide(b: u8) -> u32
-    ensures { (result ≡ b) × (result < 256) }
-{
-    b as u32
-}
-
 pub fn word_at(message: &[u8], at: usize) -> u32
     requires { (length message.now < 2 ^ 32) × (at + 3 < length (padded message.now)) }
     ensures { result ≡ word_at (padded message.now) at }
 {
-    let first = wide(padded_byte(message, at));
-    let second = wide(padded_byte(message, at + 1));
-    let third = wide(padded_byte(message, at + 2));
-    let fourth = wide(padded_byte(message, at + 3));
-    ((first * 256 + second) * 256 + third) * 256 + fourth
+    u32::from_be_bytes([
+        padded_byte(message, at),
+        padded_byte(message, at + 1),
+        padded_byte(message, at + 2),
+        padded_byte(message, at + 3),
+    ])
 }

@@ -2,12 +2,10 @@
 ghost use Rattle.std.specs.Prelude.{◌≡◌, ◌<◌};
 ghost use Rattle.sha256.specs.Sha256.{rotr, ch, maj, big_sigma0, big_sigma1, small_sigma0, small_sigma1, sum};
 
-use std::num::wrapping_add_u32;
-
 pub fn add(x: u32, y: u32) -> u32
     ensures { result ≡ sum x y }
 {
-    wrapping_add_u32(x, y)
+    x.wrapping_add(y)
 }
 
 fn rotated(x: u32, n: u32) -> u32

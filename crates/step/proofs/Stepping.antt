@@ -1,10 +1,12 @@
 -- A step by its two ways: a running record sees the frame and acts, another one only looks.
-use mathlib.Core.Path.{◌≡◌, refl}
+use mathlib.Core.Path.{◌≡◌, refl, ◌∙◌}
 use mathlib.Core.Bool.{true, false}
 use mathlib.Core.List.{List}
 use Prim.Native.Nat.{ℕ}
 use native.Mathlib.Nat.{add-zero, zero-add}
+use Rattle.std.specs.Prelude.{None, Result, Ok, Err}
 use Rattle.laws.proofs.Choices.{both_false}
+use Rattle.numbers.specs.declared.Stop.{Stop}
 use Rattle.frame.specs.Frame.{PinsInRange}
 use Rattle.frame.specs.declared.Pins.{Pins}
 use Rattle.record.specs.Valid.{ValidCore}
@@ -19,7 +21,8 @@ use Rattle.step_look.proofs.LookValid.{seen_valid, running_is, waited_marked}
 use Rattle.step_act.specs.Act.{act_of}
 use Rattle.step_act.specs.Runs.{Runs}
 use Rattle.step.specs.Step.{look_step, unmarked, act_step, step_of}
-use Rattle.row.specs.Turns.{Gives}
+use Rattle.step.specs.Advance.{acted, done_by, Advances}
+use Rattle.row.specs.Turns.{done_as, Gives}
 use Rattle.device.specs.declared.Device.{Device}
 use Rattle.device.specs.declared.Options.{Options}
 
@@ -65,9 +68,14 @@ module _ (rom : ℕ → ℕ → ℕ) (o : Options) (m : Machine) (pins : Pins) w
   unfolding step_of
   step_waits t = rw (look-waits t, act-passes rom o asleep (waited_marked o.wake m.core pins), add-zero (waited o.wake m.core pins).cycles)
 
+-- what acting gave, the scalars that it was given among it, is what the step gives
+pub acted-done : (m : Core) (k : List ℕ) (x : Result Turn Stop) → done_by (acted m x) k ≡ done_as m x k
+acted-done m k (Ok x) = refl
+acted-done m k (Err s) = refl
+
 module _ (rom : ℕ → ℕ → ℕ) (o : Options) (m : Core) (l : List ℕ) (pins : Pins) where
-  pub waits : (v : Looked) → v ≡ waited o.wake m pins → is_running m.mode ≡ false → Gives (step_of rom o (assembled m l) pins) l (record { stop = 0; cycles = v.cycles; core = core_with_mark v.core false })
+  pub waits : (v : Looked) → v ≡ waited o.wake m pins → is_running m.mode ≡ false → Advances (step_of rom o (assembled m l) pins) l (record { stop = None; cycles = v.cycles; core = core_with_mark v.core false })
   waits v e t = record { same = rw (step_waits rom o (assembled m l) pins t, ← e) }
 
-  pub runs : (core : Core) → core ≡ seen o.device m pins → is_running m.mode ≡ true → (k : List ℕ) (x : Turn) → Gives (act_of rom o (assembled core l)) k x → Gives (step_of rom o (assembled m l) pins) k x
-  runs core e t k x g = record { same = rw (step-runs rom o (assembled m l) pins t, ← e) g.same }
+  pub runs : (core : Core) → core ≡ seen o.device m pins → is_running m.mode ≡ true → (k : List ℕ) (x : Result Turn Stop) → Gives (act_of rom o (assembled core l)) core k x → Advances (step_of rom o (assembled m l) pins) k (acted core x)
+  runs core e t k x g = record { same = rw (step-runs rom o (assembled m l) pins t, ← e) (acted-done core k x ∙ g.same) }

@@ -7,8 +7,9 @@ use Rattle.laws.proofs.Choices.{picked_by}
 use Rattle.numbers.specs.ComesBack.{stack_level}
 use Rattle.device.specs.declared.Device.{Device}
 use Rattle.device.specs.declared.Options.{Options}
-use Rattle.sheet.specs.Reading.{read_at}
-use Rattle.sheet.specs.declared.Read.{Read}
+use Rattle.std.specs.Prelude.{Ok, Err}
+use Rattle.sheet.specs.Reading.{Read, read_at}
+use Rattle.sheet.specs.declared.NoRow.{NoRow}
 use Rattle.reader.proofs.Rows.{read-in-fields}
 use Rattle.clock.specs.Clock.{InRange}
 use Rattle.clock.proofs.Ranges.{passed_in_range}
@@ -51,11 +52,11 @@ module _ (rom : ℕ → ℕ → ℕ) (options : Options) (m : Machine) (valid : 
       (λ q. accepted_valid m source valid (can-push (T→true (can_push m.core) q)) h) valid
 
   read_valid : (r : Read) → read_at (shown rom m) m.core.pc ≡ r → Valid options.device (run_read (shown rom m) options m r).machine
-  read_valid (Read.Row i) e =
+  read_valid (Ok i) e =
       let f = read-in-fields (shown rom m) m.core.pc i e (bytes m.core.ports.p3) in
       executed-valid (record { rom = shown rom m; options = options; insn = i }) m valid running (bytes m.core.ports.p3) f.row f.a
-  read_valid Read.Unassigned e = valid
-  read_valid Read.PastEnd e = valid
+  read_valid (Err NoRow.Unassigned) e = valid
+  read_valid (Err NoRow.PastEnd) e = valid
 
   run-valid : Valid options.device (run_one rom options m).machine
   unfolding run_one

@@ -5,9 +5,10 @@ use lib.Dec.{ltb}
 use Rattle.laws.proofs.Choices.{picked}
 use Rattle.numbers.specs.ComesBack.{stack_level}
 use Rattle.device.specs.declared.Options.{Options}
-use Rattle.sheet.specs.Reading.{read_at}
+use Rattle.std.specs.Prelude.{Ok, Err}
+use Rattle.sheet.specs.Reading.{Read, read_at}
 use Rattle.sheet.specs.Table.{line_at}
-use Rattle.sheet.specs.declared.Read.{Read}
+use Rattle.sheet.specs.declared.NoRow.{NoRow}
 use Rattle.clock.specs.Clock.{passed}
 use Rattle.ports.specs.declared.Mode.{Mode}
 use Rattle.due.specs.Due.{due_number}
@@ -27,7 +28,7 @@ abbrev Marked : Machine → Done → Type 0
 Marked m x = x.machine.core.mark ≡ m.core.mark
 
 -- the due source of the record agrees with latches and mask
-abbrev Agrees : Core → Type 0
+abbrev pub Agrees : Core → Type 0
 Agrees m = m.ints.due ≡ due_number m.ints.il m.ints.mask
 
 in_mode_none : (mode : Mode) (m : Core) → Agrees m → core_in mode 0 m ≡ m
@@ -37,7 +38,7 @@ in_mode_none Mode.Sleep m a = refl
 in_mode_none Mode.Hold m a = refl
 
 -- no cycles, no time
-none_passes : (m : Core) → Agrees m → core_after 0 m ≡ m
+pub none_passes : (m : Core) → Agrees m → core_after 0 m ≡ m
 unfolding core_after
 none_passes m a = in_mode_none m.mode m a
 
@@ -58,10 +59,10 @@ module _ (rom : ℕ → ℕ → ℕ) (options : Options) (m : Machine) where
       (λ z. absurd (z refl)) (λ z. refl)
 
   read_keeps : (r : Read) → Keeps m (run_read (shown rom m) options m r)
-  read_keeps (Read.Row i) =
+  read_keeps (Ok i) =
       λ z. stop_undone m (record { rom = shown rom m; options = options; insn = i }) (line_at i.row) (line_at i.row).operation z
-  read_keeps Read.Unassigned = λ z. refl
-  read_keeps Read.PastEnd = λ z. refl
+  read_keeps (Err NoRow.Unassigned) = λ z. refl
+  read_keeps (Err NoRow.PastEnd) = λ z. refl
 
   turn-keeps : Keeps m (accept_or_run rom options m)
   unfolding accept_or_run run_one
@@ -80,10 +81,10 @@ module _ (rom : ℕ → ℕ → ℕ) (options : Options) (m : Machine) where
   accept-marked source = picked (Marked m) (can_push m.core) (spent 2 (accepted m source)) (stops stack_level m) refl refl
 
   read-marked : (r : Read) → Marked m (run_read (shown rom m) options m r)
-  read-marked (Read.Row i) =
+  read-marked (Ok i) =
       performed_mark m (record { rom = shown rom m; options = options; insn = i }) (line_at i.row) (line_at i.row).operation
-  read-marked Read.Unassigned = refl
-  read-marked Read.PastEnd = refl
+  read-marked (Err NoRow.Unassigned) = refl
+  read-marked (Err NoRow.PastEnd) = refl
 
   turn-marked : Marked m (accept_or_run rom options m)
   unfolding accept_or_run run_one

@@ -1,12 +1,11 @@
 -- Document 01, "One step": what a running record does once it has seen the frame. It accepts an interrupt or executes one row; then time passes.
-use Rattle.std.specs.Prelude.{ℕ, ltb}
+use Rattle.std.specs.Prelude.{ℕ, ltb, Ok, Err}
 use Rattle.laws.specs.Choice.{pick}
 use Rattle.bits.specs.Bits.{has_bit}
-use Rattle.numbers.specs.ComesBack.{stack_level}
+use Rattle.numbers.specs.ComesBack.{unassigned_code, stack_level, past_end}
 use Rattle.device.specs.declared.Options.{Options}
-use Rattle.sheet.specs.Reading.{read_at}
-use Rattle.sheet.specs.declared.Read.{Read}
-use Rattle.reader.specs.Answer.{stop_of}
+use Rattle.sheet.specs.Reading.{Read, read_at}
+use Rattle.sheet.specs.declared.NoRow.{NoRow}
 use Rattle.clock.specs.Clock.{passed}
 use Rattle.clock.specs.declared.Rates.{Rates}
 use Rattle.ports.specs.declared.Mode.{Mode}
@@ -28,9 +27,9 @@ accept_of m source =
 
 -- "Otherwise one instruction runs."; what is no row stops with its number, 30 or 35
 abbrev pub run_read : (ℕ → ℕ) → Options → Machine → Read → Done
-run_read rom options m (Read.Row i) = executed (record { rom = rom; options = options; insn = i }) m
-run_read rom options m Read.Unassigned = stops (stop_of Read.Unassigned) m
-run_read rom options m Read.PastEnd = stops (stop_of Read.PastEnd) m
+run_read rom options m (Ok i) = executed (record { rom = rom; options = options; insn = i }) m
+run_read rom options m (Err NoRow.Unassigned) = stops unassigned_code m
+run_read rom options m (Err NoRow.PastEnd) = stops past_end m
 
 -- Q-6: the ROM as the record's P3 shows it
 abbrev pub shown : (ℕ → ℕ → ℕ) → Machine → ℕ → ℕ

@@ -15,8 +15,8 @@ use Rattle.bits.specs.Bits.{highest_bit, without_bit}
 use Rattle.numbers.specs.ComesBack.{Paper, answered, refused, stack_level}
 use Rattle.device.specs.Device.{image_size, rom_of}
 use Rattle.device.specs.declared.Options.{Options}
+use Rattle.std.specs.Prelude.{Option, Some, None}
 use Rattle.frame.specs.Frame.{PinsInRange, frame_of}
-use Rattle.frame.specs.declared.Frame.{Frame}
 use Rattle.frame.specs.declared.Pins.{Pins}
 use Rattle.due.specs.Due.{due_source, latch_of_source}
 use Rattle.due.proofs.Sources.{number_tells}
@@ -31,8 +31,7 @@ use Rattle.step_look.proofs.LookValid.{waited_marked}
 use Rattle.step_act.specs.Act.{source_of, accept_of, run_one, accept_or_run, after_time, act_of}
 use Rattle.step_act.proofs.Stops.{act-keeps}
 use Rattle.step.specs.Step.{look_step, unmarked, step_of}
-use Rattle.step.specs.Answers.{stepped, StepOf}
-use Rattle.step.specs.declared.Stepped.{Stepped}
+use Rattle.step.specs.Answers.{StepPaper, stepped, StepOf}
 use Rattle.step.proofs.Answering.{seen_in_range}
 use Rattle.step.proofs.StepValid.{look_valid}
 use Rattle.step.proofs.Stepping.{step-runs, step_waits}
@@ -263,15 +262,15 @@ accepted_by (Reason.Accepted x) s t e =
 not_refused : {p : Paper} {l : List ℕ} (k : ℕ) → p ≡ refused (suc k) → p ≡ answered l → ⊥
 not_refused {p} k e q = let z : suc k ≡ 0 = ap (λ (x : Paper). x.number) (sym e ∙ q) in omega arith
 
-module _ (image : List ℕ) (o : Options) (m : Machine) (frame : List ℕ) (p : Paper) (r : Stepped) (w : WhyAnswer image o m frame p) (s : StepOf image o m frame r) where
+module _ (image : List ℕ) (o : Options) (m : Machine) (frame : List ℕ) (p : Paper) (r : StepPaper) (w : WhyAnswer image o m frame p) (s : StepOf image o m frame r) where
   abbrev Accepting : ℕ → Type 0
-  Accepting source = (pins : Pins) × (frame_of o.device frame ≡ Frame.Seen pins) × StepAccepts o m pins (rom_of image) source × (r ≡ stepped (after_time (spent 2 (accepted (sighted o m pins) source))))
+  Accepting source = (pins : Pins) × (frame_of o.device frame ≡ Some pins) × StepAccepts o m pins (rom_of image) source × (r ≡ stepped (after_time (spent 2 (accepted (sighted o m pins) source))))
 
-  tells-by : (source waiting : ℕ) → p ≡ answered (6 ∷ source ∷ waiting ∷ []) → Dec (length image ≡ image_size o.device) → Dec (Valid o.device m) → (f : Frame) → frame_of o.device frame ≡ f → Accepting source
+  tells-by : (source waiting : ℕ) → p ≡ answered (6 ∷ source ∷ waiting ∷ []) → Dec (length image ≡ image_size o.device) → Dec (Valid o.device m) → (f : Option Pins) → frame_of o.device frame ≡ f → Accepting source
   tells-by source waiting q (no n) v f e = absurd (not_refused 0 (w.refused_1 n) q)
   tells-by source waiting q (yes l) (no n) f e = absurd (not_refused 1 (w.refused_2 l n) q)
-  tells-by source waiting q (yes l) (yes v) Frame.NoFrame e = absurd (not_refused 2 (w.refused_3 l v e) q)
-  tells-by source waiting q (yes l) (yes v) (Frame.Seen pins) e =
+  tells-by source waiting q (yes l) (yes v) None e = absurd (not_refused 2 (w.refused_3 l v e) q)
+  tells-by source waiting q (yes l) (yes v) (Some pins) e =
       let same : values_of (why_of o m.core pins) ≡ 6 ∷ source ∷ waiting ∷ [] = ap (λ (x : Paper). x.values) (sym (w.says l v pins e) ∙ q) in
       let a = ((answer_tells_step o m pins v (seen_in_range o.device frame pins e)).last_exactly (rom_of image)).only_then source (waiting, accepted_by (why_of o m.core pins) source waiting same) in
       (pins, e, a, s.steps l v pins e ∙ ap stepped a.is-acceptance)

@@ -43,6 +43,12 @@ module _ (il mask : ℕ) (six : il < 64) (four : mask < 16) where
       eqb→eq (due_source il mask) 6
       (modus (eqb (due_set il mask) 0) (eqb (due_source il mask) 6) (each_at (λ il mask. implies (eqb (due_set il mask) 0) (eqb (due_source il mask) 6)) tt il mask six four) (true→T (eq-eqb (due_set il mask) 0 e)))
 
+  pub due-none : due_source il mask ≡ 6 → due_set il mask ≡ 0
+  unfolding due_source due_set
+  due-none e =
+      eqb→eq (due_set il mask) 0
+      (modus (eqb (due_source il mask) 6) (eqb (due_set il mask) 0) (each_at (λ il mask. implies (eqb (due_source il mask) 6) (eqb (due_set il mask) 0)) tt il mask six four) (true→T (eq-eqb (due_source il mask) 6 e)))
+
   pub some-due : (due_set il mask ≡ 0 → ⊥) → ltb (due_source il mask) 6 ≡ true
   unfolding due_source due_set
   some-due n =

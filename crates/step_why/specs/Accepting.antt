@@ -1,12 +1,11 @@
 -- Request Q-7: what the answer says of the step. "The last holds exactly when the step accepts that source."
-use Rattle.std.specs.Prelude.{ℕ, ◌<◌, true, not, List, [], ◌∷◌, ◌≡◌, ltb, length}
+use Rattle.std.specs.Prelude.{ℕ, Some, ◌<◌, true, not, List, [], ◌∷◌, ◌≡◌, ltb, length}
 use Rattle.laws.specs.Choice.{both}
 use Rattle.bits.specs.Bits.{highest_bit}
 use Rattle.numbers.specs.ComesBack.{Paper, answered, stack_level}
 use Rattle.device.specs.Device.{image_size, rom_of}
 use Rattle.device.specs.declared.Options.{Options}
 use Rattle.frame.specs.Frame.{PinsInRange, frame_of}
-use Rattle.frame.specs.declared.Frame.{Frame}
 use Rattle.frame.specs.declared.Pins.{Pins}
 use Rattle.due.specs.Due.{due_source, latch_of_source}
 use Rattle.record.specs.Stack.{can_push, CanPush, accepted}
@@ -16,8 +15,7 @@ use Rattle.row.specs.Rows.{Done, spent, stops}
 use Rattle.step_look.specs.Look.{is_running}
 use Rattle.step_act.specs.Act.{source_of, run_one, after_time}
 use Rattle.step.specs.Step.{look_step, unmarked, step_of}
-use Rattle.step.specs.Answers.{stepped, StepOf}
-use Rattle.step.specs.declared.Stepped.{Stepped}
+use Rattle.step.specs.Answers.{StepPaper, stepped, StepOf}
 use Rattle.step_why.specs.declared.Reason.{Reason}
 use Rattle.step_why.specs.declared.Taken.{Taken}
 use Rattle.step_why.specs.Why.{due_set, why_of}
@@ -88,12 +86,12 @@ abbrev pub AnswerTellsStep : Type 0
 AnswerTellsStep = (o : Options) (m : Machine) (pins : Pins) → Valid o.device m → PinsInRange o.device pins → WhyTells o m pins
 
 -- the same of what the calls why and step answer, p and r: why answers "accepted, with the source" exactly where neither refuses and the step accepts that source, and then the step answers it
-pub record AnswersTell (image : List ℕ) (o : Options) (m : Machine) (frame : List ℕ) (p : Paper) (r : Stepped) : Type 0 where
+pub record AnswersTell (image : List ℕ) (o : Options) (m : Machine) (frame : List ℕ) (p : Paper) (r : StepPaper) : Type 0 where
   pub only_then : (source waiting : ℕ) → p ≡ answered (6 ∷ source ∷ waiting ∷ [])
-      → (pins : Pins) × (frame_of o.device frame ≡ Frame.Seen pins) × StepAccepts o m pins (rom_of image) source × (r ≡ stepped (after_time (spent 2 (accepted (sighted o m pins) source))))
-  pub always_then : length image ≡ image_size o.device → Valid o.device m → (pins : Pins) → frame_of o.device frame ≡ Frame.Seen pins → (source : ℕ) → StepAccepts o m pins (rom_of image) source
+      → (pins : Pins) × (frame_of o.device frame ≡ Some pins) × StepAccepts o m pins (rom_of image) source × (r ≡ stepped (after_time (spent 2 (accepted (sighted o m pins) source))))
+  pub always_then : length image ≡ image_size o.device → Valid o.device m → (pins : Pins) → frame_of o.device frame ≡ Some pins → (source : ℕ) → StepAccepts o m pins (rom_of image) source
       → (waiting : ℕ) × (p ≡ answered (6 ∷ source ∷ waiting ∷ []))
 
 -- of any answers that conform
 abbrev pub CallsTellAlike : Type 0
-CallsTellAlike = (image : List ℕ) (o : Options) (m : Machine) (frame : List ℕ) (p : Paper) (r : Stepped) → WhyAnswer image o m frame p → StepOf image o m frame r → AnswersTell image o m frame p r
+CallsTellAlike = (image : List ℕ) (o : Options) (m : Machine) (frame : List ℕ) (p : Paper) (r : StepPaper) → WhyAnswer image o m frame p → StepOf image o m frame r → AnswersTell image o m frame p r

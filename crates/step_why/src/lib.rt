@@ -1,4 +1,4 @@
-// Why an interrupt was taken or not: for any image, options, record and frame which of six reasons holds for that step, or a refusal by number.
+// Why an interrupt was taken or not: for any image, options, record and frame which of six reasons holds for that step, or a refusal.
 #![tactic(auto)]
 
 ghost use Rattle.std.specs.Prelude.{◌≡◌, ◌<◌};
@@ -8,12 +8,13 @@ ghost use Rattle.step_why.specs.Why.{due_set, why_seen, why_of};
 ghost use Rattle.step_why.specs.Answers.{paper_of, WhyAnswer};
 
 use bits::{weight, without_bit};
-use device::{Options, image_size};
+use device::Options;
 use due::due_source;
-use frame::{Frame, Pins, frame_of};
+use frame::{Pins, frame_of};
+use numbers::Refusal;
 use record::stack::can_push;
-use record::valid::is_valid;
-use record::{Core, Machine};
+use record::{Core, Interrupts, Machine};
+use step::judged;
 use step_look::{is_running, seen};
 
 // The source that is accepted, by its latch's number, and the due ones that must wait.
@@ -34,15 +35,6 @@ pub enum Reason {
     Accepted(Taken),
 }
 
-// What the call answers; specs/Answers.antt gives document 01's number and values for each.
-#[derive(Clone, Copy)]
-pub enum Answer {
-    ImageSize,
-    RecordRange,
-    NoFrame,
-    Holds(Reason),
-}
-
 // The latches that their mask bits allow: IL5, MASK2 at IL3, MASK1 at IL2 and IL1, MASK0 at IL0.
 fn due_set(il: u8, mask: u8) -> u8
     requires { (il < 64) × (mask < 16) }
@@ -56,25 +48,32 @@ fn why_seen(m: Core) -> Reason
     requires { ValidInterrupts m.ints }
     ensures { result ≡ why_seen m }
 {
-    if !m.ints.ei {
+    let Interrupts {
+        ei,
+        il,
+        mask,
+        due: _,
+    } = m.ints;
+    if !ei {
         return Reason::Disabled;
     }
-    let il = m.ints.il;
     if il == 0 {
         return Reason::Nothing;
     }
-    let due = due_set(il, m.ints.mask);
-    if due == 0 {
-        return Reason::Masked(il);
+    let due = due_set(il, mask);
+    match due_source(il, mask) {
+        None => Reason::Masked(il),
+        Some(source) => {
+            if can_push(m) {
+                Reason::Accepted(Taken {
+                    source,
+                    waiting: without_bit(due, weight(source)),
+                })
+            } else {
+                Reason::Level(due)
+            }
+        }
     }
-    if !can_push(m) {
-        return Reason::Level(due);
-    }
-    let source = due_source(il, m.ints.mask);
-    Reason::Accepted(Taken {
-        source: source,
-        waiting: without_bit(due, weight(source)),
-    })
 }
 
 // Of a record and the frame that it is about to see.
@@ -82,28 +81,18 @@ pub fn why_of(options: Options, m: Core, new: Pins) -> Reason
     requires { (ValidCore options.device m) × (PinsInRange options.device new) }
     ensures { result ≡ why_of options m new }
 {
-    let mode = m.mode;
-    if is_running(mode) {
-        let d = options.device;
-        return why_seen(seen(d, m, new));
+    if is_running(m.mode) {
+        why_seen(seen(options.device, m, new))
+    } else {
+        Reason::Waiting
     }
-    Reason::Waiting
 }
 
 // The public call.
-pub fn why(image: &[u8], options: Options, m: Machine, frame: &[u8]) -> Answer
+pub fn why(image: &[u8], options: Options, m: Machine, frame: &[u8]) -> Result<Reason, Refusal>
     ensures { WhyAnswer image.now options m frame.now (paper_of result) }
 {
-    let d = options.device;
-    if image.len() != image_size(d) {
-        return Answer::ImageSize;
-    }
-    if !is_valid(d, m) {
-        return Answer::RecordRange;
-    }
-    let Frame::Seen(pins) = frame_of(d, frame) else {
-        return Answer::NoFrame;
-    };
-    let core = m.core;
-    Answer::Holds(why_of(options, core, pins))
+    judged(image, options.device, m)?;
+    let pins = frame_of(options.device, frame).ok_or(Refusal::NoFrame)?;
+    Ok(why_of(options, m.core, pins))
 }

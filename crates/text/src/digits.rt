@@ -5,7 +5,6 @@ ghost use Rattle.text.specs.Digits.{in_base, places_of};
 ghost use Rattle.text.specs.Digits.{decimal as decimalOf, blanks as blanksOf};
 
 use crate::text::digit;
-pub use crate::text::places;
 
 pub fn put(out: &mut [u8], from: usize, c: u8) -> usize
     requires { from < length out.old }
@@ -47,7 +46,23 @@ pub fn number(out: &mut [u8], from: usize, base: u32, places: u32, v: u32) -> us
         return from;
     }
     let last = number(out, from, base, places - 1, v / base);
-    put(out, last, digit(v % base))
+    let d = u64::from(v % base);
+    put(out, last, digit(d))
+}
+
+// How many decimal digits v has.
+#[tactic(auto, using(crate::proofs::digits::Numbers::places_more, crate::proofs::digits::Numbers::places_one))]
+pub fn places(v: u32) -> u32
+    requires { v < 100000 }
+    ensures { result ≡ places_of v }
+{
+    match v {
+        0..=9 => 1,
+        10..=99 => 2,
+        100..=999 => 3,
+        1000..=9999 => 4,
+        _ => 5,
+    }
 }
 
 pub fn decimal(out: &mut [u8], from: usize, v: u32) -> usize

@@ -24,7 +24,7 @@ impl<const N: usize> Model for Text<N> {
     ghost invariant = { λ t. t.len ≤ N };
 }
 
-pub(crate) fn digit(d: u32) -> u8
+pub(crate) fn digit(d: u64) -> u8
     requires { d < 16 }
     ensures { result ≡ digit_of d }
 {
@@ -32,18 +32,12 @@ pub(crate) fn digit(d: u32) -> u8
 }
 
 // How many decimal digits v has.
-pub fn places(v: u32) -> u32
-    requires { v < 1000000 }
-    ensures { result ≡ places_of v }
+#[tactic(auto, using(crate::proofs::digits::Numbers::places_more, crate::proofs::digits::Numbers::places_one))]
+fn places(v: u64) -> u64
+    ensures value { result ≡ places_of v }
+    ensures upper_bound { result ≤ v + 1 }
 {
-    match v {
-        0..=9 => 1,
-        10..=99 => 2,
-        100..=999 => 3,
-        1000..=9999 => 4,
-        10000..=99999 => 5,
-        _ => 6,
-    }
+    if v < 10 { 1 } else { 1 + places(v / 10) }
 }
 
 impl<const N: usize> Text<N> {
@@ -116,22 +110,30 @@ impl<const N: usize> Text<N> {
     }
 
     // The last places digits of v.
-    pub fn number(&mut self, base: u32, places: u32, v: u32)
+    fn digits(&mut self, base: u64, places: u64, v: u64)
         requires { (0 < base) × (base ≤ 16) × (length self.old + places ≤ N) }
         ensures text { self.new ≡ self.old ++ in_base base places v }
         ensures size { length self.new ≡ length self.old + places }
     {
         if places > 0 {
-            self.number(base, places - 1, v / base);
+            self.digits(base, places - 1, v / base);
             self.put(digit(v % base));
         }
     }
 
-    pub fn decimal(&mut self, v: u32)
-        requires { (v < 1000000) × (length self.old + places_of v ≤ N) }
+    pub fn number(&mut self, base: u32, places: u32, v: u32)
+        requires { (0 < base) × (base ≤ 16) × (length self.old + places ≤ N) }
+        ensures text { self.new ≡ self.old ++ in_base base places v }
+        ensures size { length self.new ≡ length self.old + places }
+    {
+        self.digits(base.into(), places.into(), v.into());
+    }
+
+    pub fn decimal(&mut self, v: u64)
+        requires { length self.old + places_of v ≤ N }
         ensures text { self.new ≡ self.old ++ decimalOf v }
         ensures size { length self.new ≡ length self.old + places_of v }
     {
-        self.number(10, places(v), v);
+        self.digits(10, places(v), v);
     }
 }

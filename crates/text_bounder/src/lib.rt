@@ -1,25 +1,43 @@
 // What the bounder says, as characters at the end of a text.
 #![tactic(auto)]
 
-ghost use Rattle.std.specs.Prelude.{◌≡◌, ◌++◌, ◌+◌, ◌*◌, ◌%◌, ◌<◌, ◌≤◌, length, Err};
+ghost use Rattle.std.specs.Prelude.{◌≡◌, ◌++◌, ◌+◌, ◌*◌, ◌%◌, ◌<◌, ◌≤◌, length, Err, IfOk};
 ghost use Rattle.numbers.specs.Sizes.{addresses};
 ghost use Rattle.numbers.specs.ComesBack.{value_at};
 ghost use Rattle.device.specs.Device.{rom_of};
 ghost use Rattle.routines.specs.Calling as calling;
+ghost use Rattle.reader.specs.Answer.{p3_given};
+ghost use Rattle.bound_calls.specs.CallAnswer.{CallAnswer};
 ghost use Rattle.bound.specs.Answer.{paper_of};
 ghost use Rattle.text_bounder.specs.Report.{cycles_text, depth_text, summary_of, answer_text, entry_line_of, path_line_of, cycles_at};
 
-use bound::Refused;
+use bound::{Refused, bound};
 use device::Device;
 use device::image::Window;
 use notation::sources::source_name;
 use numbers::ADDRESSES;
 use routines_bound::{Greatest, Unbounded};
 use text::Text;
-use text::text::places;
 use text_lister::line::{columns, decoded_at};
 
+// The bound that is told, and how large its numbers can be.
+pub fn bound_at(
+    d: Device,
+    image: &[u8],
+    p3: u8,
+    at: u32,
+    path: &mut [u8],
+    deep: &mut [u8],
+) -> Result<Greatest, Refused>
+    ensures answer { CallAnswer d image.now (p3_given d p3) at path.old path.new deep.old deep.new (paper_of result) }
+    ensures value { (value_at (paper_of result) 0 < 131072) × (value_at (paper_of result) 1 < 65536) }
+    ensures bounds { IfOk result (λ greatest. (greatest.cycles < 65536) × (greatest.depth < 65536)) }
+{
+    bound(d, image, p3.into(), at, path, deep)
+}
+
 // A refusal, and an address in four digits or the bytes of a path in decimal: at most 17 characters.
+#[tactic(auto, using(text::proofs::digits::Numbers::places_of_six))]
 fn refused_text<const N: usize>(out: &mut Text<N>, refused: Refused)
     requires { (value_at (paper_of (Err refused)) 0 < 131072) × (length out.old + 17 ≤ N) }
     ensures text { out.new ≡ out.old ++ summary_of (Err refused) }
@@ -37,13 +55,14 @@ fn refused_text<const N: usize>(out: &mut Text<N>, refused: Refused)
         }
         Refused::Unbounded(Unbounded::Short(bytes)) => {
             out.put(b' ');
-            out.decimal(bytes as u32);
+            out.decimal(bytes as u64);
         }
         _ => {}
     }
 }
 
-fn most_cycles<const N: usize>(out: &mut Text<N>, cycles: u32)
+#[tactic(auto, using(text::proofs::digits::Numbers::places_of_six))]
+fn most_cycles<const N: usize>(out: &mut Text<N>, cycles: u64)
     requires { (cycles < 131072) × (length out.old + 8 ≤ N) }
     ensures text { out.new ≡ out.old ++ cycles_text cycles }
     ensures upper_bound { length out.new ≤ length out.old + 8 }
@@ -53,7 +72,8 @@ fn most_cycles<const N: usize>(out: &mut Text<N>, cycles: u32)
 }
 
 // The greatest depth of calls, without the line's end: at most 12 characters.
-pub fn most_depth<const N: usize>(out: &mut Text<N>, depth: u32)
+#[tactic(auto, using(text::proofs::digits::Numbers::places_of_six))]
+pub fn most_depth<const N: usize>(out: &mut Text<N>, depth: u64)
     requires { (depth < 131072) × (length out.old + 12 ≤ N) }
     ensures text { out.new ≡ out.old ++ depth_text depth }
     ensures upper_bound { length out.new ≤ length out.old + 12 }
@@ -69,7 +89,7 @@ pub fn summary<const N: usize>(out: &mut Text<N>, answer: Result<Greatest, Refus
     ensures upper_bound { length out.new ≤ length out.old + 17 }
 {
     match answer {
-        Ok(greatest) => most_cycles(out, greatest.cycles as u32),
+        Ok(greatest) => most_cycles(out, greatest.cycles as u64),
         Err(refused) => refused_text(out, refused),
     }
 }
@@ -83,9 +103,12 @@ fn answer_text<const N: usize>(out: &mut Text<N>, answer: Result<Greatest, Refus
     summary(out, answer);
     if let Ok(greatest) = answer {
         out.put(b' ');
-        most_depth(out, greatest.depth as u32);
+        most_depth(out, greatest.depth as u64);
     }
 }
+
+// The five interrupt entries: the address of each, and the latch of its source.
+pub const ENTRIES: [(u32, u8); 5] = [(0x002, 5), (0x006, 3), (0x008, 2), (0x00A, 1), (0x00C, 0)];
 
 // A line of the entries: the address, the source of its latch, and the answer.
 pub fn entry_line<const N: usize>(
@@ -115,9 +138,10 @@ pub fn path_line<const N: usize>(out: &mut Text<N>, window: Window, at: u16, cou
 {
     columns(out, window, at);
     out.put(b' ');
-    let shift = 5 - places(counted) as usize;
-    out.blanks(shift);
-    out.decimal(counted);
+    let mut shown: Text<5> = Text::new();
+    shown.decimal(u64::from(counted));
+    out.blanks(5 - shown.len());
+    out.put_text(shown.as_slice());
     out.put(b'\n');
 }
 

@@ -1,7 +1,6 @@
 -- The lines of a certificate, as characters. Sentences in quotation marks are of docs/PROGRAMS.md.
-use Rattle.std.specs.Prelude.{ℕ, ◌/◌, ◌%◌, List, [], ◌∷◌, ◌++◌, get_or}
-use Rattle.sheet.specs.Reading.{read_at}
-use Rattle.sheet.specs.declared.Read.{Read}
+use Rattle.std.specs.Prelude.{ℕ, ◌/◌, ◌%◌, List, [], ◌∷◌, ◌++◌, get_or, Ok, Err}
+use Rattle.sheet.specs.Reading.{Read, read_at}
 use Rattle.sheet_text.specs.Lines.{sheet_text}
 use Rattle.text.specs.Digits.{characters}
 use Rattle.text_bounder.specs.Report.{path_line_of}
@@ -16,9 +15,8 @@ digest_text (b ∷ bs) = lower_digit (b / 16) ∷ lower_digit (b % 16) ∷ diges
 
 -- the row that is read at an address, 0 where there is none
 abbrev pub row_read : Read → ℕ
-row_read (Read.Row i) = i.row
-row_read Read.Unassigned = 0
-row_read Read.PastEnd = 0
+row_read (Ok i) = i.row
+row_read (Err why) = 0
 
 unfoldable pub row_at : (ℕ → ℕ) → ℕ → ℕ
 row_at rom at = row_read (read_at rom at)

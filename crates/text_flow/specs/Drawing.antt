@@ -7,7 +7,6 @@ use Rattle.bound_calls.specs.declared.CallNode.{CallNode}
 use Rattle.text_flow.specs.declared.Look.{Look}
 use Rattle.text_flow.specs.declared.Look.TheVariants.{Plain, Bold, Red}
 use Rattle.text_flow.specs.declared.Stroke.{Stroke}
-use Rattle.text_flow.specs.declared.Stroke.TheVariants.{Solid, SolidBold, Dashed, DashedBold}
 use Rattle.text_flow.specs.declared.Taken.{Taken}
 
 -- "N's path is bold .. red"
@@ -21,10 +20,10 @@ abbrev pub box_line_of : (ℕ → ℕ) → ℕ → Look → List ℕ
 box_line_of rom at look = characters "  \"" ++ (hex 4 at ++ (characters "\" [label=\"" ++ (columns_of rom at ++ (characters "\"" ++ (look_text look ++ characters "];\n")))))
 
 abbrev pub stroke_text : Stroke → List ℕ
-stroke_text Solid = characters ""
-stroke_text SolidBold = characters " [style=bold]"
-stroke_text Dashed = characters " [style=dashed]"
-stroke_text DashedBold = characters " [style=\"dashed,bold\"]"
+stroke_text s =
+    pick s.dashed
+    (pick s.bold (characters " [style=\"dashed,bold\"]") (characters " [style=dashed]"))
+    (pick s.bold (characters " [style=bold]") (characters ""))
 
 -- from one address to another
 abbrev pub arrow_line_of : ℕ → ℕ → Stroke → List ℕ
@@ -32,12 +31,10 @@ arrow_line_of at to stroke = characters "  \"" ++ (hex 4 at ++ (characters "\" -
 
 -- an arrow that N's path takes is bold
 abbrev pub solid_of : Bool → Stroke
-solid_of true = SolidBold
-solid_of false = Solid
+solid_of bold = record { dashed = false; bold = bold }
 
 abbrev pub dashed_of : Bool → Stroke
-dashed_of true = DashedBold
-dashed_of false = Dashed
+dashed_of bold = record { dashed = true; bold = bold }
 
 -- a place's address is half of it: the target's arrow, where the next instruction is another
 unfoldable pub second_arrow : ℕ → CallNode → Bool → List ℕ

@@ -1,14 +1,14 @@
-// The lines of the program flow, in Graphviz's DOT, as characters in a buffer: each function answers the place after what it wrote.
+// The lines of the program flow, in Graphviz's DOT, as characters at the end of a text.
 #![tactic(auto)]
 
-ghost use Rattle.std.specs.Prelude.{◌≡◌, Bool, ◌+◌, ◌*◌, ◌%◌, ◌<◌, ◌≤◌, length};
+ghost use Rattle.std.specs.Prelude.{◌≡◌, ◌++◌, ◌+◌, ◌*◌, ◌%◌, ◌<◌, ◌≤◌, length};
 ghost use Rattle.numbers.specs.Sizes.{addresses};
-ghost use Rattle.device.specs.Device.{rom_of, window_end};
-ghost use Rattle.laws.specs.Writing.{Wrote};
-ghost use Rattle.text_flow.specs.Drawing.{look_text, box_line_of, stroke_text, arrow_line_of, solid_of, dashed_of, second_arrow, arrows_of};
+ghost use Rattle.device.specs.Device.{rom_of};
+ghost use Rattle.text_flow.specs.Drawing.{look_text, box_line_of, stroke_text, arrow_line_of, solid_of, second_arrow, arrows_of};
 
 use bound_calls::CallNode;
-use text::digits::{number, put_text};
+use device::image::Window;
+use text::Text;
 use text_lister::line::columns;
 
 #[derive(Clone, Copy)]
@@ -19,11 +19,9 @@ pub enum Look {
 }
 
 #[derive(Clone, Copy)]
-pub enum Stroke {
-    Solid,
-    SolidBold,
-    Dashed,
-    DashedBold,
+pub struct Stroke {
+    pub dashed: bool,
+    pub bold: bool,
 }
 
 // Which of a place's two arrows N's path takes.
@@ -33,104 +31,102 @@ pub struct Taken {
     pub other: bool,
 }
 
-fn look_text(out: &mut [u8], from: usize, look: Look) -> usize
-    requires { from + 11 ≤ length out.old }
-    ensures wrote { Wrote out.old out.new from result (look_text look) }
-    ensures upper_bound { result ≤ from + 11 }
+// At most 11 characters.
+fn look_text(look: Look) -> &'static [u8]
+    ensures text { result.now ≡ look_text look }
+    ensures upper_bound { length result.now ≤ 11 }
 {
     match look {
-        Look::Plain => put_text(out, from, b""),
-        Look::Bold => put_text(out, from, b" style=bold"),
-        Look::Red => put_text(out, from, b" color=red"),
+        Look::Plain => b"",
+        Look::Bold => b" style=bold",
+        Look::Red => b" color=red",
     }
 }
 
 // The box of an address: at most 68 characters.
-pub fn box_line(out: &mut [u8], from: usize, image: &[u8], p3: u8, at: u16, look: Look) -> usize
-    requires { (window_end p3 ≤ length image.now) × (at < addresses) × (from + 72 ≤ length out.old) }
-    ensures wrote { Wrote out.old out.new from result (box_line_of (rom_of image.now p3) at look) }
-    ensures upper_bound { result ≤ from + 68 }
+pub fn box_line<const N: usize>(out: &mut Text<N>, window: Window, at: u16, look: Look)
+    requires { (at < addresses) × (length out.old + 72 ≤ N) }
+    ensures text { out.new ≡ out.old ++ box_line_of (rom_of window.entry.bytes.now window.entry.p3) at look }
+    ensures upper_bound { length out.new ≤ length out.old + 68 }
 {
-    let quote = put_text(out, from, b"  \"");
-    let name = number(out, quote, 16, 4, at as u32);
-    let label = put_text(out, name, b"\" [label=\"");
-    let row = columns(out, label, image, p3, at);
-    let closed = put_text(out, row, b"\"");
-    let drawn = look_text(out, closed, look);
-    put_text(out, drawn, b"];\n")
+    out.put_text(b"  \"");
+    out.number(16, 4, u32::from(at));
+    out.put_text(b"\" [label=\"");
+    columns(out, window, at);
+    out.put(b'"');
+    out.put_text(look_text(look));
+    out.put_text(b"];\n");
 }
 
-fn stroke_text(out: &mut [u8], from: usize, stroke: Stroke) -> usize
-    requires { from + 22 ≤ length out.old }
-    ensures wrote { Wrote out.old out.new from result (stroke_text stroke) }
-    ensures upper_bound { result ≤ from + 22 }
+// At most 22 characters.
+fn stroke_text(stroke: Stroke) -> &'static [u8]
+    ensures text { result.now ≡ stroke_text stroke }
+    ensures upper_bound { length result.now ≤ 22 }
 {
-    match stroke {
-        Stroke::Solid => put_text(out, from, b""),
-        Stroke::SolidBold => put_text(out, from, b" [style=bold]"),
-        Stroke::Dashed => put_text(out, from, b" [style=dashed]"),
-        Stroke::DashedBold => put_text(out, from, b" [style=\"dashed,bold\"]"),
+    match (stroke.dashed, stroke.bold) {
+        (false, false) => b"",
+        (false, true) => b" [style=bold]",
+        (true, false) => b" [style=dashed]",
+        (true, true) => b" [style=\"dashed,bold\"]",
     }
 }
 
 // An arrow between two addresses: at most 42 characters.
-fn arrow_line(out: &mut [u8], from: usize, at: u16, to: u16, stroke: Stroke) -> usize
-    requires { from + 42 ≤ length out.old }
-    ensures wrote { Wrote out.old out.new from result (arrow_line_of at to stroke) }
-    ensures upper_bound { result ≤ from + 42 }
+fn arrow_line<const N: usize>(out: &mut Text<N>, at: u16, to: u16, stroke: Stroke)
+    requires { length out.old + 42 ≤ N }
+    ensures text { out.new ≡ out.old ++ arrow_line_of at to stroke }
+    ensures upper_bound { length out.new ≤ length out.old + 42 }
 {
-    let quote = put_text(out, from, b"  \"");
-    let name = number(out, quote, 16, 4, at as u32);
-    let arrow = put_text(out, name, b"\" -> \"");
-    let target = number(out, arrow, 16, 4, to as u32);
-    let closed = put_text(out, target, b"\"");
-    let drawn = stroke_text(out, closed, stroke);
-    put_text(out, drawn, b";\n")
+    out.put_text(b"  \"");
+    out.number(16, 4, u32::from(at));
+    out.put_text(b"\" -> \"");
+    out.number(16, 4, u32::from(to));
+    out.put(b'"');
+    out.put_text(stroke_text(stroke));
+    out.put_text(b";\n");
 }
 
 fn solid(bold: bool) -> Stroke
     ensures { result ≡ solid_of bold }
 {
-    if bold {
-        return Stroke::SolidBold;
+    Stroke {
+        dashed: false,
+        bold,
     }
-    Stroke::Solid
-}
-
-fn dashed(bold: bool) -> Stroke
-    ensures { result ≡ dashed_of bold }
-{
-    if bold {
-        return Stroke::DashedBold;
-    }
-    Stroke::Dashed
 }
 
 // The arrow to the target, where the next instruction is another.
-fn second_arrow(out: &mut [u8], from: usize, at: u16, x: CallNode, bold: bool) -> usize
-    requires { from + 42 ≤ length out.old }
-    ensures wrote { Wrote out.old out.new from result (second_arrow at x bold) }
-    ensures upper_bound { result ≤ from + 42 }
+#[tactic(auto, unfolding(crate::specs::Drawing::second_arrow))]
+fn target_arrow<const N: usize>(out: &mut Text<N>, at: u16, x: CallNode, bold: bool)
+    requires { length out.old + 42 ≤ N }
+    ensures text { out.new ≡ out.old ++ second_arrow at x bold }
+    ensures upper_bound { length out.new ≤ length out.old + 42 }
 {
-    if x.next == x.other {
-        return put_text(out, from, b"");
+    if x.next != x.other {
+        arrow_line(out, at, x.other / 2, solid(bold));
     }
-    arrow_line(out, from, at, x.other / 2, solid(bold))
 }
 
 // The arrows of a place: at most 84 characters.
-pub fn arrows(out: &mut [u8], from: usize, at: u16, x: CallNode, taken: Taken) -> usize
-    requires { from + 84 ≤ length out.old }
-    ensures wrote { Wrote out.old out.new from result (arrows_of at x taken) }
-    ensures upper_bound { result ≤ from + 84 }
+#[tactic(auto, unfolding(crate::specs::Drawing::arrows_of))]
+pub fn arrows<const N: usize>(out: &mut Text<N>, at: u16, x: CallNode, taken: Taken)
+    requires { length out.old + 84 ≤ N }
+    ensures text { out.new ≡ out.old ++ arrows_of at x taken }
+    ensures upper_bound { length out.new ≤ length out.old + 84 }
 {
-    if x.kind == 3 {
-        let called = arrow_line(out, from, at, x.entry, dashed(taken.other));
-        return arrow_line(out, called, at, x.next / 2, solid(taken.next));
+    match x.kind {
+        1 => {
+            arrow_line(out, at, x.next / 2, solid(taken.next));
+            target_arrow(out, at, x, taken.other);
+        }
+        3 => {
+            let called = Stroke {
+                dashed: true,
+                bold: taken.other,
+            };
+            arrow_line(out, at, x.entry, called);
+            arrow_line(out, at, x.next / 2, solid(taken.next));
+        }
+        _ => {}
     }
-    if x.kind == 1 {
-        let gone = arrow_line(out, from, at, x.next / 2, solid(taken.next));
-        return second_arrow(out, gone, at, x, taken.other);
-    }
-    put_text(out, from, b"")
 }

@@ -3,71 +3,40 @@
 
 mod help;
 
-use crate::help::is_asked;
-use device::{Device, image_size};
-use hex_writer::{P982_TEXT_SIZE, TEXT_SIZE, write_hex, write_p982_hex};
-use program::arguments::is_given;
-use program::image::{chosen_device, open_image};
-use program::streams::{STDERR_FILENO, ending_of, say, show};
-use program::words::{Choice, Chosen};
+ghost use Rattle.std.specs.Prelude.{◌<◌};
 
-const USAGE: [u8; 35] = *b"usage: tohex [--device NAME] IMAGE\n";
+use crate::help::MANUAL;
+use device::Device;
+use device::image::Image;
+use hex_writer::{P982_TEXT_SIZE, TEXT_SIZE, write_hex};
+use program::arguments::no_word;
+use program::help::answer;
+use program::image::{chosen_device, open_image, room};
+use program::streams::{Failure, refuse, show};
 
-fn usage() {
-    io::write_all(STDERR_FILENO, &USAGE);
-}
-
-fn refuse() -> bool {
-    show(b"refused 01\n")
-}
-
-fn show_em73862(image: &[u8]) -> bool {
-    let mut text = [0u8; TEXT_SIZE];
-    if write_hex(image, &mut text) != 0 {
-        return refuse();
+// The text of an image of a device whose text has N characters.
+fn show_hex<const N: usize>(image: Image) -> Result<(), Failure>
+    requires { N < 65536 }
+{
+    let mut text = [0u8; N];
+    if write_hex(image.device, image.bytes, &mut text).is_err() {
+        return Err(refuse(b"refused 01\n"));
     }
     show(&text)
 }
 
-fn show_em73p982(image: &[u8]) -> bool {
-    let mut text = [0u8; P982_TEXT_SIZE];
-    if write_p982_hex(image, &mut text) != 0 {
-        return refuse();
+fn run(rt: &HostRuntime) -> Result<(), Failure> {
+    let c = chosen_device(rt)?;
+    let word = usize::from(c.before) + 1;
+    let mut file = room();
+    let image = open_image(rt, c.device, word, MANUAL.usage, &mut file)?;
+    no_word(rt, word + 1)?;
+    match c.device {
+        Device::Em73862 => show_hex::<TEXT_SIZE>(image),
+        Device::Em73P982 => show_hex::<P982_TEXT_SIZE>(image),
     }
-    show(&text)
-}
-
-fn show_text(d: Device, image: &[u8]) -> bool {
-    match d {
-        Device::Em73862 => show_em73862(image),
-        Device::Em73P982 => show_em73p982(image),
-    }
-}
-
-// Whether all that it has to say was written. The buffer has a byte more than an image, so that a file that is too long shows.
-fn run(rt: &HostRuntime, c: Chosen) -> bool {
-    let d = c.device;
-    let word = c.before as usize + 1;
-    let mut image = [0u8; 16385];
-    let file = open_image(rt, d, word, &mut image, &USAGE);
-    let size = file.size;
-    if size != image_size(d) {
-        return file.written;
-    }
-    if is_given(rt, word + 1) {
-        usage();
-        return true;
-    }
-    show_text(d, &image[..size])
 }
 
 fn main(rt: HostRuntime) {
-    if is_asked(&rt) {
-        return;
-    }
-    let Choice::Made(c) = chosen_device(&rt) else {
-        usage();
-        return;
-    };
-    say(ending_of(false, run(&rt, c)));
+    answer(&rt, &MANUAL, run)
 }

@@ -15,8 +15,8 @@ returns-then-is_frame_at c =
 pub returns-else-s-frame_size : goal.returns-else-s-frame_size
 returns-else-s-frame_size c =
     elim c.else-s-frame_size.branch [
-      else-s-frame_size-via-then-s-frame_size+else-is_frame_at w ↦
-        rw (← not_seen _ _ (sym w.is_frame_at.ensures ∙ w.if-is_frame_at.false)) (ap (frame_of c.args.d) (take_all (frame_size c.args.d) c.args.s.now (omega arith)))
-    | else-s-frame_size-via-else-s-frame_size w ↦
-        sym (not_seen c.args.d c.args.s.now (no_frame (digits_of c.args.d) c.args.s.now (λ e. w.if-s-frame_size.false (e ∙ sym c.frame_size.ensures))))
+      | else-s-frame_size-via-then-s-frame_size+else-is_frame_at w ↦
+          rw (← not_seen _ _ (sym w.is_frame_at.ensures ∙ w.if-is_frame_at.false)) (ap (frame_of c.args.d) (take_all (frame_size c.args.d) c.args.s.now (omega arith)))
+      | else-s-frame_size-via-else-s-frame_size w ↦
+          sym (not_seen c.args.d c.args.s.now (no_frame (digits_of c.args.d) c.args.s.now (λ e. w.if-s-frame_size.false (e ∙ sym c.frame_size.ensures))))
     ]

@@ -1,40 +1,44 @@
 -- A line's tests, a character or a pair at a time.
 use mathlib.Core.Path.{◌≡◌, refl}
-use mathlib.Core.Bool.{true, false}
-use mathlib.Core.List.{List, [], ◌∷◌}
-use Prim.Native.Nat.{ℕ, suc, ◌+◌, ◌-◌, ◌<◌, ◌≤◌}
-use native.Mathlib.Numerals.{add-one}
+use mathlib.Core.Bool.{Bool, true, false}
+use mathlib.Core.List.{List, [], ◌∷◌, ◌++◌}
+use Prim.Native.Nat.{ℕ, suc, ◌+◌, ◌<◌}
 use native.Mathlib.Omega.{arith}
-use borrow.Author.Tests.{lt-ltb, le-ltb}
-use lib.ListN.{length, get_or, drop, length-drop, drop_of_length-le}
-use lib.Seq.{drop-cons}
+use lib.Dec.{ltb→lt}
+use lib.ListN.{length, get_or}
+use borrow.Author.Tests.{lt-ltb}
+use Rattle.std.specs.Prelude.{ltb, ◌↔◌, IsTrue, EachIndex, Some, None, is_some}
+use Rattle.laws.specs.Choice.{pick}
+use Rattle.laws.proofs.Computed.{true→T}
 use Rattle.text.specs.Words.{all_digits}
-use Rattle.text.specs.Hexadecimal.{digit_of}
+use Rattle.text.specs.Hexadecimal.{digit_of, digit_to}
 use Rattle.hex_reader.specs.Record.{byte_of, bytes_of, total}
+use Rattle.hex_reader.proofs.line.Pairs.{digit-in}
 
-module _ (s : List ℕ) (i : ℕ) where
-  pub digits-no : i < length s → 16 ≤ digit_of (get_or s i 0) → all_digits 16 (drop i s) ≡ false
-  digits-no h d = rw (drop-cons s i 0 h, le-ltb (digit_of (get_or s i 0)) 16 d)
+some-digit : (c : ℕ) (t : Bool) → ltb (digit_of c) 16 ≡ t → is_some (pick t (Some (digit_of c)) None) ≡ true → digit_of c < 16
+some-digit c true e h = ltb→lt (digit_of c) 16 (true→T e)
+some-digit c false e h = cc
 
-  pub digits-on : i < length s → digit_of (get_or s i 0) < 16 → all_digits 16 (drop i s) ≡ all_digits 16 (drop (i + 1) s)
-  digits-on h d = rw (add-one i, drop-cons s i 0 h, lt-ltb (digit_of (get_or s i 0)) 16 d)
+each_digit : (l : List ℕ) → EachIndex l (λ k. is_some (digit_to 16 (get_or l k 0)) ≡ true) → all_digits 16 l ≡ true
+each_digit [] f = refl
+each_digit (c ∷ l) f = rw (lt-ltb (digit_of c) 16 (some-digit c (ltb (digit_of c) 16) refl (f 0 (omega arith)))) (each_digit l (λ k h. f (suc k) (omega arith)))
 
-  pub digits-past : length s ≤ i → all_digits 16 (drop i s) ≡ true
-  digits-past h = rw (drop_of_length-le s h)
+no_digits : (l : List ℕ) (b : Bool) → all_digits 16 l ≡ b → (EachIndex l (λ k. is_some (digit_to 16 (get_or l k 0)) ≡ true) → ⊥) → false ≡ b
+no_digits l true e n = absurd (n (λ k h. rw (lt-ltb (digit_of (get_or l k 0)) 16 (digit-in l k e h))))
+no_digits l false e n = refl
 
-  pub pair-on : i + 1 < length s → bytes_of (drop i s) ≡ byte_of (get_or s i 0) (get_or s (i + 1) 0) ∷ bytes_of (drop (i + 2) s)
-  pair-on h =
-      let e : i + 1 ≡ suc i = omega arith in
-      let f : i + 2 ≡ suc (suc i) = omega arith in
-      rw (f, e, drop-cons s i 0 (omega arith), drop-cons s (suc i) 0 (omega arith))
+pub digits_by : (r : Bool) (l : List ℕ) → (IsTrue r ↔ EachIndex l (λ k. is_some (digit_to 16 (get_or l k 0)) ≡ true)) → r ≡ all_digits 16 l
+digits_by true l h = rw (each_digit l (h.0 refl))
+digits_by false l h = no_digits l (all_digits 16 l) refl (λ f. let e = h.1 f in absurd (cc))
 
-  pub sum-on : i + 1 < length s → total (bytes_of (drop i s)) ≡ byte_of (get_or s i 0) (get_or s (i + 1) 0) + total (bytes_of (drop (i + 2) s))
-  sum-on h = rw (pair-on h)
+-- the pair in front is added
+pub pair_in : (x rest : List ℕ) → length x ≡ 2 → total (bytes_of (x ++ rest)) ≡ byte_of (get_or x 0 0) (get_or x 1 0) + total (bytes_of rest)
+pair_in [] rest h = absurd (omega arith)
+pair_in (c ∷ []) rest h = absurd (omega arith)
+pair_in (c ∷ d ∷ []) rest h = refl
+pair_in (c ∷ d ∷ e ∷ x) rest h = absurd (omega arith)
 
-no_pair : (l : List ℕ) → length l < 2 → total (bytes_of l) ≡ 0
+pub no_pair : (l : List ℕ) → length l < 2 → total (bytes_of l) ≡ 0
 no_pair [] h = refl
 no_pair (c ∷ []) h = refl
-no_pair (c ∷ d ∷ l) h = absurd (let z : ⊥ = omega arith in z)
-
-pub sum_past : (s : List ℕ) (i : ℕ) → length s - i < 2 → total (bytes_of (drop i s)) ≡ 0
-sum_past s i h = no_pair (drop i s) (rw (length-drop i s) h)
+no_pair (c ∷ d ∷ l) h = absurd (omega arith)

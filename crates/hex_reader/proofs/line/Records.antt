@@ -2,23 +2,27 @@
 use mathlib.Core.Path.{◌≡◌, refl, sym}
 use mathlib.Core.Bool.{Bool, true, false, not}
 use mathlib.Core.List.{List, [], ◌∷◌}
-use Prim.Native.Nat.{ℕ, zero, suc, ◌+◌, ◌*◌, ◌%◌, ◌<◌, ◌≤◌}
+use Prim.Native.Nat.{ℕ, zero, suc, ◌+◌, ◌-◌, ◌*◌, ◌%◌, ◌<◌, ◌≤◌}
 use Prim.Native.Char.{code}
-use native.Mathlib.Nat.{not-suc-le-zero}
 use native.Mathlib.Omega.{arith}
-use borrow.Author.Tests.{ne_eqb}
-use lib.Dec.{T, eqb, eqb→eq, ltb, ltb→lt}
-use lib.ListN.{length, get_or, take, drop, length-drop}
+use mathlib.Core.Logic.{◌⊎◌, inl, inr}
+use Rattle.std.specs.Prelude.{Ok, Err}
+use Rattle.std.specs.Borrow.{Bor}
+use Rattle.numbers.specs.declared.Refusal.TheVariants.{MalformedOrEndWithBytes, RecordSum, RecordType}
+use Rattle.hex_reader.specs.declared.line.Line.TheVariants.{Data, End}
+use borrow.Author.Tests.{eq-eqb, ne_eqb}
+use lib.Dec.{T, eqb, eqb→eq, ltb}
+use lib.ListN.{length, get_or, take, drop, length-take, length-drop}
 use lib.Seq.{get_or-drop, drop-drop}
 use Rattle.laws.specs.Choice.{pick, both}
-use Rattle.laws.proofs.Computed.{true→T, both_left, both_right}
+use Rattle.laws.proofs.Computed.{true→T, T→true, both_left, both_right}
 use Rattle.laws.proofs.Choices.{both_false}
 use Rattle.text.specs.Words.{all_digits}
 use Rattle.text.specs.Hexadecimal.{digit_of}
 use Rattle.numbers.specs.ComesBack.{malformed_line_or_end_with_bytes, record_sum, record_type}
 use Rattle.hex_reader.specs.Record.{Judged, data_record, end_record, faulty, byte_of, bytes_of, reclen, total, is_record, record_of, line_of}
-use Rattle.hex_reader.specs.Reads.{bytes_at, Stands}
-use Rattle.hex_reader.proofs.line.Pairs.{byte_of_pair, bytes_drop, bytes_take}
+use Rattle.hex_reader.specs.Reads.{Stands, Judges}
+use Rattle.hex_reader.proofs.line.Pairs.{digit_in, byte_of_pair, bytes_drop, bytes_take, bytes_length}
 
 -- the byte of the two digits at a place
 abbrev pub field_at : List ℕ → ℕ → ℕ
@@ -44,10 +48,22 @@ unfolding is_record
 by_places line h =
     let e : 1 + 2 * (5 + reclen (bytes_of (drop 1 line))) ≡ 11 + 2 * field_at line 1 = omega (arith, reclen_at line h) in rw e
 
-digit_in : (l : List ℕ) (k : ℕ) → T (all_digits 16 l) → k < length l → digit_of (get_or l k 0) < 16
-digit_in [] k t h = absurd (not-suc-le-zero h)
-digit_in (c ∷ l) zero t h = ltb→lt (digit_of c) 16 (both_left (ltb (digit_of c) 16) (all_digits 16 l) t)
-digit_in (c ∷ l) (suc k) t h = digit_in l k (both_right (ltb (digit_of c) 16) (all_digits 16 l) t) (omega arith)
+digits-drop : (k : ℕ) (l : List ℕ) → T (all_digits 16 l) → T (all_digits 16 (drop k l))
+digits-drop zero l t = t
+digits-drop (suc k) [] t = tt
+digits-drop (suc k) (c ∷ l) t = digits-drop k l (both_right (ltb (digit_of c) 16) (all_digits 16 l) t)
+
+digits-take : (k : ℕ) (l : List ℕ) → all_digits 16 l ≡ true → all_digits 16 (take k l) ≡ true
+digits-take zero l e = refl
+digits-take (suc k) [] e = refl
+digits-take (suc k) (c ∷ l) e = let t = true→T e in rw (T→true _ (both_left (ltb (digit_of c) 16) (all_digits 16 l) t)) (digits-take k l (T→true _ (both_right (ltb (digit_of c) 16) (all_digits 16 l) t)))
+
+digits-in : (n k : ℕ) (l : List ℕ) {m : List ℕ} → T (all_digits 16 l) → drop k l ≡ m → all_digits 16 (take n m) ≡ true
+digits-in n k l t e = rw (← e) (digits-take n (drop k l) (T→true _ (digits-drop k l t)))
+
+-- the digits of a data record's bytes
+abbrev pub data_digits : List ℕ → List ℕ
+data_digits line = take (2 * field_at line 1) (drop 9 line)
 
 module _ (line : List ℕ) (r : is_record line ≡ true) where
   sized : T (both (all_digits 16 (drop 1 line)) (eqb (length line) (1 + 2 * (5 + reclen (bytes_of (drop 1 line))))))
@@ -63,29 +79,41 @@ module _ (line : List ℕ) (r : is_record line ≡ true) where
   pub record-long : 11 ≤ length line
   record-long = omega (arith, record_length)
 
+  pub data-within : 9 + 2 * field_at line 1 ≤ length line
+  data-within = omega (arith, record_length, reclen_at line record-long)
+
   -- each character after the mark is a digit
   digit_at : (i : ℕ) → i + 1 < length line → digit_of (get_or line (1 + i) 0) < 16
   digit_at i h = rw (← get_or-drop 1 line i 0) (digit_in (drop 1 line) i record-digits (omega (arith, length-drop 1 line)))
+
+  pub digit-at : (i : ℕ) → 1 ≤ i → i < length line → digit_of (get_or line i 0) < 16
+  digit-at i g h = let e : i ≡ 1 + (i - 1) = omega arith in rw e (digit_at (i - 1) (omega arith))
+
+  pub all-digits : all_digits 16 (drop 1 line) ≡ true
+  all-digits = T→true _ record-digits
 
   byte-below : (i : ℕ) → i + 2 < length line → field_at line (1 + i) < 256
   byte-below i h =
       let e : 1 + i + 1 ≡ 1 + (i + 1) = omega arith in rw e (omega (arith, digit_at i (omega arith), digit_at (i + 1) (omega arith)))
 
-  pub record-stands : Stands line (256 * field_at line 3 + field_at line 5) (field_at line 1) 9
+  pub record-stands : Stands (256 * field_at line 3 + field_at line 5) (data_digits line)
   record-stands =
       let n = record_length in
       let l = reclen_at line record-long in
+      let d = length-drop 9 line in
+      let s = length-take (2 * field_at line 1) (drop 9 line) in
+      let k : length (bytes_of (data_digits line)) ≡ field_at line 1 = bytes_length (field_at line 1) (data_digits line) (omega arith) in
       record {
-        within = omega arith;
-        bytes = λ k h. let e : 9 + 2 * k ≡ 1 + (8 + 2 * k) = omega arith in rw e (byte-below (8 + 2 * k) (omega arith));
+        are_digits = digits-in (2 * field_at line 1) 8 (drop 1 line) record-digits (drop-drop 8 1 line);
+        pairs = rw k (omega arith);
         address_fits = omega (arith, byte-below 2 (omega arith), byte-below 4 (omega arith));
-        count_fits = byte-below 0 (omega arith);
+        count_fits = rw k (byte-below 0 (omega arith));
       }
 
 -- a record's judgement by its fields
 abbrev pub typed : List ℕ → Judged
 typed line =
-    pick (eqb (field_at line 7) 0) (data_record (256 * field_at line 3 + field_at line 5) (bytes_at line 9 (field_at line 1)))
+    pick (eqb (field_at line 7) 0) (data_record (256 * field_at line 3 + field_at line 5) (bytes_of (data_digits line)))
     (pick (eqb (field_at line 7) 1) end_record (faulty record_type))
 
 abbrev pub summed : List ℕ → Judged
@@ -98,8 +126,58 @@ pub by_fields_lem : (line : List ℕ) → is_record line ≡ true → line_of li
 unfolding line_of record_of
 by_fields_lem line r =
     let h = record-long line r in
-    let d : take (field_at line 1) (drop 4 (bytes_of (drop 1 line))) ≡ bytes_at line 9 (field_at line 1) = rw (← bytes_drop 4 (drop 1 line), drop-drop 8 1 line) (sym (bytes_take (field_at line 1) (drop 9 line))) in
+    let d : take (field_at line 1) (drop 4 (bytes_of (drop 1 line))) ≡ bytes_of (data_digits line) = rw (← bytes_drop 4 (drop 1 line), drop-drop 8 1 line) (sym (bytes_take (field_at line 1) (drop 9 line))) in
     rw (r, field line 3 (omega arith), reclen_at line h, field line 1 (omega arith), field line 2 (omega arith), d)
+
+-- each answer about a record
+module _ (line : List ℕ) (r : is_record line ≡ true) where
+  pub end_with_bytes : field_at line 7 ≡ 1 → (field_at line 1 ≡ 0 → ⊥) → Judges line (Err MalformedOrEndWithBytes)
+  end_with_bytes k n =
+      record {
+        meaning = sym (rw (by_fields_lem line r, eq-eqb (field_at line 7) 1 k, ne_eqb (field_at line 1) 0 n));
+        placed = tt;
+        long = tt;
+      }
+
+  module _ (e : (field_at line 7 ≡ 1 × field_at line 1 ≡ 0) ⊎ (field_at line 7 ≡ 1 → ⊥)) where
+    not_end : both (eqb (field_at line 7) 1) (not (eqb (field_at line 1) 0)) ≡ false
+    not_end = elim e [ inl h ↦ rw (eq-eqb (field_at line 7) 1 h.0, eq-eqb (field_at line 1) 0 h.1) | inr h ↦ rw (ne_eqb (field_at line 7) 1 h) ]
+
+    pub wrong_sum : (total (bytes_of (drop 1 line)) % 256 ≡ 0 → ⊥) → Judges line (Err RecordSum)
+    wrong_sum n =
+        record {
+          meaning = sym (rw (by_fields_lem line r, not_end, ne_eqb (total (bytes_of (drop 1 line)) % 256) 0 n));
+          placed = tt;
+          long = tt;
+        }
+
+    module _ (s : total (bytes_of (drop 1 line)) % 256 ≡ 0) where
+      summed-typed : line_of line ≡ typed line
+      summed-typed = rw (by_fields_lem line r, not_end, eq-eqb (total (bytes_of (drop 1 line)) % 256) 0 s)
+
+      pub data-judged : field_at line 7 ≡ 0 → (address : ℕ) (digits : Bor (List ℕ)) → address ≡ 256 * field_at line 3 + field_at line 5 → digits.now ≡ data_digits line → Judges line (Ok (Data address digits))
+      data-judged k address digits a d =
+          record {
+            meaning = sym (rw (summed-typed, eq-eqb (field_at line 7) 0 k, a, d));
+            placed = rw (a, d) (record-stands line r);
+            long = record-long line r;
+          }
+
+      pub end-judged : field_at line 7 ≡ 1 → Judges line (Ok End)
+      end-judged k =
+          record {
+            meaning = sym (rw (summed-typed, ne_eqb (field_at line 7) 0 (λ z. omega arith), eq-eqb (field_at line 7) 1 k));
+            placed = tt;
+            long = record-long line r;
+          }
+
+      pub wrong_type : (field_at line 7 ≡ 0 → ⊥) → (field_at line 7 ≡ 1 → ⊥) → Judges line (Err RecordType)
+      wrong_type z n =
+          record {
+            meaning = sym (rw (summed-typed, ne_eqb (field_at line 7) 0 z, ne_eqb (field_at line 7) 1 n));
+            placed = tt;
+            long = tt;
+          }
 
 pub no_record : (line : List ℕ) → is_record line ≡ false → line_of line ≡ faulty malformed_line_or_end_with_bytes
 unfolding line_of

@@ -1,5 +1,5 @@
 -- A text by its first line: characters without an LF, then an LF or nothing.
-use mathlib.Core.Path.{◌≡◌, refl, sym, ap, ◌∙◌}
+use mathlib.Core.Path.{◌≡◌, refl, ap, ◌∙◌}
 use mathlib.Core.Bool.{Bool, true, false}
 use mathlib.Core.List.{List, [], ◌∷◌, ◌++◌}
 use Prim.Native.Nat.{ℕ, suc, ◌+◌, ◌-◌, ◌<◌, ◌≤◌}
@@ -7,11 +7,12 @@ use native.Mathlib.Nat.{not-suc-le-zero}
 use native.Mathlib.Omega.{arith}
 use borrow.Author.Tests.{eq-eqb, ne_eqb, eqb-true}
 use lib.ListN.{length, get_or, take, drop, length-take, length-drop, drop_of_length-le}
-use lib.Seq.{drop-drop, take-length, take-take}
+use lib.Seq.{drop-drop, take-length}
 use Rattle.laws.specs.Choice.{pick, both}
 use Rattle.laws.proofs.Choices.{both_false}
 use Rattle.text.specs.Script.{is_lf, on_first, up_to}
 use Rattle.hex_reader.specs.Lines.{is_cr, hex_lines, without_cr, LineAt}
+use Rattle.hex_reader.specs.declared.lines.LineOf.{LineOf}
 
 -- no LF among the characters
 pub no_lf : (c : ℕ) (s : List ℕ) (t : Bool) → is_lf c ≡ t → up_to (c ∷ s) ≡ length (c ∷ s) → (is_lf c ≡ false) × (up_to s ≡ length s)
@@ -73,46 +74,45 @@ no_cr_ends : (c : ℕ) (s : List ℕ) → (get_or (c ∷ s) (length s) 0 ≡ 13 
 no_cr_ends c [] n = rw (ne_eqb c 13 n)
 no_cr_ends c (d ∷ s) n = ap (λ (l : List ℕ). c ∷ l) (no_cr_ends d s n)
 
-pub cr_none : (s : List ℕ) → length s ≡ 0 → take 0 s ≡ without_cr s
-cr_none [] h = refl
-cr_none (c ∷ s) h = absurd (let z : ⊥ = omega arith in z)
-
 pub cr_cut : (s : List ℕ) → (length s ≡ 0 → ⊥) → get_or s (length s - 1) 0 ≡ 13 → take (length s - 1) s ≡ without_cr s
 cr_cut [] h e = absurd (h refl)
 cr_cut (c ∷ s) h e = let m : length (c ∷ s) - 1 ≡ length s = omega arith in rw m (cr_ends c s (rw m at e))
 
-pub cr_kept : (s : List ℕ) → (length s ≡ 0 → ⊥) → (get_or s (length s - 1) 0 ≡ 13 → ⊥) → take (length s) s ≡ without_cr s
+pub cr_kept : (s : List ℕ) → (length s ≡ 0 → ⊥) → (get_or s (length s - 1) 0 ≡ 13 → ⊥) → s ≡ without_cr s
 cr_kept [] h e = absurd (h refl)
 cr_kept (c ∷ s) h e =
-    let m : length (c ∷ s) - 1 ≡ length s = omega arith in take-length (c ∷ s) ∙ no_cr_ends c s (rw m at e)
+    let m : length (c ∷ s) - 1 ≡ length s = omega arith in no_cr_ends c s (rw m at e)
 
-module _ (text : List ℕ) (at lf : ℕ) (h : at < length text) (e : lf ≡ at + up_to (drop at text)) where
-  pub at_end_lem : lf ≡ length text → LineAt text at (record { to = lf; next = lf })
-  at_end_lem f =
+short_by : (c : ℕ) (t : Bool) → length (pick t [] (c ∷ [])) ≤ 1
+short_by c true = omega arith
+short_by c false = omega arith
+
+without_cr-short : (s : List ℕ) → length (without_cr s) ≤ length s
+without_cr-short [] = omega arith
+without_cr-short (c ∷ []) = short_by c (is_cr c)
+without_cr-short (c ∷ d ∷ cs) = omega (arith, without_cr-short (d ∷ cs))
+
+module _ (text : List ℕ) (at lf : ℕ) (h : at < length text) (e : lf ≡ at + up_to (drop at text)) (r : LineOf) where
+  pub at_end_lem : lf ≡ length text → r.line.now ≡ take (lf - at) (drop at text) → r.next ≡ lf → LineAt text at r
+  at_end_lem f l m =
       let n : length (drop at text) ≡ length text - at = length-drop at text in
       let u : up_to (drop at text) ≡ length (drop at text) = omega arith in
       let v : lf - at ≡ length (drop at text) = omega arith in
       record {
-        first = rw (drop_of_length-le text {i = lf} (omega arith), v, take-length (drop at text)) (last_line_lem (drop at text) (omega arith) u);
-        from = omega arith;
-        ending = omega arith;
+        first = rw (l, m, drop_of_length-le text {i = lf} (omega arith), v, take-length (drop at text)) (last_line_lem (drop at text) (omega arith) u);
+        size = rw l (omega (arith, length-take (lf - at) (drop at text)));
         later = omega arith;
         within = omega arith;
       }
 
-  pub at-LF : (size : ℕ) → lf ≤ length text → (lf ≡ length text → ⊥) → take size (take (lf - at) (drop at text)) ≡ without_cr (take (lf - at) (drop at text)) → size ≤ length (take (lf - at) (drop at text)) → LineAt text at (record { to = at + size; next = lf + 1 })
-  at-LF size w f c l =
+  pub at-LF : lf ≤ length text → (lf ≡ length text → ⊥) → r.line.now ≡ without_cr (take (lf - at) (drop at text)) → r.next ≡ lf + 1 → LineAt text at r
+  at-LF w f l m =
       let n : length (drop at text) ≡ length text - at = length-drop at text in
       let u : lf - at ≡ up_to (drop at text) = omega arith in
-      let v : at + size - at ≡ size = omega arith in
       let k : lf + 1 ≡ at + suc (up_to (drop at text)) = omega arith in
-      let m = length-take (lf - at) (drop at text) in
-      let s : size ≤ lf - at = omega arith in
-      let g : take size (drop at text) ≡ without_cr (take (up_to (drop at text)) (drop at text)) = sym (take-take size (lf - at) (drop at text) s) ∙ (c ∙ rw u) in
       record {
-        first = rw (k, ← drop-drop (suc (up_to (drop at text))) at text, v, g) (first_line (drop at text) (omega arith));
-        from = omega arith;
-        ending = omega arith;
+        first = rw (l, m, k, ← drop-drop (suc (up_to (drop at text))) at text, u) (first_line (drop at text) (omega arith));
+        size = rw l (omega (arith, without_cr-short (take (lf - at) (drop at text)), length-take (lf - at) (drop at text)));
         later = omega arith;
         within = omega arith;
       }

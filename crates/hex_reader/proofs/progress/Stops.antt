@@ -5,14 +5,17 @@ use mathlib.Core.List.{List, [], ◌∷◌, ◌++◌}
 use Prim.Native.Nat.{ℕ, suc, ◌+◌, ◌≤◌}
 use native.Mathlib.Omega.{arith}
 use lib.ListN.{length}
+use Rattle.std.specs.Prelude.{Result, Ok, Err}
+use Rattle.numbers.specs.Numbered.{refusal_number}
+use Rattle.numbers.specs.declared.Refusal.{Refusal}
 use Rattle.hex_reader.specs.Record.{faulty, line_of}
 use Rattle.hex_reader.specs.Reads.{meaning_of, Long}
 use Rattle.hex_reader.specs.declared.line.Line.{Line}
-use Rattle.hex_reader.specs.declared.line.Line.TheVariants.{Data, End, Fault}
+use Rattle.hex_reader.specs.declared.fault.HexFault.{HexFault}
 use Rattle.hex_reader.specs.Progress.{Progress, going, ended, stopped, after_line, after_lines, at_end, read_lines}
 use Rattle.hex_reader.specs.Reached.{Reached, is_stopped}
 use Rattle.hex_reader.specs.declared.progress.Stage.{Stage}
-use Rattle.hex_reader.specs.declared.progress.Stage.TheVariants.{Going, Ended, Stopped}
+use Rattle.hex_reader.specs.declared.progress.Stage.TheVariants.{Going, Ended}
 
 -- lines after lines
 pub lines_then : (image_size : ℕ) (p : Progress) (n : ℕ) (ls ms : List (List ℕ)) → after_lines image_size p n (ls ++ ms) ≡ after_lines image_size (after_lines image_size p n ls) (n + length ls) ms
@@ -24,11 +27,10 @@ pub stays : (image_size : ℕ) (number at n : ℕ) (ls : List (List ℕ)) → af
 stays image_size number at n [] = refl
 stays image_size number at n (l ∷ ls) = stays image_size number at (suc n) ls
 
--- a stage that is stopped is what the whole text comes to
-pub stopped_reads : (image_size : ℕ) (s : Stage) (w : List ℕ) (p : Progress) → is_stopped s ≡ true → Reached image_size s w p → (n m : ℕ) (ls : List (List ℕ)) → read_lines image_size p n ls ≡ at_end p m
-stopped_reads image_size Going w p e r n m ls = absurd (let z : ◌≡◌ {A = ℕ} 0 1 = cc in omega arith)
-stopped_reads image_size Ended w p e r n m ls = absurd (let z : ◌≡◌ {A = ℕ} 0 1 = cc in omega arith)
-stopped_reads image_size (Stopped number line) w p e r n m ls = rw (r, stays image_size number line n ls)
+-- a fault is what the whole text comes to
+pub stopped_reads : (image_size : ℕ) (s : Result Stage HexFault) (w : List ℕ) (p : Progress) → is_stopped s ≡ true → Reached image_size s w p → (n m : ℕ) (ls : List (List ℕ)) → read_lines image_size p n ls ≡ at_end p m
+stopped_reads image_size (Ok stage) w p e r n m ls = cc
+stopped_reads image_size (Err first) w p e r n m ls = rw (r, stays image_size (refusal_number first.refusal) first.line n ls)
 
 -- after a faulty line there is no going on
 abbrev goes_on : Progress → Bool
@@ -41,14 +43,13 @@ fault_stops image_size (going ds) n k l e = rw (← e)
 fault_stops image_size (ended ds) n k l e = refl
 fault_stops image_size (stopped number at) n k l e = refl
 
-reached_on : (image_size : ℕ) (s : Stage) (w : List ℕ) (p : Progress) → is_stopped s ≡ false → Reached image_size s w p → goes_on p ≡ true
-reached_on image_size Going w p e r = rw r.is
-reached_on image_size Ended w p e r = rw r.is
-reached_on image_size (Stopped number line) w p e r = absurd (let z : ◌≡◌ {A = ℕ} 0 1 = cc in omega arith)
+reached_on : (image_size : ℕ) (s : Stage) (w : List ℕ) (p : Progress) → Reached image_size (Ok s) w p → goes_on p ≡ true
+reached_on image_size Going w p r = rw r.is
+reached_on image_size Ended w p r = rw r.is
 
 -- so a line after which it goes on is not short
-pub good_long : (image_size : ℕ) (text : List ℕ) (line : Line) (s : Stage) (w : List ℕ) (p : Progress) (n size : ℕ) (l : List ℕ) → is_stopped s ≡ false → Reached image_size s w (after_line image_size p n l) → meaning_of text line ≡ line_of l → Long size line → 11 ≤ size
-good_long image_size text (Data address count first) s w p n size l e r m h = h
-good_long image_size text End s w p n size l e r m h = h
-good_long image_size text (Fault k) s w p n size l e r m h =
-    absurd (let t = reached_on image_size s w (after_line image_size p n l) e r in let f = fault_stops image_size p n k l m in let z : ◌≡◌ {A = ℕ} 0 1 = cc in omega arith)
+pub good_long : (image_size : ℕ) (line : Result Line Refusal) (s : Stage) (w : List ℕ) (p : Progress) (n size : ℕ) (l : List ℕ) → Reached image_size (Ok s) w (after_line image_size p n l) → meaning_of line ≡ line_of l → Long size line → 11 ≤ size
+good_long image_size (Ok line) s w p n size l r m h = h
+good_long image_size (Err refusal) s w p n size l r m h =
+    let t = reached_on image_size s w (after_line image_size p n l) r in
+    let f = fault_stops image_size p n (refusal_number refusal) l m in cc

@@ -1,47 +1,14 @@
--- A part of a buffer filled, a place at a time; and what a buffer holds that was cleared.
-use mathlib.Core.Path.{◌≡◌, refl, sym, ◌∙◌}
-use mathlib.Core.List.{List, []}
-use Prim.Native.Nat.{ℕ, zero, suc, ◌+◌, ◌/◌, ◌%◌, ◌^◌, ◌<◌, ◌≤◌}
-use native.Mathlib.Decide.{ℕ_discrete}
-use native.Mathlib.Nat.{not-suc-le-zero, zero-div}
-use native.Mathlib.Numerals.{add-one}
+-- The image of what a buffer holds.
+use mathlib.Core.Path.{◌≡◌, refl, ◌∙◌}
+use mathlib.Core.List.{List}
+use Prim.Native.Nat.{ℕ, zero, suc, ◌+◌, ◌<◌}
+use native.Mathlib.Nat.{not-suc-le-zero}
 use native.Mathlib.Omega.{arith}
-use lib.ListN.{length, get_or, set, take, length-set, length-take}
-use lib.Seq.{take_all, take-suc, take-suc-set, get_or-set_same, get_or-set_other, get_or-take, ext_get_or}
+use lib.ListN.{length, get_or, take, length-take}
+use lib.Seq.{get_or-take, ext_get_or}
 use Rattle.hex_reader.specs.Given.{Given, byte_at, bytes_from, image_of}
-use Rattle.hex_reader.specs.Work.{work_size, Holds, Filled}
+use Rattle.hex_reader.specs.Work.{Holds}
 
-pub filled_none : (w : List ℕ) (from byte : ℕ) → Filled w w from from byte
-filled_none w from byte =
-    record {
-      size = refl;
-      inside = λ i g h. absurd (let z : ⊥ = omega arith in z);
-      below = λ i h. refl;
-      above = λ i h. refl;
-    }
-
-more_inside : (m : List ℕ) (i byte k : ℕ) → i < length m → (k < i → get_or m k 0 ≡ byte) → k < i + 1 → Dec (k ≡ i) → get_or (set m i byte) k 0 ≡ byte
-more_inside m i byte k h f g (yes e) = rw e (get_or-set_same m i byte 0 h)
-more_inside m i byte k h f g (no ne) = get_or-set_other m i k byte 0 ne ∙ f (omega arith)
-
-pub filled_more : {w m : List ℕ} {from i byte : ℕ} → Filled w m from i byte → from ≤ i → i < length w → Filled w (set m i byte) from (i + 1) byte
-filled_more {m = m} {i = i} {byte = byte} f g h =
-    record {
-      size = length-set m i byte ∙ f.size;
-      inside = λ k p q. more_inside m i byte k (let s = f.size in omega arith) (λ l. f.inside k p l) q (ℕ_discrete k i);
-      below = λ k p. get_or-set_other m i k byte 0 (λ e. omega arith) ∙ f.below k p;
-      above = λ k p. get_or-set_other m i k byte 0 (λ e. omega arith) ∙ f.above k (omega arith);
-    }
-
-pub cleared : (image_size : ℕ) (w m e : List ℕ) → length w ≡ work_size image_size → Filled w m 0 image_size 0xFF → Filled m e image_size (length w) 0 → Holds image_size e []
-cleared image_size w m e s f g =
-    record {
-      size = g.size ∙ (f.size ∙ s);
-      bytes = λ a h. g.below a h ∙ f.inside a (omega arith) h;
-      bits = λ a h. rw (g.inside (image_size + a / 8) (omega arith) (omega arith), zero-div (2 ^ (a % 8)));
-    }
-
--- the image of what the buffer holds
 from_length : (ds : List Given) (a n : ℕ) → length (bytes_from ds a n) ≡ n
 from_length ds a zero = refl
 from_length ds a (suc n) = rw (from_length ds (suc a) n)
@@ -65,10 +32,3 @@ held_image image_size w ds k =
     let n : length (take image_size w) ≡ image_size = omega (arith, length-take image_size w) in
     ext_get_or 0 (take image_size w) (image_of image_size ds) (n ∙ (let e = image_length image_size ds in omega arith))
     (λ i h. get_or-take image_size w i 0 (omega arith) ∙ (k.bytes i (omega arith) ∙ (let e = image_at image_size ds i (omega arith) in cc)))
-
--- a list copied into another, a place at a time
-pub copied_more : (m w : List ℕ) (i : ℕ) → take i m ≡ take i w → i < length m → i < length w → take (i + 1) (set m i (get_or w i 0)) ≡ take (i + 1) w
-copied_more m w i e h g = rw (add-one i, take-suc-set m i (get_or w i 0) h, take-suc w i 0 g, e)
-
-pub copied_all : (n : ℕ) (m w : List ℕ) (i : ℕ) → take i m ≡ take i w → length m ≡ n → i ≡ n → m ≡ take n w
-copied_all n m w i e s h = sym (take_all n m (omega arith)) ∙ (rw h at e)

@@ -1,13 +1,9 @@
--- `hex_writer::put_bytes` meets its contract: from i on the bytes are still to be written.
+-- `hex_writer::put_bytes` meets its contract: the bytes so far are written.
 use mathlib.Core.Path.{◌≡◌}
-use Prim.Native.Nat.{◌+◌, ◌-◌, ◌*◌, ◌≤◌}
-use lib.ListN.{length, drop}
-use Rattle.laws.specs.Writing.{Writing}
+use mathlib.Core.List.{◌++◌}
+use lib.ListN.{take}
 use Rattle.hex_writer.specs.Writer.{hex_bytes}
 use Rattle.hex_writer.proofs.put_bytes.Given as goal
 
-abbrev pub invariant-loop-i : goal.invariant-loop-i
-invariant-loop-i l = Writing l.initial.out l.out l.from l.next (hex_bytes (drop l.i l.bytes)) (hex_bytes l.bytes) × (l.next ≡ l.from + 2 * l.i) × (l.i ≤ length l.bytes)
-
-abbrev pub decreases-loop-i : goal.decreases-loop-i
-decreases-loop-i l = length l.bytes - l.i
+abbrev pub invariant-loop-byte : goal.invariant-loop-byte
+invariant-loop-byte l = l.line ≡ l.initial.line ++ hex_bytes (take l.byte-index l.bytes)

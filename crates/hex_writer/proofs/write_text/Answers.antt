@@ -1,67 +1,51 @@
--- `hex_writer::write_text` meets its contract: from record k on the text is still to be written.
+-- `hex_writer::write_text` meets its contract: the records so far are written.
 use mathlib.Core.Path.{◌≡◌, ◌∙◌}
-use Prim.Native.Nat.{◌-◌, ◌<◌}
-use lib.ListN.{length}
-use Rattle.laws.proofs.Writing.{writing_all}
-use Rattle.hex_writer.specs.Writer.{records_of, text_of}
-use Rattle.hex_writer.proofs.Texts.{records_on, part_length, record_of, text_end, text_written}
+use Prim.Native.Nat.{◌+◌, ◌-◌, ◌*◌, ◌/◌, ◌<◌}
+use lib.ListN.{length, drop, length-take, length-drop}
+use Rattle.hex_writer.specs.Writer.{record_text, data_fields, end_fields, sixteen_at, records_of, text_of}
+use Rattle.hex_writer.proofs.Texts.{records_more, record_of, sixteen_length, record_length, stored_front, stored_rest, stored_all}
 use native.Mathlib.Omega.{arith}
 use Rattle.hex_writer.proofs.write_text.Goals as goal
 
-pub loop-k-init : goal.loop-k-init
-unfolding text_of
-loop-k-init c = let n = records_of (length c.args.image.now) in let z : n - 0 ≡ n = omega arith in (rw z (writing_all _ (omega arith)), omega arith, omega arith, omega arith)
-
-pub overflow_mul-address : goal.overflow_mul-address
-overflow_mul-address c = omega arith
-
-pub overflow_add-end : goal.overflow_add-end
-overflow_add-end c = omega arith
-
-pub overflow_cast-head : goal.overflow_cast-head
-overflow_cast-head c = omega arith
-
-pub overflow_cast-head-in-loop-k : goal.overflow_cast-head-in-loop-k
-overflow_cast-head-in-loop-k c = omega arith
-
-pub overflow_cast-head-in-loop-k-2 : goal.overflow_cast-head-in-loop-k-2
-overflow_cast-head-in-loop-k-2 c = omega arith
-
-pub slice_bounds-put_record-count : goal.slice_bounds-put_record-count
-slice_bounds-put_record-count c = omega arith
-
-pub slice_bounds-put_record-start : goal.slice_bounds-put_record-start
-slice_bounds-put_record-start c = omega arith
-
-pub slice_bounds-put_record-end : goal.slice_bounds-put_record-end
-slice_bounds-put_record-end c = omega arith
-
-pub put_record-next-requires : goal.put_record-next-requires
-put_record-next-requires c = let a = c.args in let l = c.loop-k in omega (arith, l.invariant.0.wrote.size, part_length a.image.now l.k (omega arith))
-
-pub overflow_add-k : goal.overflow_add-k
-overflow_add-k c = omega arith
-
-pub loop-k-smaller : goal.loop-k-smaller
-loop-k-smaller c = omega arith
+pub copy_from_slice-requires : goal.copy_from_slice-requires
+copy_from_slice-requires c =
+    let image = c.args.image.now in
+    let k = c.loop-k.k in
+    let h : k < records_of (length image) = omega arith in
+    let e = c.record-line.ensures ∙ record_of image k h in
+    let n : length c.as_slice.result.now ≡ 44 = rw (c.as_slice.ensures, e) (omega (arith, record_length (data_fields (16 * k) (sixteen_at image k)), sixteen_length image k h)) in
+    omega (arith, n, length-take (44 * k + 44 - 44 * k) (drop (44 * k) c.loop-k.out), length-drop (44 * k) c.loop-k.out)
 
 pub loop-k-preserved : goal.loop-k-preserved
 loop-k-preserved c =
     let image = c.args.image.now in
-    let l = c.loop-k in
-    let w = c.put_record-next.ensures in
-    let h : l.k < records_of (length image) = omega arith in
-    let next = records_on _ _ _ l.invariant.0 h (rw (record_of image l.k h) at w.0) in
-    (next, omega (arith, w.1, part_length image l.k h), omega arith, l.invariant.3)
+    let k = c.loop-k.k in
+    let i = c.loop-k.invariant in
+    let h : k < records_of (length image) = omega arith in
+    let line = record_text (data_fields (16 * k) (sixteen_at image k)) in
+    let e : c.copy_from_slice.new.self ≡ line = c.copy_from_slice.ensures.after ∙ (c.as_slice.ensures ∙ (c.record-line.ensures ∙ record_of image k h)) in
+    let n : length line ≡ 44 = omega (arith, record_length (data_fields (16 * k) (sixteen_at image k)), sixteen_length image k h) in
+    let a : 44 * (k + 1) ≡ 44 * k + length line = omega arith in
+    let z : 44 * k + 44 - 44 * k ≡ length line = omega arith in
+    record {
+      written = rw (e, records_more image k) (stored_front c.loop-k.out c.args.out.now line _ (44 * k) (44 * k + 44 - 44 * k) (44 * (k + 1)) a z (omega arith) i.written i.rest);
+      rest = rw e (stored_rest c.loop-k.out c.args.out.now line _ (44 * k) (44 * k + 44 - 44 * k) (44 * (k + 1)) a z (omega arith) i.written i.rest);
+      all = i.all;
+    }
 
-pub slice_bounds-put_record-end-2 : goal.slice_bounds-put_record-end-2
-slice_bounds-put_record-end-2 c = omega arith
-
-pub put_record-requires : goal.put_record-requires
-put_record-requires c = let l = c.loop-k in omega (arith, l.invariant.0.wrote.size)
-
-pub shape_of-out : goal.shape_of-out
-shape_of-out c = c.put_record.ensures.0.size ∙ c.loop-k.invariant.0.wrote.size
+pub copy_from_slice-requires-2 : goal.copy_from_slice-requires-2
+copy_from_slice-requires-2 c =
+    let r = 44 * (length c.args.image.now / 16) in
+    let n : length c.as_slice-2.result.now ≡ 12 = rw (c.as_slice-2.ensures, c.record-end.ensures) (record_length end_fields) in
+    omega (arith, n, length-take (r + 12 - r) (drop r c.loop-k.out), length-drop r c.loop-k.out)
 
 pub returns : goal.returns
-returns c = let a = c.args in let l = c.loop-k in let w = c.put_record.ensures in text_written (length a.image.now) _ _ (text_end _ _ _ l.invariant.0 (omega arith) w.0) (omega (arith, w.1))
+unfolding text_of
+returns c =
+    let r = 44 * (length c.args.image.now / 16) in
+    let i = c.loop-k.invariant in
+    let k : 44 * c.loop-k.k ≡ r = omega arith in
+    let j : c.loop-k.k ≡ records_of (length c.args.image.now) = omega arith in
+    let n = record_length end_fields in
+    let e : c.copy_from_slice-2.new.self ≡ record_text end_fields = c.copy_from_slice-2.ensures.after ∙ (c.as_slice-2.ensures ∙ c.record-end.ensures) in
+    rw e (stored_all c.loop-k.out c.args.out.now (record_text end_fields) _ r (r + 12 - r) (44 * records_of (length c.args.image.now) + 12) (omega arith) (omega arith) (omega arith) (rw (k, j) at i.written) (rw k at i.rest))

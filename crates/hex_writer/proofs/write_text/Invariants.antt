@@ -1,14 +1,13 @@
--- `hex_writer::write_text` meets its contract: from record k on the text is still to be written.
+-- `hex_writer::write_text` meets its contract: the records so far are written.
 use mathlib.Core.Path.{◌≡◌}
-use mathlib.Core.List.{◌++◌}
-use Prim.Native.Nat.{◌-◌, ◌*◌, ◌≤◌}
-use lib.ListN.{length}
-use Rattle.laws.specs.Writing.{Writing}
-use Rattle.hex_writer.specs.Writer.{record_text, end_fields, records_from, records_of, text_of}
+use Prim.Native.Nat.{◌*◌}
+use lib.ListN.{length, take, drop}
+use Rattle.hex_writer.specs.Writer.{records_from, records_of}
 use Rattle.hex_writer.proofs.write_text.Given as goal
 
 abbrev pub invariant-loop-k : goal.invariant-loop-k
-invariant-loop-k l = Writing l.initial.out l.out 0 l.next (records_from l.image l.k (records_of (length l.image) - l.k) ++ record_text end_fields) (text_of (length l.image) l.image) × (l.next ≡ 44 * l.k) × (l.k ≤ l.records) × (l.records ≡ records_of (length l.image))
-
-abbrev pub decreases-loop-k : goal.decreases-loop-k
-decreases-loop-k l = l.records - l.k
+invariant-loop-k l = record {
+  written : take (44 * l.k) l.out ≡ records_from l.image 0 l.k;
+  rest : drop (44 * l.k) l.out ≡ drop (44 * l.k) l.initial.out;
+  all : l.records ≡ records_of (length l.image);
+}

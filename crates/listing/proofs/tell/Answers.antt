@@ -1,22 +1,15 @@
 -- `listing::tell` meets its contract.
 use mathlib.Core.Path.{sym, ◌∙◌}
-use native.Mathlib.Omega.{arith}
-use Rattle.device.specs.Device.{in_image, rom_of}
+use borrow.Author.Rules.{rules}
 use Rattle.step.proofs.Answering.{seen_in_range}
-use Rattle.listing.proofs.Telling.{bad-line, step-told}
+use Rattle.listing.proofs.Telling.{bad-line, frame-told}
 use Rattle.listing.proofs.tell.Goals as goal
 
-pub returns-in_default : goal.returns-in_default
-returns-in_default c =
-    let pre = c.requires in
-    let frame-of = c.frame_of in
-    let refused = c.refused_line-end in
-    bad-line _ _ _ _ _ (record { core = pre.1; ram = pre.2 }) (sym frame-of.ensures ∙ c.in_default.is) refused.ensures.wrote refused.ensures.value
+pub tell_step-requires : goal.tell_step-requires
+tell_step-requires g c = (search rules, (c.args.image.of_its_size, c.requires.0, c.requires.1, seen_in_range _ _ _ (sym c.frame_of.ensures ∙ c.in-Some.is), c.requires.2))
 
-pub advance-x-requires : goal.advance-x-requires
-advance-x-requires c = (c.requires.1, c.requires.2, c.requires.0, seen_in_range _ _ _ (sym c.frame_of.ensures ∙ c.in-Seen.is))
+pub returns-in-Some : goal.returns-in-Some
+returns-in-Some g c = frame-told _ _ _ _ _ (record { core = c.requires.0; ram = c.requires.1 }) (sym c.frame_of.ensures ∙ c.in-Some.is) c.tell_step.ensures
 
-pub returns : goal.returns
-returns c =
-    let e = sym c.frame_of.ensures ∙ c.in-Seen.is in
-    step-told _ (rom_of c.args.image.now) _ _ _ (record { core = c.requires.1; ram = c.requires.2 }) e (seen_in_range _ _ _ e) (λ p3 at. omega (arith, c.type_inv.image (in_image p3 at))) c.advance-x.ensures c.line-end.ensures.wrote c.line-end.ensures.upper_bound
+pub returns-in-None : goal.returns-in-None
+returns-in-None g c = bad-line _ _ _ _ _ (record { core = c.requires.0; ram = c.requires.1 }) (sym c.frame_of.ensures ∙ c.in-None.is) c.refused_line.ensures.text c.refused_line.ensures.size

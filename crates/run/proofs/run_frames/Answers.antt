@@ -1,47 +1,56 @@
 -- `run::run_frames` meets its contract.
+use mathlib.Core.Path.{sym, ap, ◌∙◌}
 use native.Mathlib.Omega.{arith}
 use Rattle.device.specs.Device.{in_image}
-use Rattle.run.proofs.Going.{few_steps, fewer_steps, in_a_word, nearer, starts, room, is-frame, shows, ended, goes_on, ends-early}
+use Rattle.frame.specs.Frame.{pins_of}
+use Rattle.run.proofs.Going.{stopped, completed, whole-piece, starts, is-frame, shows, ended, goes_on, ends-early}
 use Rattle.run.proofs.run_frames.Goals as goal
 
-pub loop-at-init : goal.loop-at-init
-loop-at-init c = starts _ _ _ _ c.requires.0 c.requires.3
+pub loop-frame-init : goal.loop-frame-init
+loop-frame-init c =
+    let at = c.into_iter-frame-iterator.ensures.into_iter_gives in
+    let cut = c.chunks_exact-frame-items.ensures in
+    record {
+      size = rw at (cut.size ∙ c.frame_size.ensures);
+      going = starts _ _ _ _ _ (rw at cut.rest) c.requires.0 c.requires.3;
+    }
 
 pub pins_at-pins-requires : goal.pins_at-pins-requires
-pins_at-pins-requires c = (room _ _ _ _ _ _ _ _ _ c.loop-at.invariant c.loop-at-test.true, is-frame _ _ _ _ _ _ _ _ _ c.loop-at.invariant c.loop-at-test.true)
+pins_at-pins-requires c =
+    let g = c.loop-frame.invariant in
+    let cut = c.in-Some.ensures.steps.1 in
+    let whole = cut.1 ∙ g.size in
+    (omega (arith, whole), rw (whole-piece _ _ whole) (is-frame _ _ _ _ _ _ _ _ _ g.going _ _ cut.0 whole))
 
 pub advance-x-requires : goal.advance-x-requires
 advance-x-requires c =
-    let g = c.loop-at.invariant in
-    (g.valid.core, g.valid.ram, c.requires.1, rw c.pins_at-pins.ensures (shows _ _ _ _ _ _ _ _ _ g c.loop-at-test.true))
+    let g = c.loop-frame.invariant in
+    let cut = c.in-Some.ensures.steps.1 in
+    let whole = cut.1 ∙ g.size in
+    (g.going.valid.core, g.going.valid.ram, c.requires.1, rw (c.pins_at-pins.ensures, whole-piece _ _ whole) (shows _ _ _ _ _ _ _ _ _ g.going _ _ cut.0 whole))
 
-pub returns-then-x-ne0 : goal.returns-then-x-ne0
-returns-then-x-ne0 c = ends-early _ _ _ _ _ _ _ _ _ c.loop-at.invariant _ _ _ c.pins_at-pins.ensures c.loop-at-test.true c.advance-x.ensures c.if-x-ne0.true
+pub returns-then-is_some : goal.returns-then-is_some
+returns-then-is_some c =
+    let g = c.loop-frame.invariant in
+    let cut = c.in-Some.ensures.steps.1 in
+    let whole = cut.1 ∙ g.size in
+    let pins = c.pins_at-pins.ensures ∙ ap pins_of (whole-piece _ _ whole) in
+    ends-early _ _ _ _ _ _ _ _ _ g.going _ _ cut.0 whole _ _ (rw pins at c.advance-x.ensures) (stopped _ (sym c.is_some.ensures ∙ c.if-is_some.true))
 
-pub overflow_add-cycles : goal.overflow_add-cycles
-overflow_add-cycles c =
-    let g = c.loop-at.invariant in
-    let few = fewer_steps c.args.options.device _ _ _ g.so_far (room _ _ _ _ _ _ _ _ _ g c.loop-at-test.true) c.requires.2 in
-    omega (arith, g.few, few)
-
-pub overflow_add-steps : goal.overflow_add-steps
-overflow_add-steps c =
-    let g = c.loop-at.invariant in
-    let few = few_steps c.args.options.device _ _ _ g.so_far g.within c.requires.2 in
-    omega (arith, few)
-
-pub overflow_add-at : goal.overflow_add-at
-overflow_add-at c =
-    let g = c.loop-at.invariant in
-    rw c.frame_size-at.ensures (record { fits = in_a_word c.args.options.device _ _ g.within c.requires.2 })
-
-pub loop-at-smaller : goal.loop-at-smaller
-loop-at-smaller c = rw c.frame_size-at.ensures (nearer c.args.options.device _ _ c.loop-at-test.true)
-
-pub loop-at-preserved : goal.loop-at-preserved
-loop-at-preserved c =
-    rw c.frame_size-at.ensures
-    (goes_on _ _ _ _ _ _ _ _ _ c.loop-at.invariant _ _ _ c.pins_at-pins.ensures c.loop-at-test.true c.advance-x.ensures c.if-x-ne0.false (omega arith) (λ p3 at. (c.type_inv.image (in_image p3 at)).fits))
+pub loop-frame-preserved : goal.loop-frame-preserved
+loop-frame-preserved c =
+    let g = c.loop-frame.invariant in
+    let next = c.in-Some.ensures.steps in
+    let whole = next.1.1 ∙ g.size in
+    let pins = c.pins_at-pins.ensures ∙ ap pins_of (whole-piece _ _ whole) in
+    record {
+      size = next.0 ∙ g.size;
+      going =
+          goes_on _ _ _ _ _ _ _ _ _ g.going _ _ next.1.0 whole _ _ (rw pins at c.advance-x.ensures) (completed _ (sym c.is_some.ensures ∙ c.if-is_some.false)) (omega arith)
+          (λ p3 at. (c.type_inv.image (in_image p3 at)).fits);
+    }
 
 pub returns : goal.returns
-returns c = ended _ _ _ _ _ _ _ _ _ c.loop-at.invariant c.loop-at-test.false
+returns c =
+    let g = c.loop-frame.invariant in
+    ended _ _ _ _ _ _ _ _ _ g.going (rw (← g.size) c.in-None.ensures.steps.1.0)

@@ -1,10 +1,7 @@
 -- `sha256::all_rounds` meets its contract.
-use Rattle.std.proofs.Common.{◌≡◌, ◌-◌, ◌≤◌}
+use Rattle.std.proofs.Common.{◌≡◌}
 use Rattle.sha256.specs.Sha256.{rounds}
 use Rattle.sha256.proofs.all_rounds.Given as goal
 
 abbrev pub invariant-loop-t : goal.invariant-loop-t
-invariant-loop-t l = (l.t ≤ 64) × (l.s ≡ rounds l.w l.initial.s l.t)
-
-abbrev pub decreases-loop-t : goal.decreases-loop-t
-decreases-loop-t l = 64 - l.t
+invariant-loop-t l = l.s ≡ rounds l.w l.initial.s l.t

@@ -5,27 +5,15 @@ use Rattle.sha256.proofs.Padding.{padded_length}
 use Rattle.sha256.proofs.Steps.{one_block, no_block}
 use Rattle.sha256.proofs.hash.Goals as goal
 
-pub start-s-requires : goal.start-s-requires
-start-s-requires c = tt
-
 pub loop-i-init : goal.loop-i-init
-loop-i-init c = (omega arith, c.start-s.ensures ∙ sym (no_block _))
-
-pub overflow_mul-i : goal.overflow_mul-i
-overflow_mul-i c = omega arith
+loop-i-init c = c.start-s.ensures ∙ sym (no_block _)
 
 pub take_block-s-requires : goal.take_block-s-requires
-take_block-s-requires c = (c.requires, omega (arith, c.blocks-count.ensures, padded_length c.args.message.now))
-
-pub overflow_add-i : goal.overflow_add-i
-overflow_add-i c = omega arith
-
-pub loop-i-smaller : goal.loop-i-smaller
-loop-i-smaller c = omega arith
+take_block-s-requires c = (c.requires, omega (arith, c.blocks-i-end.ensures, padded_length c.args.message.now))
 
 pub loop-i-preserved : goal.loop-i-preserved
-loop-i-preserved c = (omega arith, cc (one_block (padded c.args.message.now) c.loop-i.i))
+loop-i-preserved c = cc (one_block (padded c.args.message.now) c.loop-i.i)
 
 pub returns : goal.returns
 unfolding hash_of
-returns c = let e : c.loop-i.i ≡ length (padded c.args.message.now) / 64 = omega (arith, c.blocks-count.ensures, padded_length c.args.message.now) in rw e at c.loop-i.invariant.1
+returns c = let e : c.loop-i.i ≡ length (padded c.args.message.now) / 64 = omega (arith, c.blocks-i-end.ensures, padded_length c.args.message.now) in rw e at c.loop-i.invariant

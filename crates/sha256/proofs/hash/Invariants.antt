@@ -1,10 +1,7 @@
 -- `sha256::hash` meets its contract.
-use Rattle.std.proofs.Common.{◌≡◌, ◌-◌, ◌≤◌}
+use Rattle.std.proofs.Common.{◌≡◌}
 use Rattle.sha256.specs.Sha256.{padded, after_blocks}
 use Rattle.sha256.proofs.hash.Given as goal
 
 abbrev pub invariant-loop-i : goal.invariant-loop-i
-invariant-loop-i l = (l.i ≤ l.count) × (l.s ≡ after_blocks (padded l.message) l.i)
-
-abbrev pub decreases-loop-i : goal.decreases-loop-i
-decreases-loop-i l = l.count - l.i
+invariant-loop-i l = l.s ≡ after_blocks (padded l.message) l.i

@@ -6,29 +6,17 @@ use Rattle.sha256.proofs.Steps.{no_word}
 use Rattle.sha256.proofs.scheduled.Goals as goal
 
 pub loop-t-init : goal.loop-t-init
-loop-t-init c = (omega arith, refl, sym (no_word _ _))
-
-pub offset_bounds-w-t : goal.offset_bounds-w-t
-offset_bounds-w-t c = omega arith
-
-pub bounds-w-t : goal.bounds-w-t
-bounds-w-t c = omega arith
-
-pub overflow_add-t : goal.overflow_add-t
-overflow_add-t c = omega arith
-
-pub loop-t-smaller : goal.loop-t-smaller
-loop-t-smaller c = omega arith
+loop-t-init c = (refl, sym (no_word _ _))
 
 pub loop-t-preserved : goal.loop-t-preserved
 loop-t-preserved c =
     let a = c.args in
     let l = c.loop-t in
-    let longer = word_written (padded a.message.now) a.from l.t l.w c.next_word-next.result (omega arith) l.invariant.2 c.next_word-next.ensures in
-    (omega arith, (simp length-set l.invariant.1), longer)
+    let longer = word_written (padded a.message.now) a.from l.t l.w c.next_word-next.result (omega arith) l.invariant.1 c.next_word-next.ensures in
+    ((simp length-set l.invariant.0), longer)
 
 pub returns : goal.returns
 returns c =
     let l = c.loop-t in
     let e : l.t ≡ 64 = omega arith in
-    sym (take_all 64 l.w (omega arith)) ∙ (rw e at l.invariant.2)
+    sym (take_all 64 l.w (omega arith)) ∙ (rw e at l.invariant.1)

@@ -9,7 +9,7 @@ act-requires c =
     (seen_runs _ _ _ _ c.seen-core.ensures (sym c.is_running.ensures ∙ c.if-is_running.true) pre.0 pre.3, pre.1, pre.2)
 
 pub returns-then-is_running : goal.returns-then-is_running
-returns-then-is_running c = runs _ _ _ _ _ _ c.seen-core.ensures (sym c.is_running.ensures ∙ c.if-is_running.true) _ _ c.act.ensures
+returns-then-is_running c = rw c.acted.ensures (runs _ _ _ _ _ _ c.seen-core.ensures (sym c.is_running.ensures ∙ c.if-is_running.true) _ _ c.act.ensures)
 
-pub returns : goal.returns
-returns c = waits _ _ _ _ _ _ c.waited-asleep.ensures (sym c.is_running.ensures ∙ c.if-is_running.false)
+pub returns-else-is_running : goal.returns-else-is_running
+returns-else-is_running c = waits _ _ _ _ _ _ c.waited-cycles.ensures (sym c.is_running.ensures ∙ c.if-is_running.false)

@@ -1,7 +1,6 @@
 -- `step_act::source` meets its contract.
 use Prim.Native.Nat.{ℕ, ◌<◌}
-use mathlib.Core.Path.{subst, sym, ap, ◌∙◌}
-use Rattle.due.specs.Due.{latch_of_source}
+use mathlib.Core.Path.{subst, sym}
 use Rattle.due.proofs.Sources.{number_lt, number_tells}
 use Rattle.step_act.specs.Act.{source_of}
 use Rattle.step_act.proofs.source.Goals as goal
@@ -15,9 +14,8 @@ pub returns-then-m : goal.returns-then-m
 unfolding source_of
 returns-then-m c =
     let ints = c.args.m.ints in
-    rw c.if-m.true
-    (c.latch_of.ensures ∙ (ap latch_of_source c.requires.due ∙ number_tells ints.il ints.mask))
+    rw (c.if-m.true, ← number_tells ints.il ints.mask, ← c.requires.due) c.latch_of.ensures
 
-pub returns : goal.returns
+pub returns-else-m : goal.returns-else-m
 unfolding source_of
-returns c = rw c.if-m.false
+returns-else-m c = rw c.if-m.false

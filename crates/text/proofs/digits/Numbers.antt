@@ -7,7 +7,7 @@ use native.Mathlib.Nat.{not-suc-le-zero, pow-suc, one-le-pow}
 use native.Mathlib.Decide.{dec_lt}
 use borrow.Author.Tests.{lt-ltb, le-ltb}
 use lib.ListN.{length, take, replicate, length-append}
-use Rattle.text.specs.Digits.{digit, in_base, places_within, places_of, blanks, padded}
+use Rattle.text.specs.Digits.{digit, in_base, places_within, places_of, decimal, blanks, padded}
 use Rattle.laws.specs.Writing.{Wrote}
 use Rattle.laws.proofs.Writing.{wrote_then}
 
@@ -62,6 +62,15 @@ places_in (suc k) v g h =
     let f = pow-suc 10 (suc (suc k)) in
     let p = one-le-pow (suc k) 10 (omega arith) in
     places_more v (omega arith) ∙ ap suc (places_in k (v / 10) (omega arith) (omega arith))
+
+-- a decimal number's last digit, and those before it
+pub decimal_one : (v : ℕ) → v < 10 → decimal v ≡ digit v ∷ []
+unfolding in_base
+decimal_one v h = let e : v % 10 ≡ v = omega arith in rw (places_one v h, e)
+
+pub decimal_more : (v : ℕ) → 10 ≤ v → decimal v ≡ decimal (v / 10) ++ (digit (v % 10) ∷ [])
+unfolding in_base
+decimal_more v h = rw (places_more v h)
 
 up_to : (k v : ℕ) → places_of (v / 10) ≤ suc k → Dec (v < 10) → places_of v ≤ suc (suc k)
 up_to k v h (yes b) = omega (arith, places_one v b)

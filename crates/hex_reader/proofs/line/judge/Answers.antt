@@ -3,8 +3,5 @@ use mathlib.Core.Path.{sym, ◌∙◌}
 use Rattle.hex_reader.proofs.line.Records.{no_record}
 use Rattle.hex_reader.proofs.line.judge.Goals as goal
 
-pub judge_record-requires : goal.judge_record-requires
-judge_record-requires c = sym c.is_record.ensures ∙ c.if-is_record.true
-
-pub returns : goal.returns
-returns c = record { meaning = sym (no_record c.args.line.now (sym c.is_record.ensures ∙ c.if-is_record.false)); placed = tt; long = tt }
+pub returns-else-is_record : goal.returns-else-is_record
+returns-else-is_record c = record { meaning = sym (no_record c.args.line.now (sym c.is_record.ensures ∙ c.if-is_record.false)); placed = tt; long = tt }

@@ -8,4 +8,4 @@ pub returns-then-places-eq0-clause-wrote : goal.returns-then-places-eq0-clause-w
 returns-then-places-eq0-clause-wrote t c = rw (digits_none _ _ _ c.if-places-eq0.true) (wrote_none (omega arith))
 
 pub returns-clause-wrote : goal.returns-clause-wrote
-returns-clause-wrote t c = rw (← digits_then _ _ _ c.if-places-eq0.false) (wrote_then c.number-last.ensures.wrote (rw c.digit.ensures at c.put.ensures))
+returns-clause-wrote t c = rw (← digits_then _ _ _ c.if-places-eq0.false) (wrote_then c.number-last.ensures.wrote (rw (c.digit.ensures, c.from-d.ensures) at c.put.ensures))

@@ -1,0 +1,6 @@
+-- `hex_calls::feed_chunk` meets its contract.
+use Rattle.hex_calls.proofs.state.Ranges.{state_length}
+use Rattle.hex_calls.proofs.feed_chunk.Goals as goal
+
+pub pack-requires : goal.pack-requires
+pack-requires c = state_length c.args.state.now c.in-Some.ensures.0
