@@ -1,3 +1,4 @@
+pub mod Cycles
 pub mod Telling
 pub mod Feeding
 pub mod Parts

@@ -23,12 +23,12 @@ use Rattle.step.specs.declared.Advanced.{Advanced}
 use Rattle.step.proofs.StepValid.{step-valid}
 use Rattle.text.specs.Refusal.{refused_line}
 use Rattle.listing.specs.Lines.{step_line}
-use Rattle.listing.specs.Listing.{Answer, options, answer_of}
+use Rattle.listing.specs.Listing.{Answer, options, step_answer, answer_of}
 use Rattle.listing.specs.Tells.{Tells}
 use Rattle.listing.specs.declared.Told.{Told}
 
 -- no stop has the number 0
-stops : (stop : Option Stop) → is_some stop ≡ not (eqb (stop_or_0 stop) 0)
+pub stops : (stop : Option Stop) → is_some stop ≡ not (eqb (stop_or_0 stop) 0)
 stops None = refl
 stops (Some UnassignedCode) = refl
 stops (Some AbsentRamAddress) = refl
@@ -42,17 +42,19 @@ module _ (d : Device) (rom : ℕ → ℕ → ℕ) (m : Core) (ram line : List �
   unfolding answer_of
   bad-line e w h = rw e (record { wrote = w; short = omega arith; machine = refl; ended = refl; valid = valid })
 
-  pub step-told : {pins : Pins} {k : List ℕ} {x : Advanced} {ended : Bool} → frame_of d line ≡ Some pins → PinsInRange d pins → ((p3 at : ℕ) → rom p3 at < 256) → Advances (step_of rom (options d) (assembled m ram) pins) k x → after ≡ before ++ step_line x.core x.cycles (stop_or_0 x.stop) → length after ≤ length before + 26 → ended ≡ is_some x.stop → Tells d (answer_of d rom (assembled m ram) line) before after k (record { core = x.core; ended = ended })
-  unfolding answer_of
-  step-told {pins = pins} {x = x} e p bytes g w h t =
-      rw e
-      (record {
+  pub step-told : {pins : Pins} {k : List ℕ} {x : Advanced} {ended : Bool} → PinsInRange d pins → ((p3 at : ℕ) → rom p3 at < 256) → Advances (step_of rom (options d) (assembled m ram) pins) k x → after ≡ before ++ step_line x.core x.cycles (stop_or_0 x.stop) → length after ≤ length before + 26 → ended ≡ is_some x.stop → Tells d (step_answer (step_of rom (options d) (assembled m ram) pins)) before after k (record { core = x.core; ended = ended })
+  step-told {pins = pins} {x = x} p bytes g w h t =
+      record {
         wrote = rw (← g.same) w;
         short = h;
         machine = ap (λ (x : Done). x.machine) g.same;
         ended = t ∙ stops x.stop ∙ ap (λ (x : Done). not (eqb x.stop 0)) g.same;
         valid = step-valid rom (options d) (assembled m ram) pins valid p bytes;
-      })
+      }
+
+  pub frame-told : {pins : Pins} {k : List ℕ} {r : Told} → frame_of d line ≡ Some pins → Tells d (step_answer (step_of rom (options d) (assembled m ram) pins)) before after k r → Tells d (answer_of d rom (assembled m ram) line) before after k r
+  unfolding answer_of
+  frame-told e t = rw e t
 
 told_by : {c d : Core} {s t : Bool} → c ≡ d → s ≡ t → ◌≡◌ {A = Told} (record { core = c; ended = s }) (record { core = d; ended = t })
 told_by c s = rw (c, s)

@@ -4,14 +4,16 @@
 pub mod line;
 
 ghost use Rattle.std.specs.Prelude.{◌≡◌, ◌+◌, ◌≤◌, length};
-ghost use Rattle.device.specs.Device.{rom_of};
+ghost use Rattle.device.specs.Device.{image_size, rom_of};
+ghost use Rattle.frame.specs.Frame.{PinsInRange};
 ghost use Rattle.record.specs.Valid.{ValidCore, Nibbles};
-ghost use Rattle.listing.specs.Listing.{answer_of};
+ghost use Rattle.listing.specs.Listing.{options, step_answer, answer_of};
+ghost use Rattle.step.specs.Step.{step_of};
 ghost use Rattle.listing.specs.Tells.{Tells, Feeds};
 
-use device::Options;
 use device::image::Image;
-use frame::frame_of;
+use device::{Device, Options};
+use frame::{Pins, frame_of};
 use numbers::Refusal;
 use record::{Core, Ram};
 use step::advance;
@@ -33,7 +35,32 @@ pub struct Fed {
     pub used: usize,
 }
 
-// A line of the script, without its LF: its step on the RAM that is lent, or a refusal, and its text.
+// The step of a frame on the RAM that is lent, and its line.
+fn tell_step<const N: usize>(
+    d: Device,
+    image: &[u8],
+    m: Core,
+    ram: &mut Ram,
+    pins: Pins,
+    out: &mut Text<N>,
+) -> Told
+    requires { (length image.now ≡ image_size d) × (ValidCore d m) × (Nibbles ram.old) × (PinsInRange d pins) × (length out.old + 26 ≤ N) }
+    ensures { Tells d (step_answer (step_of (rom_of image.now) (options d) (record { core = m; ram = ram.old }) pins)) out.old out.new ram.new result }
+{
+    let options = Options {
+        device: d,
+        wake: 255,
+        sound: false,
+    };
+    let x = advance(image, options, m, ram, pins);
+    crate::line::line(out, x.core, x.cycles, x.stop);
+    Told {
+        core: x.core,
+        ended: x.stop.is_some(),
+    }
+}
+
+// A line of the script, without its LF: its step, or a refusal, and its text.
 pub fn tell<const N: usize>(
     image: Image,
     m: Core,
@@ -44,23 +71,15 @@ pub fn tell<const N: usize>(
     requires { (ValidCore image.device m) × (Nibbles ram.old) × (length out.old + 26 ≤ N) }
     ensures { Tells image.entry.device (answer_of image.entry.device (rom_of image.entry.bytes.now) (record { core = m; ram = ram.old }) text.now) out.old out.new ram.new result }
 {
-    let Some(pins) = frame_of(image.device, text) else {
-        out.refused_line(Refusal::NoFrame);
-        return Told {
-            core: m,
-            ended: true,
-        };
-    };
-    let options = Options {
-        device: image.device,
-        wake: 255,
-        sound: false,
-    };
-    let x = advance(image.bytes, options, m, ram, pins);
-    crate::line::line(out, x.core, x.cycles, x.stop);
-    Told {
-        core: x.core,
-        ended: x.stop.is_some(),
+    match frame_of(image.device, text) {
+        Some(pins) => tell_step(image.device, image.bytes, m, ram, pins, out),
+        None => {
+            out.refused_line(Refusal::NoFrame);
+            Told {
+                core: m,
+                ended: true,
+            }
+        }
     }
 }
 

@@ -8,7 +8,6 @@ ghost use Rattle.listing.specs.Lines.{column as columnOf, header as headerText};
 use numbers::Stop;
 use record::{Core, Registers};
 use text::Text;
-use text::text::places;
 
 // Of 19 characters.
 pub fn header<const N: usize>(out: &mut Text<N>)
@@ -53,13 +52,14 @@ fn registers<const N: usize>(out: &mut Text<N>, pc: u16, r: Registers, sp: u8)
 }
 
 // The cycles of a step and its stop, 00 where it does not stop.
+#[tactic(auto, using(crate::proofs::Cycles::places_of_cycles))]
 fn spent<const N: usize>(out: &mut Text<N>, cycles: u16, stop: Option<Stop>)
     requires { length out.old + 9 ≤ N }
     ensures text { out.new ≡ out.old ++ end_text cycles (stop_or_0 stop) }
     ensures upper_bound { length out.new ≤ length out.old + 9 }
 {
-    let cycles = u32::from(cycles);
-    column(out, 10, places(cycles), cycles);
+    out.decimal(u64::from(cycles));
+    out.put(b' ');
     out.number(10, 2, u32::from(stop.map_or(0, u8::from)));
     out.put(b'\n');
 }

@@ -1,5 +1,5 @@
 -- What the calls on numbers and byte buffers answer, for either device: include/em73862.h and include/em73p982.h have their names, here without em73862_ or em73p982_. A primed name is what a call leaves where it was given the other.
-use Rattle.std.specs.Prelude.{ℕ, not, List, Result, Ok, Err, Unit, ◌≡◌, eqb, length}
+use Rattle.std.specs.Prelude.{ℕ, not, List, Result, Ok, Err, ◌≡◌, eqb, length}
 use Rattle.device.specs.declared.Device.{Device}
 use Rattle.record_bytes.specs.Layout.{record_size}
 use Rattle.device.specs.Device.{image_size}

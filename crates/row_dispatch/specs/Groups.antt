@@ -30,8 +30,8 @@ rows_of Group.Moves = registers.moves
 rows_of Group.Makes = registers.makes
 rows_of Group.Asks = registers.asks
 rows_of Group.Branches = registers.branches
-rows_of Group.LoadPointer = pointers.load_pointer
-rows_of Group.LoadTimer = pointers.load_timer
+rows_of Group.GetPointer = pointers.load_pointer
+rows_of Group.GetTimer = pointers.load_timer
 rows_of Group.ReadByHl = ram.read_by_hl
 rows_of Group.ReadByX = ram.read_by_x
 rows_of Group.ReadByY = ram.read_by_y
@@ -39,9 +39,9 @@ rows_of Group.LoadPair = pair.loads
 rows_of Group.WriteByHl = ram.written_by_hl
 rows_of Group.WriteByX = ram.written_by_x
 rows_of Group.WriteByY = ram.written_by_y
-rows_of Group.ExchangePair = pair.exchanges
-rows_of Group.StorePointer = pointers.store_pointer
-rows_of Group.StoreTimer = pointers.store_timer
+rows_of Group.SwapPair = pair.exchanges
+rows_of Group.SetPointer = pointers.store_pointer
+rows_of Group.SetTimer = pointers.store_timer
 rows_of Group.RomLow = rom_low
 rows_of Group.RomHigh = rom_high
 rows_of Group.Latches = control.latches
@@ -58,8 +58,8 @@ limit_a Group.Moves = 16
 limit_a Group.Makes = 16
 limit_a Group.Asks = 16
 limit_a Group.Branches = addresses
-limit_a Group.LoadPointer = 1
-limit_a Group.LoadTimer = 1
+limit_a Group.GetPointer = 1
+limit_a Group.GetTimer = 1
 limit_a Group.ReadByHl = 16
 limit_a Group.ReadByX = 256
 limit_a Group.ReadByY = 16
@@ -67,9 +67,9 @@ limit_a Group.LoadPair = 256
 limit_a Group.WriteByHl = 16
 limit_a Group.WriteByX = 256
 limit_a Group.WriteByY = 16
-limit_a Group.ExchangePair = 256
-limit_a Group.StorePointer = 1
-limit_a Group.StoreTimer = 1
+limit_a Group.SwapPair = 256
+limit_a Group.SetPointer = 1
+limit_a Group.SetTimer = 1
 limit_a Group.RomLow = 1
 limit_a Group.RomHigh = 1
 limit_a Group.Latches = 64
@@ -88,6 +88,6 @@ pub record InGroup (g : Group) (i : Insn) : Type 0 where
   pub a : i.a < limit_a g
   pub b : i.b < limit_b
 
--- eight rows from row 8n on, as far as they are rows of the sheet, each in its group
-pub record Eight (n : ℕ) (gs : List Group) : Type 0 where
-  pub same : (k : ℕ) → k < 8 → 1 ≤ 8 * n + k → 8 * n + k < 108 → among (rows_of (get_or gs k Group.Moves)) (8 * n + k) ≡ true
+-- sixteen rows from row 16n on, as far as they are rows of the sheet, each in its group
+pub record Sixteen (n : ℕ) (gs : List Group) : Type 0 where
+  pub same : (k : ℕ) → k < 16 → 1 ≤ 16 * n + k → 16 * n + k < 108 → among (rows_of (get_or gs k Group.Moves)) (16 * n + k) ≡ true

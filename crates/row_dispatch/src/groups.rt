@@ -1,7 +1,7 @@
 // Which function executes a row: its group's.
 ghost use Rattle.std.specs.Prelude.{◌<◌};
 ghost use Rattle.sheet.specs.Fields.{InFields};
-ghost use Rattle.row_dispatch.specs.Groups.{InGroup, Eight};
+ghost use Rattle.row_dispatch.specs.Groups.{InGroup, Sixteen};
 
 use Group::*;
 use sheet::Insn;
@@ -12,8 +12,8 @@ pub enum Group {
     Makes,
     Asks,
     Branches,
-    LoadPointer,
-    LoadTimer,
+    GetPointer,
+    GetTimer,
     ReadByHl,
     ReadByX,
     ReadByY,
@@ -21,9 +21,9 @@ pub enum Group {
     WriteByHl,
     WriteByX,
     WriteByY,
-    ExchangePair,
-    StorePointer,
-    StoreTimer,
+    SwapPair,
+    SetPointer,
+    SetTimer,
     RomLow,
     RomHigh,
     Latches,
@@ -35,74 +35,39 @@ pub enum Group {
     CellToPort,
 }
 
-// The groups of the eight rows from row 8n on; what is no row stands as NOP does.
-fn groups_from(n: u8) -> [Group; 8]
-    requires { n < 14 }
-    ensures { Eight n result }
+// The groups of the sixteen rows from row 16n on; what is no row stands as NOP does.
+fn groups_from(n: u8) -> [Group; 16]
+    requires { n < 7 }
+    ensures { Sixteen n result }
 {
     match n {
         0 => [
-            Asks, ReadByX, ReadByHl, RomLow, RomHigh, Moves, LoadPair, Moves,
+            Asks, ReadByX, ReadByHl, RomLow, RomHigh, Moves, LoadPair, Moves, Moves, WriteByX,
+            WriteByHl, WriteByHl, WriteByHl, WriteByY, WriteByHl, Moves,
         ],
         1 => [
-            Moves, WriteByX, WriteByHl, WriteByHl, WriteByHl, WriteByY, WriteByHl, Moves,
+            Moves, Makes, Makes, ReadByHl, WriteByY, Makes, ReadByHl, Makes, Makes, WriteByHl,
+            Makes, Makes, WriteByHl, Makes, Makes, WriteByHl,
         ],
         2 => [
-            Moves, Makes, Makes, ReadByHl, WriteByY, Makes, ReadByHl, Makes,
+            Makes, ReadByHl, WriteByHl, Makes, ReadByHl, WriteByHl, Makes, ReadByHl, WriteByHl,
+            ReadByHl, WriteByX, Moves, Moves, WriteByHl, SwapPair, Branches,
         ],
         3 => [
-            Makes, WriteByHl, Makes, Makes, WriteByHl, Makes, Makes, WriteByHl,
+            Branches, Branches, ReadByY, ReadByX, ReadByHl, Asks, Asks, Asks, WriteByHl, WritePort,
+            WritePort, WriteByY, WriteByHl, WritePort, WritePort, WriteByY,
         ],
         4 => [
-            Makes, ReadByHl, WriteByHl, Makes, ReadByHl, WriteByHl, Makes, ReadByHl,
+            ReadByY, Asks, ReadByHl, ReadPort, ReadPort, ReadByY, ReadPort, Calls, Calls, Returns,
+            ReadPort, PortToCell, WritePort, WritePort, CellToPort, Asks,
         ],
         5 => [
-            WriteByHl,
-            ReadByHl,
-            WriteByX,
-            Moves,
-            Moves,
-            WriteByHl,
-            ExchangePair,
-            Branches,
-        ],
-        6 => [
-            Branches, Branches, ReadByY, ReadByX, ReadByHl, Asks, Asks, Asks,
-        ],
-        7 => [
-            WriteByHl, WritePort, WritePort, WriteByY, WriteByHl, WritePort, WritePort, WriteByY,
-        ],
-        8 => [
-            ReadByY, Asks, ReadByHl, ReadPort, ReadPort, ReadByY, ReadPort, Calls,
-        ],
-        9 => [
-            Calls, Returns, ReadPort, PortToCell, WritePort, WritePort, CellToPort, Asks,
-        ],
-        10 => [
-            Asks, Asks, Latches, Latches, Latches, Latches, Returns, Asks,
-        ],
-        11 => [
-            LoadPointer,
-            LoadPointer,
-            LoadPointer,
-            LoadPointer,
-            LoadTimer,
-            LoadTimer,
-            LoadTimer,
-            LoadTimer,
-        ],
-        12 => [
-            LoadTimer,
-            LoadTimer,
-            StorePointer,
-            StorePointer,
-            StorePointer,
-            StorePointer,
-            StoreTimer,
-            StoreTimer,
+            Asks, Asks, Latches, Latches, Latches, Latches, Returns, Asks, GetPointer, GetPointer,
+            GetPointer, GetPointer, GetTimer, GetTimer, GetTimer, GetTimer,
         ],
         _ => [
-            StoreTimer, StoreTimer, StoreTimer, StoreTimer, Asks, Asks, Asks, Asks,
+            GetTimer, GetTimer, SetPointer, SetPointer, SetPointer, SetPointer, SetTimer, SetTimer,
+            SetTimer, SetTimer, SetTimer, SetTimer, Asks, Asks, Asks, Asks,
         ],
     }
 }
@@ -111,6 +76,6 @@ pub fn group_of(i: Insn) -> Group
     requires { InFields i }
     ensures { InGroup result i }
 {
-    let eight = groups_from(i.row / 8);
-    eight[(i.row % 8) as usize]
+    let groups = groups_from(i.row / 16);
+    groups[(i.row % 16) as usize]
 }

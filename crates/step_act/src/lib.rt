@@ -45,7 +45,10 @@ fn run_one(image: &[u8], options: Options, m: Core, ram: &mut Ram) -> Result<Tur
         bytes: image,
         p3: m.ports.p3,
     };
-    let insn = read_at(window, m.pc)?;
+    let read = read_at(window, m.pc);
+    let Ok(insn) = read else {
+        return Err(Stop::from(read.unwrap_err()));
+    };
     perform(window, options, m, ram, insn)
 }
 

@@ -6,8 +6,8 @@ use Rattle.record.specs.With.{assembled}
 use Rattle.listing.proofs.Feeding.{Feeding}
 use Rattle.listing.proofs.feed.Given as goal
 
-abbrev pub invariant-loop-out : goal.invariant-loop-out
-invariant-loop-out g l = Feeding l.image.device (rom_of l.image.bytes.now) (assembled l.initial.core l.initial.ram) l.part l.initial.out l.out (assembled l.core l.ram) l.used
+abbrev pub invariant-loop-end : goal.invariant-loop-end
+invariant-loop-end g l = Feeding l.image.device (rom_of l.image.bytes.now) (assembled l.initial.core l.initial.ram) l.part l.initial.out l.out (assembled l.core l.ram) l.used
 
-abbrev pub decreases-loop-out : goal.decreases-loop-out
-decreases-loop-out g l = length l.part - l.used
+abbrev pub decreases-loop-end : goal.decreases-loop-end
+decreases-loop-end g l = length l.part - l.used

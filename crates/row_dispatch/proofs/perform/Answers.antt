@@ -21,17 +21,17 @@ returns-in-Asks c = rw c.with_act-in-Asks.ensures (quiet _ _ _ _ _ _ c.asked.ens
 pub returns-in-Branches : goal.returns-in-Branches
 returns-in-Branches c = rw c.with_act-in-Branches.ensures (quiet _ _ _ _ _ _ c.branched.ensures)
 
-pub returns-in_err-load_pointer-in-LoadPointer : goal.returns-in_err-load_pointer-in-LoadPointer
-returns-in_err-load_pointer-in-LoadPointer c = let stop : c.from_residual.result ≡ Err c.in_err-load_pointer-in-LoadPointer.field-0.0 = search rules in rw stop (points_not _ _ _ _ _ _ c.in_err-load_pointer-in-LoadPointer.ensures)
+pub returns-in_err-load_pointer-in-GetPointer : goal.returns-in_err-load_pointer-in-GetPointer
+returns-in_err-load_pointer-in-GetPointer c = let stop : c.from_residual.result ≡ Err c.in_err-load_pointer-in-GetPointer.field-0.0 = search rules in rw stop (points_not _ _ _ _ _ _ c.in_err-load_pointer-in-GetPointer.ensures)
 
-pub returns-in_ok-load_pointer-in-LoadPointer : goal.returns-in_ok-load_pointer-in-LoadPointer
-returns-in_ok-load_pointer-in-LoadPointer c = rw c.with_act-in-LoadPointer.ensures (loads _ _ _ _ _ _ c.in_ok-load_pointer-in-LoadPointer.ensures)
+pub returns-in_ok-load_pointer-in-GetPointer : goal.returns-in_ok-load_pointer-in-GetPointer
+returns-in_ok-load_pointer-in-GetPointer c = rw c.with_act-in-GetPointer.ensures (loads _ _ _ _ _ _ c.in_ok-load_pointer-in-GetPointer.ensures)
 
-pub returns-in_err-load_timer-in-LoadTimer : goal.returns-in_err-load_timer-in-LoadTimer
-returns-in_err-load_timer-in-LoadTimer c = let stop : c.from_residual-in_err-load_timer-in-LoadTimer.result ≡ Err c.in_err-load_timer-in-LoadTimer.field-0.0 = search rules in rw stop (points_not _ _ _ _ _ _ c.in_err-load_timer-in-LoadTimer.ensures)
+pub returns-in_err-load_timer-in-GetTimer : goal.returns-in_err-load_timer-in-GetTimer
+returns-in_err-load_timer-in-GetTimer c = let stop : c.from_residual-in_err-load_timer-in-GetTimer.result ≡ Err c.in_err-load_timer-in-GetTimer.field-0.0 = search rules in rw stop (points_not _ _ _ _ _ _ c.in_err-load_timer-in-GetTimer.ensures)
 
-pub returns-in_ok-load_timer-in-LoadTimer : goal.returns-in_ok-load_timer-in-LoadTimer
-returns-in_ok-load_timer-in-LoadTimer c = rw c.with_act-in-LoadTimer.ensures (loads _ _ _ _ _ _ c.in_ok-load_timer-in-LoadTimer.ensures)
+pub returns-in_ok-load_timer-in-GetTimer : goal.returns-in_ok-load_timer-in-GetTimer
+returns-in_ok-load_timer-in-GetTimer c = rw c.with_act-in-GetTimer.ensures (loads _ _ _ _ _ _ c.in_ok-load_timer-in-GetTimer.ensures)
 
 pub returns-in_err-read_by_hl-in-ReadByHl : goal.returns-in_err-read_by_hl-in-ReadByHl
 returns-in_err-read_by_hl-in-ReadByHl c = let stop : c.from_residual-in_err-read_by_hl-in-ReadByHl.result ≡ Err c.in_err-read_by_hl-in-ReadByHl.field-0.0 = search rules in rw stop (stopped _ _ _ _ _ _ _ c.in_err-read_by_hl-in-ReadByHl.ensures)
@@ -75,23 +75,23 @@ returns-in_err-write_by_y-in-WriteByY c = let stop : c.from_residual-in_err-writ
 pub returns-in_ok-write_by_y-in-WriteByY : goal.returns-in_ok-write_by_y-in-WriteByY
 returns-in_ok-write_by_y-in-WriteByY c = rw c.with_act-in-WriteByY.ensures (acted _ _ _ _ _ _ _ c.in_ok-write_by_y-in-WriteByY.ensures)
 
-pub returns-in_err-exchange_pair-in-ExchangePair : goal.returns-in_err-exchange_pair-in-ExchangePair
-returns-in_err-exchange_pair-in-ExchangePair c = let stop : c.from_residual-in_err-exchange_pair-in-ExchangePair.result ≡ Err c.in_err-exchange_pair-in-ExchangePair.field-0.0 = search rules in rw stop (stopped _ _ _ _ _ _ _ c.in_err-exchange_pair-in-ExchangePair.ensures)
+pub returns-in_err-exchange_pair-in-SwapPair : goal.returns-in_err-exchange_pair-in-SwapPair
+returns-in_err-exchange_pair-in-SwapPair c = let stop : c.from_residual-in_err-exchange_pair-in-SwapPair.result ≡ Err c.in_err-exchange_pair-in-SwapPair.field-0.0 = search rules in rw stop (stopped _ _ _ _ _ _ _ c.in_err-exchange_pair-in-SwapPair.ensures)
 
-pub returns-in_ok-exchange_pair-in-ExchangePair : goal.returns-in_ok-exchange_pair-in-ExchangePair
-returns-in_ok-exchange_pair-in-ExchangePair c = rw c.with_act-in-ExchangePair.ensures (acted _ _ _ _ _ _ _ c.in_ok-exchange_pair-in-ExchangePair.ensures)
+pub returns-in_ok-exchange_pair-in-SwapPair : goal.returns-in_ok-exchange_pair-in-SwapPair
+returns-in_ok-exchange_pair-in-SwapPair c = rw c.with_act-in-SwapPair.ensures (acted _ _ _ _ _ _ _ c.in_ok-exchange_pair-in-SwapPair.ensures)
 
-pub returns-in_err-store_pointer-in-StorePointer : goal.returns-in_err-store_pointer-in-StorePointer
-returns-in_err-store_pointer-in-StorePointer c = let stop : c.from_residual-in_err-store_pointer-in-StorePointer.result ≡ Err c.in_err-store_pointer-in-StorePointer.field-0.0 = search rules in rw stop (points_not _ _ _ _ _ _ c.in_err-store_pointer-in-StorePointer.ensures)
+pub returns-in_err-store_pointer-in-SetPointer : goal.returns-in_err-store_pointer-in-SetPointer
+returns-in_err-store_pointer-in-SetPointer c = let stop : c.from_residual-in_err-store_pointer-in-SetPointer.result ≡ Err c.in_err-store_pointer-in-SetPointer.field-0.0 = search rules in rw stop (points_not _ _ _ _ _ _ c.in_err-store_pointer-in-SetPointer.ensures)
 
-pub returns-in_ok-store_pointer-in-StorePointer : goal.returns-in_ok-store_pointer-in-StorePointer
-returns-in_ok-store_pointer-in-StorePointer c = rw c.with_pointed.ensures (points _ _ _ _ _ _ c.in_ok-store_pointer-in-StorePointer.ensures)
+pub returns-in_ok-store_pointer-in-SetPointer : goal.returns-in_ok-store_pointer-in-SetPointer
+returns-in_ok-store_pointer-in-SetPointer c = rw c.with_pointed.ensures (points _ _ _ _ _ _ c.in_ok-store_pointer-in-SetPointer.ensures)
 
-pub returns-in_err-store_timer-in-StoreTimer : goal.returns-in_err-store_timer-in-StoreTimer
-returns-in_err-store_timer-in-StoreTimer c = let stop : c.from_residual-in_err-store_timer-in-StoreTimer.result ≡ Err c.in_err-store_timer-in-StoreTimer.field-0.0 = search rules in rw stop (points_not _ _ _ _ _ _ c.in_err-store_timer-in-StoreTimer.ensures)
+pub returns-in_err-store_timer-in-SetTimer : goal.returns-in_err-store_timer-in-SetTimer
+returns-in_err-store_timer-in-SetTimer c = let stop : c.from_residual-in_err-store_timer-in-SetTimer.result ≡ Err c.in_err-store_timer-in-SetTimer.field-0.0 = search rules in rw stop (points_not _ _ _ _ _ _ c.in_err-store_timer-in-SetTimer.ensures)
 
-pub returns-in_ok-store_timer-in-StoreTimer : goal.returns-in_ok-store_timer-in-StoreTimer
-returns-in_ok-store_timer-in-StoreTimer c = rw c.with_pointed-in-StoreTimer.ensures (points _ _ _ _ _ _ c.in_ok-store_timer-in-StoreTimer.ensures)
+pub returns-in_ok-store_timer-in-SetTimer : goal.returns-in_ok-store_timer-in-SetTimer
+returns-in_ok-store_timer-in-SetTimer c = rw c.with_pointed-in-SetTimer.ensures (points _ _ _ _ _ _ c.in_ok-store_timer-in-SetTimer.ensures)
 
 pub returns-in-RomLow : goal.returns-in-RomLow
 returns-in-RomLow c = rw c.with_pointed-in-RomLow.ensures (rom_read _ _ _ _ 3 _ _ (first rom_low _ (search rules) tt) (rw (← c.rom_byte.ensures) c.load_low.ensures))
