@@ -2,23 +2,19 @@
 use Prim.Native.Nat.{ℕ, zero, suc, ◌+◌, ◌-◌, ◌≤◌, ◌<◌}
 use mathlib.Core.Path.{◌≡◌, refl, sym, ap, ◌∙◌}
 use mathlib.Core.Bool.{Bool}
-use mathlib.Core.List.{List, [], ◌∷◌, ◌++◌, append_assoc}
+use mathlib.Core.List.{List, [], ◌∷◌, ◌++◌}
 use native.Mathlib.Omega.{arith}
 use lib.ListN.{length, get_or, take, drop, length-drop, take-append-drop}
-use lib.Seq.{take_all, drop-cons, drop-drop, sets, sets-eq, length-sets}
-use borrow.Rule.Slice.PartMut.{put_mid}
-use Rattle.laws.specs.Writing.{Wrote}
+use lib.Seq.{take_all, drop-cons, drop-drop}
 use Rattle.laws.proofs.Computed.{listed}
-use Rattle.laws.proofs.Writing.{wrote_then, wrote_front}
 use Rattle.bits.specs.Bits.{bit_of}
 use Rattle.ports.specs.declared.Ports.{Ports}
 use Rattle.ports.specs.declared.Mode.{Mode}
-use Rattle.record.specs.declared.Machine.{Machine}
 use Rattle.record.specs.declared.Registers.{Registers}
 use Rattle.record.specs.declared.Interrupts.{Interrupts}
 use Rattle.record.specs.declared.Timers.{Timers}
 use Rattle.record_bytes.specs.Unpacked.{RegistersAt, InterruptsAt, TimersAt, PortsAt}
-use Rattle.record_bytes.specs.Layout.{two, four, mode_number, latch_bytes, nibbles_of, others_of, head_of, Holds}
+use Rattle.record_bytes.specs.Layout.{two, mode_number, nibbles_of, others_of, head_of}
 
 -- n elements from i on
 pub listed_part : (h : List ℕ) (i n : ℕ) → i + n ≤ length h → listed (λ k. get_or h k 0) i n ≡ take n (drop i h)
