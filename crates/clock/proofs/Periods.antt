@@ -1,4 +1,4 @@
--- Laws of periods: their exponents as the code has them, and a test of multiples by shifts.
+-- Laws of periods: their exponents as the code has them.
 use mathlib.Core.Path.{◌≡◌, subst}
 use mathlib.Core.Bool.{Bool, true, false}
 use mathlib.Core.List.{List, [], ◌∷◌}
@@ -13,18 +13,6 @@ use borrow.Author.Tests.{eq-eqb, ne_eqb}
 use Rattle.laws.proofs.Computed.{at, where_at, T→true}
 use Rattle.std.proofs.Common.{Option, Some, None}
 use Rattle.clock.specs.Clock.{is_multiple, timer_exponent, tbi_exponent, tbi_sets}
-
--- a multiple of 2 ^ k is what shifting k bits out and in again leaves
-shifted? : (k n : ℕ) → n < 2 ^ 32 → Dec (n % 2 ^ k ≡ 0) → eqb (n / 2 ^ k * 2 ^ k % 2 ^ 32) n ≡ is_multiple k n
-shifted? k n h (yes e) =
-    let q : n / 2 ^ k * 2 ^ k % 2 ^ 32 ≡ n / 2 ^ k * 2 ^ k = mod-eq_of_lt (omega (arith, div-mul-le_self n (2 ^ k))) in
-    rw (e, eq-eqb (n / 2 ^ k * 2 ^ k % 2 ^ 32) n (omega (arith, split n k)))
-shifted? k n h (no ne) =
-    let q : n / 2 ^ k * 2 ^ k % 2 ^ 32 ≡ n / 2 ^ k * 2 ^ k = mod-eq_of_lt (omega (arith, div-mul-le_self n (2 ^ k))) in
-    rw (ne_eqb (n % 2 ^ k) 0 ne, ne_eqb (n / 2 ^ k * 2 ^ k % 2 ^ 32) n (λ e. ne (omega (arith, split n k))))
-
-pub shifted : (k n : ℕ) → n < 2 ^ 32 → eqb (n / 2 ^ k * 2 ^ k % 2 ^ 32) n ≡ is_multiple k n
-shifted k n h = shifted? k n h (ℕ_discrete (n % 2 ^ k) 0)
 
 -- the exponents, as the code has them
 pub timer_exponent_lem : (b : ℕ) → b < 4 → timer_exponent b ≡ 10 + 4 * b

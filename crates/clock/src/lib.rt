@@ -85,10 +85,12 @@ fn counted(counting: bool, n: u16) -> u16
     requires { n < 4096 }
     ensures { result ≡ counted counting n }
 {
-    match counting {
-        true if n == 4095 => 0,
-        true => n + 1,
-        false => n,
+    if !counting {
+        n
+    } else if n == 4095 {
+        0
+    } else {
+        n + 1
     }
 }
 

@@ -41,6 +41,3 @@ fits Em73P982 p3 h n = omega arith
 
 pub window_fits : (d : Device) (p3 : ℕ) → Banked d p3 → window_end p3 ≤ image_size d
 window_fits d p3 b = fits d p3 ((banked d p3).sound b).0 ((banked d p3).sound b).1
-
-pub before_end : (p3 at n : ℕ) → window_end p3 ≤ n → at < 8192 → in_image p3 at < n
-before_end p3 at n w h = picked (λ (i : ℕ). i < n) (ltb at 4096) at (at + 4096 * (p3 % 4)) (omega arith) (omega arith)

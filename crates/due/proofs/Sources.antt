@@ -63,10 +63,6 @@ tested f t il mask =
     subst (λ (s : ℕ). T (f s)) (low_bits il mask)
     (each_at (λ il mask. f (due_source il mask)) t (il % 64) (mask % 16) (omega arith) (omega arith))
 
-pub source_lt : (il mask : ℕ) → due_source il mask < 7
-unfolding due_source
-source_lt il mask = ltb→lt (due_source il mask) 7 (tested (λ s. ltb s 7) tt il mask)
-
 pub number_lt : (il mask : ℕ) → due_number il mask < 6
 unfolding due_source due_number
 number_lt il mask = ltb→lt (due_number il mask) 6 (tested (λ s. ltb (number_of s) 6) tt il mask)

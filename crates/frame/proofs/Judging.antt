@@ -47,9 +47,6 @@ pub record Good (d : Device) (s : List ℕ) (at : ℕ) : Type 0 where
   pub after : AfterFrame d s (at + frame_size d)
 
 module _ (d : Device) (s : List ℕ) where
-  pub none_yet : (at : ℕ) → Between d s at at true
-  none_yet at = record { judged = refl; last = λ _ h. absurd (omega arith) }
-
   one_more : (from to : ℕ) (ok r : Bool) → to < length s → Between d s from to ok → r ≡ is_frame_at d s to → Between d s from (to + frame_size d) (both ok r)
   one_more from to ok r h b e =
       let q : to ≡ to + frame_size d - frame_size d = omega arith in

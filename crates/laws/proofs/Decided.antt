@@ -13,9 +13,6 @@ pub record Decision (P : Type 0) : Type 0 where
   pub test : Bool
   pub decides : Decides test P
 
-abbrev pub given : {b : Bool} {P : Type 0} → Decides b P → Decision P
-given {b} d = record { test = b; decides = d }
-
 abbrev pub always : Decision Unit
 always = record { test = true; decides = record { sound = λ t. t; complete = λ u. tt } }
 

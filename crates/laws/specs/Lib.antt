@@ -1,4 +1,3 @@
 pub mod Choice
 pub mod Decides
-pub mod Writing
 pub mod Among

@@ -1,2 +1,2 @@
-// What knows nothing of the chip: laws for choices, for tests that the checker computes over a range of numbers, and for texts written into a buffer.
+// What knows nothing of the chip: laws for choices, and for tests that the checker computes over a range of numbers.
 #![tactic(auto)]

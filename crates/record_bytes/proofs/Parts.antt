@@ -1,24 +1,20 @@
--- Lists taken apart and put together: a part of a list by its elements, and copies into a buffer.
+-- Lists taken apart: a part of a list by its elements, and the scalars whose bytes those are.
 use Prim.Native.Nat.{ℕ, zero, suc, ◌+◌, ◌-◌, ◌≤◌, ◌<◌}
 use mathlib.Core.Path.{◌≡◌, refl, sym, ap, ◌∙◌}
 use mathlib.Core.Bool.{Bool}
-use mathlib.Core.List.{List, [], ◌∷◌, ◌++◌, append_assoc}
+use mathlib.Core.List.{List, [], ◌∷◌, ◌++◌}
 use native.Mathlib.Omega.{arith}
 use lib.ListN.{length, get_or, take, drop, length-drop, take-append-drop}
-use lib.Seq.{take_all, drop-cons, drop-drop, sets, sets-eq, length-sets}
-use borrow.Rule.Slice.PartMut.{put_mid}
-use Rattle.laws.specs.Writing.{Wrote}
+use lib.Seq.{take_all, drop-cons, drop-drop}
 use Rattle.laws.proofs.Computed.{listed}
-use Rattle.laws.proofs.Writing.{wrote_then, wrote_front}
 use Rattle.bits.specs.Bits.{bit_of}
 use Rattle.ports.specs.declared.Ports.{Ports}
 use Rattle.ports.specs.declared.Mode.{Mode}
-use Rattle.record.specs.declared.Machine.{Machine}
 use Rattle.record.specs.declared.Registers.{Registers}
 use Rattle.record.specs.declared.Interrupts.{Interrupts}
 use Rattle.record.specs.declared.Timers.{Timers}
 use Rattle.record_bytes.specs.Unpacked.{RegistersAt, InterruptsAt, TimersAt, PortsAt}
-use Rattle.record_bytes.specs.Layout.{two, four, mode_number, latch_bytes, nibbles_of, others_of, head_of, Holds}
+use Rattle.record_bytes.specs.Layout.{two, mode_number, nibbles_of, others_of, head_of}
 
 -- n elements from i on
 pub listed_part : (h : List ℕ) (i n : ℕ) → i + n ≤ length h → listed (λ k. get_or h k 0) i n ≡ take n (drop i h)
@@ -42,32 +38,5 @@ unfolding nibbles_of others_of
 head_laid h r i t p pc dp mode mark l er ei et ep epc edp em ek =
     rw (er.acc, er.hr, er.lr, er.cf, er.zf, er.sf, ei.ei, ei.il, ei.mask, ei.due, et.ta, et.tb, et.base, ep.latches, ep.p3, ep.p5, ep.p6, ep.p17, epc, edp, em, ek) (head_parts h l)
 
--- a part copied into a buffer from a place on
-pub put_wrote : (out part y : List ℕ) (from k : ℕ) → from + length part ≤ length out → k ≡ length part → y ≡ part → Wrote out (put_mid from k out y) from (from + length part) part
-put_wrote out part y from k h ek ey =
-    let buffer : put_mid from k out y ≡ sets out from part = rw (ek, ey) (ap (λ (r : List ℕ). take from out ++ (part ++ r)) (drop-drop (length part) from out) ∙ (sym (append_assoc (take from out) part (drop (from + length part) out)) ∙ sym (sets-eq part out from h))) in
-    record { buffer = buffer; end = refl; within = h; size = ap length buffer ∙ length-sets out from part }
-
-nibbles_length : (m : Machine) → length (nibbles_of m.core) ≡ 16
-unfolding nibbles_of latch_bytes
-nibbles_length m = refl
-
-others_length : (m : Machine) → length (others_of m.core) ≡ 28
-unfolding others_of two four
-others_length m = refl
-
--- the places are counted: that of RAM, and how many it takes
-pub room_for_ram : {b x y r : ℕ} → b ≡ 416 → x ≡ b → y ≡ x → r ≡ 372 → 44 + r ≤ y
-room_for_ram s e f g = omega arith
-
 pub ram_rest : (b : List ℕ) → length b ≡ 416 → take (length b - 44) (drop 44 b) ≡ drop 44 b
 ram_rest b s = take_all (length b - 44) (drop 44 b) (omega (arith, length-drop 44 b))
-
--- the three parts of a record, one after the other, in a buffer of 416
-pub packed : (m : Machine) (b x y z n o : List ℕ) → length b ≡ 416 → length m.ram ≡ 372 → n ≡ nibbles_of m.core → o ≡ others_of m.core → Wrote b x 0 (0 + length n) n → Wrote x y 16 (16 + length o) o → Wrote y z 44 (44 + length m.ram) m.ram → Holds z m
-packed m b x y z n o s r en eo w v u =
-    let first : Wrote b x 0 16 (nibbles_of m.core) = rw (en, nibbles_length m) at w in
-    let second : Wrote x y 16 44 (others_of m.core) = rw (eo, others_length m) at v in
-    let all = wrote_then (wrote_then first second) u in
-    let size : length z ≡ 416 = all.size ∙ s in
-    record { size = size; same = sym (take_all (44 + length m.ram) z (omega arith)) ∙ wrote_front all }

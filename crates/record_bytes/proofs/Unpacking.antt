@@ -8,9 +8,6 @@ use Rattle.record_bytes.specs.Layout.{head_of, Holds, HoldsNone}
 use Rattle.record_bytes.specs.Unpacked.{FlagsFit}
 use Rattle.record_bytes.proofs.Tells.{flags_of}
 
-pub wrong_length : (bytes : List ℕ) → (length bytes ≡ 416 → ⊥) → HoldsNone bytes
-wrong_length bytes n m h = n h.size
-
 pub wrong_flags : (bytes : List ℕ) {head : List ℕ} → head ≡ take 44 bytes → (FlagsFit head → ⊥) → HoldsNone bytes
 wrong_flags bytes e n m h = n (rw (e, h.same) (flags_of m))
 

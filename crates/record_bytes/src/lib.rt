@@ -2,7 +2,6 @@
 #![tactic(auto)]
 
 ghost use Rattle.std.specs.Prelude.{◌≡◌, [], ◌∷◌, ◌+◌, ◌/◌, ◌%◌, ◌<◌, ◌≤◌, MatchOption, length, take, drop};
-ghost use Rattle.laws.specs.Writing.{Wrote};
 ghost use Rattle.bits.specs.Bits.{bit_of};
 ghost use Rattle.record_bytes.specs.Layout.{head_size, record_size, two, four, mode_number, nibbles_of, others_of, head_of, Holds};
 ghost use Rattle.record_bytes.specs.Unpacked.{FlagsFit, RegistersAt, InterruptsAt, TimersAt, PortsAt, Unpacks};
@@ -96,21 +95,16 @@ fn others_of(m: Core) -> [u8; 28]
     ]
 }
 
-fn put(out: &mut [u8], from: usize, part: &[u8])
-    requires { from + length part.now ≤ length out.old }
-    ensures { Wrote out.old out.new from (from + length part.now) part.now }
-{
-    out[from..from + part.len()].copy_from_slice(part);
-}
-
 // The record's bytes in a buffer of its size.
 pub fn pack(m: Machine, out: &mut [u8])
     requires { length out.old ≡ record_size }
     ensures { Holds out.new m }
 {
-    put(out, 0, &nibbles_of(m.core));
-    put(out, 16, &others_of(m.core));
-    put(out, HEAD_BYTES, &m.ram);
+    let (nibbles, rest) = out.split_at_mut(16);
+    let (others, ram) = rest.split_at_mut(28);
+    nibbles.copy_from_slice(&nibbles_of(m.core));
+    others.copy_from_slice(&others_of(m.core));
+    ram.copy_from_slice(&m.ram);
 }
 
 #[tactic(auto, unfolding(crate::specs::Layout::two))]

@@ -72,9 +72,6 @@ core d m r p i t o n f =
     (λ v. ((v.regs, (v.pc, v.ptrs)), ((v.ints, v.timers), (v.ports, (v.pins, v.mode)))))
     ((r and less m.pc 8192 and p) and (i and t) and (o and n and f))
 
-abbrev pub machine : (d : Device) (m : Machine) → Decision (ValidCore d m.core) → Decision (Nibbles m.ram) → Decision (Valid d m)
-machine d m c r = restated (λ h. record { core = h.0; ram = h.1 }) (λ v. (v.core, v.ram)) (c and r)
-
 abbrev pub nibbles : (ram : List ℕ) → Decision (Nibbles ram)
 nibbles ram =
     restated (λ h. record { size = h.0; each = h.1 }) (λ v. (v.size, v.each))
