@@ -2,7 +2,7 @@
 use Rattle.std.specs.Prelude.{Ok, ◌≡◌, Bool, true, false, not, List, ◌++◌, ℕ, ◌*◌, ◌<◌, ◌≤◌, length, drop}
 use Rattle.device.specs.declared.Device.{Device}
 use Rattle.sheet.specs.Operation.{Operation}
-use Rattle.sheet.specs.Reading.{Read, read_at}
+use Rattle.sheet.specs.Reading.{read_at}
 use Rattle.sheet.specs.Table.{line_at}
 use Rattle.sheet.specs.declared.Insn.{Insn}
 use Rattle.row.specs.Columns.{work_puts}

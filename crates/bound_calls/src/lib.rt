@@ -6,7 +6,7 @@ ghost use Rattle.numbers.specs.Sizes.{addresses};
 ghost use Rattle.device.specs.Device.{rom_of, window_end};
 ghost use Rattle.graph.specs.Laid.{places};
 ghost use Rattle.sheet.specs.Fields.{InFields};
-ghost use Rattle.bound_calls.specs.CallFlow.{no_node, ended, went, turned, calling, returning, call_node_by, call_node_of};
+ghost use Rattle.bound_calls.specs.CallFlow.{went, turned, calling, call_node_by, call_node_of};
 ghost use Rattle.bound_calls.specs.Ways.{IsWay, numbered};
 
 use device::image::Window;
@@ -53,41 +53,15 @@ fn way_of(d: Device, i: Insn) -> u8
     if way != 10 {
         return way;
     }
-    if is_guarded(d, i.b) {
-        return 0;
-    }
-    2
+    if is_guarded(d, i.b) { 0 } else { 2 }
 }
 
-fn nowhere() -> CallNode
-    ensures { result ≡ no_node }
+// A place of this kind, which nothing follows.
+fn leaf(kind: u8, cycles: u8) -> CallNode
+    ensures { result ≡ record { kind = kind; next = 0; other = 0; entry = 0; cost = cycles } }
 {
     CallNode {
-        kind: 0,
-        next: 0,
-        other: 0,
-        entry: 0,
-        cost: 0,
-    }
-}
-
-fn end(cycles: u8) -> CallNode
-    ensures { result ≡ ended cycles }
-{
-    CallNode {
-        kind: 2,
-        next: 0,
-        other: 0,
-        entry: 0,
-        cost: cycles as u32,
-    }
-}
-
-fn back(cycles: u8) -> CallNode
-    ensures { result ≡ returning cycles }
-{
-    CallNode {
-        kind: 4,
+        kind,
         next: 0,
         other: 0,
         entry: 0,
@@ -128,9 +102,10 @@ fn fork(known: bool, on: u16, target: u16, cycles: u8) -> CallNode
 {
     let to = 2 * target + 1;
     if known {
-        return onward(to, to, cycles);
+        onward(to, to, cycles)
+    } else {
+        onward(2 * on + 1, to, cycles)
     }
-    onward(2 * on + 1, to, cycles)
 }
 
 fn node_by(at: u16, known: bool, i: Insn, cost: Cost, way: u8) -> CallNode
@@ -139,8 +114,8 @@ fn node_by(at: u16, known: bool, i: Insn, cost: Cost, way: u8) -> CallNode
 {
     let on = (at + cost.bytes as u16) % ADDRESSES;
     match way {
-        0 => nowhere(),
-        1 => end(cost.cycles),
+        0 => leaf(0, 0),
+        1 => leaf(2, cost.cycles),
         2 => onward(2 * on + 1, 2 * on + 1, cost.cycles),
         3 => onward(2 * on, 2 * on, cost.cycles),
         4 => fork(known, on, at / 64 * 64 + i.a, cost.cycles),
@@ -148,7 +123,7 @@ fn node_by(at: u16, known: bool, i: Insn, cost: Cost, way: u8) -> CallNode
         6 => fork(known, on, i.a, cost.cycles),
         7 => call(on, i.a, cost.cycles),
         8 => call(on, short_entry(i.a) as u16, cost.cycles),
-        _ => back(cost.cycles),
+        _ => leaf(4, cost.cycles),
     }
 }
 
@@ -160,7 +135,7 @@ pub fn node_at(d: Device, image: &[u8], p3: u8, v: usize) -> CallNode
     let window = Window { bytes: image, p3 };
     let at = (v / 2) as u16;
     let Ok(insn) = read_at(window, at) else {
-        return nowhere();
+        return leaf(0, 0);
     };
     let cost = sheet::timing(window.byte(at));
     node_by(at, v % 2 == 1, insn, cost, way_of(d, insn))

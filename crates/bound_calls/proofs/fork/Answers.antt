@@ -4,5 +4,5 @@ use Rattle.bound_calls.proofs.fork.Goals as goal
 pub returns-then-known : goal.returns-then-known
 returns-then-known c = rw (c.onward.ensures, c.if-known.true)
 
-pub returns : goal.returns
-returns c = rw (c.onward-2.ensures, c.if-known.false)
+pub returns-else-known : goal.returns-else-known
+returns-else-known c = rw (c.onward-else-known.ensures, c.if-known.false)

@@ -17,4 +17,4 @@ pub returns : goal.returns
 returns c = row-node _ _ _ _ (sym c.read_at.ensures ∙ c.in-Ok.is) _ _ _ (rw c.byte.ensures at c.timing-cost.ensures.timed_from) c.way_of.ensures _ c.node_by.ensures
 
 pub returns-in_default : goal.returns-in_default
-returns-in_default c = none-node _ _ _ _ c.read_at.ensures c.in_default.not-Ok _ c.nowhere.ensures
+returns-in_default c = none-node _ _ _ _ c.read_at.ensures c.in_default.not-Ok _ c.leaf.ensures

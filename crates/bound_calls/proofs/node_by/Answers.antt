@@ -5,10 +5,10 @@ use Rattle.std.proofs.Common.{◌≡◌, arith}
 use Rattle.bound_calls.proofs.node_by.Goals as goal
 
 pub returns-in-0 : goal.returns-in-0
-returns-in-0 c = rw (c.in-0.is, c.nowhere.ensures)
+returns-in-0 c = rw (c.in-0.is, c.leaf.ensures)
 
 pub returns-in-1 : goal.returns-in-1
-returns-in-1 c = rw (c.in-1.is, c.end.ensures)
+returns-in-1 c = rw (c.in-1.is, c.leaf-in-1.ensures)
 
 pub returns-in-2 : goal.returns-in-2
 returns-in-2 c = rw (c.in-2.is, c.onward.ensures)
@@ -32,4 +32,4 @@ pub returns-in-8 : goal.returns-in-8
 returns-in-8 c = rw (c.in-8.is, c.call-in-8.ensures, c.short_entry.ensures.entry)
 
 pub returns-in_default : goal.returns-in_default
-returns-in_default c = let e : c.args.way ≡ 9 = omega arith in rw (e, c.back.ensures)
+returns-in_default c = let e : c.args.way ≡ 9 = omega arith in rw (e, c.leaf-in_default.ensures)

@@ -17,6 +17,6 @@ pub returns-then-is_guarded : goal.returns-then-is_guarded
 unfolding letters line_at lines
 returns-then-is_guarded c = to-guarded c.args.d c.args.i c.requires _ refl c.if-way-ne10.false (sym c.is_guarded.ensures ∙ c.if-is_guarded.true)
 
-pub returns : goal.returns
+pub returns-else-is_guarded : goal.returns-else-is_guarded
 unfolding letters line_at lines
-returns c = to-other-port c.args.d c.args.i c.requires _ refl c.if-way-ne10.false (sym c.is_guarded.ensures ∙ c.if-is_guarded.false)
+returns-else-is_guarded c = to-other-port c.args.d c.args.i c.requires _ refl c.if-way-ne10.false (sym c.is_guarded.ensures ∙ c.if-is_guarded.false)
