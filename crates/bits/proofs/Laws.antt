@@ -1,17 +1,19 @@
--- Laws of single bits: what setting and clearing one keeps, and the highest of six. The bit at i has the weight 2 ^ i.
-use mathlib.Core.Path.{◌≡◌, refl, ap, subst}
+-- Laws of single bits: what setting and clearing one keeps, the highest of six, and bits joined. The bit at i has the weight 2 ^ i.
+use mathlib.Core.Path.{◌≡◌, refl, ap, subst, ◌∙◌}
 use mathlib.Core.Bool.{Bool, true, false}
 use Prim.Native.Nat.{ℕ, suc, ◌+◌, ◌-◌, ◌*◌, ◌/◌, ◌%◌, ◌^◌, ◌<◌, ◌≤◌}
-use native.Mathlib.Nat.{mod-lt, suc-mul, pow-suc}
+use native.Mathlib.Nat.{mod-lt, suc-mul, pow-suc, mod-eq_of_lt}
 use native.Mathlib.Decide.{ℕ_discrete}
 use native.Mathlib.Omega.{arith}
-use lib.Dec.{T, eqb, eqb→eq, leb, ltb, ltb→lt}
+use lib.Dec.{T, eqb, eqb→eq, leb, leb→le}
 use lib.Pow.{pow-add, pow_pos, shr_lt, split}
 use lib.Arith.{digits_lt}
-use borrow.Author.Tests.{ne_eqb, le-leb, lt-ltb}
+use lib.Bits.{bit_or, or_shifted}
+use lib.Count.{count_leading_zeros}
+use borrow.Author.Tests.{ne_eqb}
 use Rattle.std.specs.Int.{from_bool}
-use Rattle.laws.specs.Choice.{pick, both}
-use Rattle.laws.proofs.Computed.{below, implies, at, where_at, true→T, both_left, both_right, both_i}
+use Rattle.laws.specs.Choice.{pick}
+use Rattle.laws.proofs.Computed.{below, at}
 use Rattle.bits.specs.Bits.{has_bit, with_bit, without_bit, highest_bit, bit_of}
 
 -- clearing makes no number greater
@@ -64,20 +66,21 @@ is_one d = eqb d 1
 pub with_other : (n i j : ℕ) → n < 64 → i < 6 → j < 6 → (i ≡ j → ⊥) → has_bit (with_bit n (2 ^ i)) (2 ^ j) ≡ has_bit n (2 ^ j)
 with_other n i j hn hi hj ne = ap is_one (rw (ne_eqb i j ne) at (placed with_bit 1 tt n i j hn hi hj))
 
--- the highest bit of six is the one whose weight is reached, and not twice that
-abbrev reached : ℕ → ℕ → Bool
-reached n k = both (leb (2 ^ k) n) (ltb n (2 * 2 ^ k))
+-- the highest bit of six, by leading zeros
+abbrev by_zeros : ℕ → ℕ
+by_zeros n = pick (eqb (count_leading_zeros 8 n) 8) 6 (7 - count_leading_zeros 8 n)
 
-abbrev is_highest : ℕ → ℕ → Bool
-is_highest n k = both (eqb k (highest_bit n)) (ltb k 6)
+pub by_zeros_lem : (n : ℕ) → n < 64 → highest_bit n ≡ by_zeros n
+unfolding count_leading_zeros highest_bit
+by_zeros_lem n h = eqb→eq (highest_bit n) (by_zeros n) (at (λ n. eqb (highest_bit n) (by_zeros n)) 64 tt n h)
 
-pub highest : (n k : ℕ) → n < 64 → k < 8 → 2 ^ k ≤ n → n < 2 * 2 ^ k → (k ≡ highest_bit n) × (k < 6)
-unfolding highest_bit
-highest n k hn hk low high =
-    let h : T (is_highest n k) =
-    where_at (reached n) (is_highest n) 8 (at (λ n. below 8 (λ k. implies (reached n k) (is_highest n k))) 64 tt n hn) k hk
-    (both_i (leb (2 ^ k) n) (ltb n (2 * 2 ^ k)) (true→T (le-leb (2 ^ k) n low)) (true→T (lt-ltb n (2 * 2 ^ k) high))) in
-    (eqb→eq k (highest_bit n) (both_left (eqb k (highest_bit n)) (ltb k 6) h), ltb→lt k 6 (both_right (eqb k (highest_bit n)) (ltb k 6) h))
+pub zeros_below : (n : ℕ) → n < 64 → 2 ≤ count_leading_zeros 8 n
+unfolding count_leading_zeros
+zeros_below n h = leb→le 2 (count_leading_zeros 8 n) (at (λ n. leb 2 (count_leading_zeros 8 n)) 64 tt n h)
+
+-- k bits joined to a number that was shifted up by k, within w bits
+pub joined : (w k n b : ℕ) → n * 2 ^ k < 2 ^ w → b < 2 ^ k → bit_or (n * 2 ^ k % 2 ^ w) b ≡ n * 2 ^ k + b
+joined w k n b h l = ap (λ (m : ℕ). bit_or m b) (mod-eq_of_lt h) ∙ or_shifted n k b l
 
 -- std's number of a truth value
 pub from_bool_is : (b : Bool) → from_bool b ≡ bit_of b

@@ -1,8 +1,8 @@
-// Bits of small numbers, each named by its weight, the highest of six, and shifts and masks that take bits out.
+// Bits of small numbers, each named by its weight, the highest of six by leading zeros, and shifts and masks that take bits out.
 #![tactic(auto)]
 
 ghost use Rattle.std.specs.Prelude.{◌≡◌, ◌+◌, ◌/◌, ◌%◌, ◌^◌, ◌<◌};
-ghost use Rattle.bits.specs.Bits.{has_bit, with_bit, without_bit, highest_bit, OneOfSix, bit_of};
+ghost use Rattle.bits.specs.Bits.{has_bit, with_bit, without_bit, highest_bit, OneOfSix};
 
 pub fn has_bit(n: u8, w: u8) -> bool
     requires { 0 < w }
@@ -26,15 +26,14 @@ pub fn without_bit(n: u8, w: u8) -> u8
 }
 
 // The number of the highest bit that is set of six, 5 to 0.
-#[tactic(auto, unfolding(crate::specs::Bits::highest_bit))]
+#[tactic(auto, using(crate::proofs::Laws::by_zeros_lem, crate::proofs::Laws::zeros_below))]
 pub fn highest_bit(allowed: u8) -> Option<u8>
     requires { allowed < 64 }
     ensures { OneOfSix result (highest_bit allowed) }
 {
-    if allowed == 0 {
-        None
-    } else {
-        Some(allowed.ilog2() as u8)
+    match allowed.leading_zeros() {
+        8 => None,
+        zeros => Some(7 - zeros as u8),
     }
 }
 
@@ -44,12 +43,6 @@ pub fn weight(k: u8) -> u8
     ensures { result ≡ 2 ^ k }
 {
     1 << k
-}
-
-pub fn bit_of(b: bool) -> u8
-    ensures { result ≡ bit_of b }
-{
-    u8::from(b)
 }
 
 // Bit k.

@@ -40,25 +40,6 @@ impl From<Unbounded> for Refused {
     }
 }
 
-// The same as found, with arrays of zeros lent to number the places in.
-fn found_in(
-    d: Device,
-    image: &[u8],
-    p3: u8,
-    address: usize,
-    path: &mut [u8],
-    deep: &mut [u8],
-    map: &mut [u16],
-    words: &mut [u64],
-) -> Result<Greatest, Unbounded>
-    requires { (window_end p3 ≤ length image.now) × (address < 8192) × Blank map.old × (length map.old ≡ 16384) × Blank words.old × (length words.old ≡ 16384) }
-    ensures { Answer (call_flow d (rom_of image.now p3) address) (call_cycles d (rom_of image.now p3)) address_of
-        path.old path.new deep.old deep.new (found_of result) }
-{
-    let n = explore(d, image, p3, address, map, words);
-    bound_words(words, map, n, path, deep)
-}
-
 // The bound from an address of the image.
 fn found(
     d: Device,
@@ -74,7 +55,8 @@ fn found(
 {
     let mut map = [0u16; PLACES];
     let mut words = [0u64; PLACES];
-    found_in(d, image, p3, address, path, deep, &mut map, &mut words)
+    let n = explore(d, image, p3, address, &mut map, &mut words);
+    bound_words(&mut words, &map, n, path, deep)
 }
 
 // The bound in the window of a P3 that the device has: N's path in the first buffer, depth's in the second.

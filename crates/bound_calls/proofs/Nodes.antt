@@ -29,9 +29,10 @@ none_read d at known NoRow.Unassigned = refl
 none_read d at known NoRow.PastEnd = refl
 
 module _ (d : Device) (rom : ℕ → ℕ) (v : ℕ) where
-  pub none-node : {why : NoRow} → read_at rom (address_of v) ≡ Err why → (x : CallNode) → x ≡ no_node → x ≡ call_node_of d rom v
+  pub none-node : (r : Read) → r ≡ read_at rom (address_of v) → ((i : Insn) → r ≡ Ok i → ⊥) → (x : CallNode) → x ≡ no_node → x ≡ call_node_of d rom v
   unfolding call_node_of
-  none-node {why} e x q = rw (e, none_read d (address_of v) (is_known v) why) q
+  none-node (Ok i) e t x q = absurd (t i refl)
+  none-node (Err why) e t x q = rw (← e, none_read d (address_of v) (is_known v) why) q
 
   pub row-node : (i : Insn) → read_at rom (address_of v) ≡ Ok i → (bytes cycles way : ℕ) → TimedFrom (rom (address_of v)) bytes cycles → IsWay d i way
       → (x : CallNode) → x ≡ call_node_by (address_of v) (is_known v) i bytes cycles (numbered way) → x ≡ call_node_of d rom v

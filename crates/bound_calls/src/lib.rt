@@ -159,11 +159,9 @@ pub fn node_at(d: Device, image: &[u8], p3: u8, v: usize) -> CallNode
 {
     let window = Window { bytes: image, p3 };
     let at = (v / 2) as u16;
-    match read_at(window, at) {
-        Ok(insn) => {
-            let cost = sheet::timing(window.byte(at));
-            node_by(at, v % 2 == 1, insn, cost, way_of(d, insn))
-        }
-        Err(_) => nowhere(),
-    }
+    let Ok(insn) = read_at(window, at) else {
+        return nowhere();
+    };
+    let cost = sheet::timing(window.byte(at));
+    node_by(at, v % 2 == 1, insn, cost, way_of(d, insn))
 }

@@ -4,278 +4,175 @@
 
 mod help;
 
-ghost use Rattle.std.specs.Prelude.{◌≡◌, ◌+◌, ◌*◌, ◌%◌, ◌<◌, ◌≤◌, length};
+ghost use Rattle.std.specs.Prelude.{◌≡◌, ◌+◌, ◌<◌, ◌≤◌, length};
 ghost use Rattle.numbers.specs.Sizes.{addresses};
 ghost use Rattle.numbers.specs.ComesBack.{value_at};
 ghost use Rattle.bound.specs.Answer.{paper_of};
-ghost use Rattle.device.specs.Device.{window_end};
 
-use crate::help::is_asked;
-use bound::{Bounded, bound};
+use crate::help::MANUAL;
+use bound::Refused;
 use bound_calls::node_at;
-use device::{Device, image_size, is_banked};
-use program::arguments::{arg, is_given};
-use program::image::{chosen_window, open_image, refuse_window};
-use program::streams::{STDERR_FILENO, ending_of, say, show, show_part};
-use program::words::{Choice, Chosen, address_word};
-use routines_bound::Greatest;
-use text::digits::put;
-use text::words::Address;
-use text_bounder::{address_in, cycles_at, entry_line, most_depth, opened, path_line, summary};
-
-const USAGE: [u8; 56] = *b"usage: bounder [--device NAME [--p3 N]] IMAGE [ADDRESS]\n";
-
-fn usage() {
-    io::write_all(STDERR_FILENO, &USAGE);
-}
-
-// Refuses a word that is no address of an image, and says what one is.
-fn refuse_address() -> bool {
-    let written = show(b"refused 20\n");
-    io::write_all(
-        STDERR_FILENO,
-        b"ADDRESS is one to four hexadecimal digits up to 1FFF, with 0x before them or h behind if you like\n",
-    );
-    written
-}
-
-// What came of an output: whether all of it was written so far, as each function here answers, and how many bytes of the buffer wait to be.
-#[derive(Clone, Copy)]
-struct Output {
-    written: bool,
-    end: usize,
-}
-
-// Writes what waits, where a line more might have no room behind it.
-fn make_room(out: &[u8], end: usize) -> Output
-    requires { (43 ≤ length out.now) × (end ≤ length out.now) }
-    ensures { result.end + 43 ≤ length out.now }
-{
-    if end <= out.len() - 43 {
-        return Output {
-            written: true,
-            end: end,
-        };
-    }
-    Output {
-        written: show_part(out, end),
-        end: 0,
-    }
-}
-
-// A line of a path behind what waits, so that a long path takes few calls of the system.
-fn add_line(out: &mut [u8], end: usize, image: &[u8], p3: u8, at: u16, counted: u32) -> Output
-    requires { (43 ≤ length out.old) × (end ≤ length out.old) × (window_end p3 ≤ length image.now) × (at < addresses) × (counted < 100000) }
-    ensures { result.end ≤ length out.old }
-{
-    let room = make_room(out, end);
-    if !room.written {
-        return room;
-    }
-    Output {
-        written: true,
-        end: path_line(out, room.end, image, p3, at, counted),
-    }
-}
+use device::Device;
+use device::image::Window;
+use program::arguments::{is_given, no_word};
+use program::help::answer;
+use program::image::{address_at, chosen_window, open_window, room};
+use program::streams::{Failure, show};
+use routines_bound::{Greatest, Unbounded};
+use text::Text;
+use text_bounder::{ENTRIES, address_in, bound_at, cycles_at, entry_line, most_depth, opened, path_line, summary};
 
 // The longest path there can be has 65,535 places: N is at most that, and each of them takes a cycle or more.
 const MOST_PLACES: usize = 65535;
 
 const MOST_BYTES: usize = 131070;
 
-// The lines of N's path: it ends where its cycles come to N. out is to collect them in.
-fn list_path(image: &[u8], p3: u8, path: &[u8], most: u32, out: &mut [u8]) -> bool
-    requires { (window_end p3 ≤ length image.now) × (length path.now ≡ 131070) × (most < 65536) × (43 ≤ length out.old) }
+// The lines of a path wait until there are so many characters, so that a long path takes few calls of the system.
+const WAITING: usize = 65536;
+
+// A line of a path behind what waits, which is written first where the line might have no room.
+fn add_line(
+    out: &mut Text<WAITING>,
+    window: Window,
+    at: u16,
+    counted: u32,
+) -> Result<(), Failure>
+    requires { (at < addresses) × (counted < 100000) }
 {
-    let mut end = 0;
+    if out.len() > WAITING - 43 {
+        show(out.as_slice())?;
+        out.clear();
+    }
+    path_line(out, window, at, counted);
+    Ok(())
+}
+
+// The lines of N's path: it ends where its cycles come to N.
+fn list_path(window: Window, path: &[u8], most: u32) -> Result<(), Failure>
+    requires { (length path.now ≡ 131070) × (most < 65536) }
+{
+    let mut out = Text::<WAITING>::new();
     let mut total = 0;
-    let mut i = 0;
-    while i < MOST_PLACES {
+    for i in 0..MOST_PLACES {
         if most <= total {
-            return show_part(out, end);
+            break;
         }
         let at = address_in(path, i);
-        total += cycles_at(image, p3, at);
-        let line = add_line(out, end, image, p3, at, total);
-        if !line.written {
-            return false;
-        }
-        end = line.end;
-        i += 1;
+        total += cycles_at(window, at);
+        add_line(&mut out, window, at, total)?;
     }
-    show_part(out, end)
+    show(out.as_slice())
 }
 
-// The lines of depth's path: it ends with RTI, which stands only where no call is open. out is to collect them in.
-fn list_deep(d: Device, image: &[u8], p3: u8, deep: &[u8], out: &mut [u8]) -> bool
-    requires { (window_end p3 ≤ length image.now) × (length deep.now ≡ 131070) × (43 ≤ length out.old) }
+// The lines of depth's path: it ends with RTI, which stands only where no call is open.
+fn list_deep(d: Device, window: Window, deep: &[u8]) -> Result<(), Failure>
+    requires { length deep.now ≡ 131070 }
 {
-    let mut end = 0;
+    let mut out = Text::<WAITING>::new();
     let mut calls = 0;
-    let mut i = 0;
-    while i < MOST_PLACES {
+    for i in 0..MOST_PLACES {
         let at = address_in(deep, i);
-        let node = node_at(d, image, p3, 2 * at as usize);
-        let kind = node.kind;
+        let kind = node_at(d, window.bytes, window.p3, 2 * usize::from(at)).kind;
         calls = opened(kind, calls);
-        let line = add_line(out, end, image, p3, at, calls);
-        if !line.written {
-            return false;
-        }
-        end = line.end;
+        add_line(&mut out, window, at, calls)?;
         if kind == 2 {
-            return show_part(out, end);
+            break;
         }
-        i += 1;
     }
-    show_part(out, end)
-}
-
-// What stands in the buffer up to a place, as a line.
-fn end_line(out: &mut [u8], end: usize) -> bool
-    requires { end + 1 ≤ length out.old }
-{
-    let n = put(out, end, b'\n');
-    show_part(out, n)
+    show(out.as_slice())
 }
 
 // An answer on a line of its own.
-fn show_answer(answer: Bounded) -> bool
+fn show_answer(answer: Result<Greatest, Refused>) -> Result<(), Failure>
     requires { value_at (paper_of answer) 0 < 131072 }
 {
-    let mut out = io::buffer();
-    let end = summary(&mut out, 0, answer);
-    end_line(&mut out, end)
+    let mut out = Text::<18>::new();
+    summary(&mut out, answer);
+    out.put(b'\n');
+    show(out.as_slice())
 }
 
-fn show_depth(depth: u32) -> bool
+fn show_depth(depth: usize) -> Result<(), Failure>
     requires { depth < 65536 }
 {
-    let mut out = io::buffer();
-    let end = most_depth(&mut out, 0, depth);
-    end_line(&mut out, end)
+    let mut out = Text::<13>::new();
+    most_depth(&mut out, depth as u64);
+    out.put(b'\n');
+    show(out.as_slice())
 }
 
 // A row that is excluded. The ports whose writing is excluded differ.
-fn explain_excluded(d: Device) -> bool {
-    if !show(
+fn show_excluded(d: Device) -> Result<(), Failure> {
+    show(
         b"an excluded instruction can be reached: RTI in a called routine, RET outside of one, a store to SP, an unassigned code or one that passes the end of the image, a row that sets EI or a row that writes ",
-    ) {
-        return false;
-    }
-    match d {
-        Device::Em73862 => show(b"P16\n"),
-        Device::Em73P982 => show(b"P16 or P3\n"),
+    )?;
+    show(match d {
+        Device::Em73862 => b"P16\n",
+        Device::Em73P982 => b"P16 or P3\n",
+    })
+}
+
+// Why there is no bound.
+fn show_reason(d: Device, refused: Refused) -> Result<(), Failure> {
+    match refused {
+        Refused::Unbounded(Unbounded::Recursion(_)) => {
+            show(b"a routine can reach a call of itself\n")
+        }
+        Refused::Unbounded(Unbounded::Excluded(_)) => show_excluded(d),
+        Refused::Unbounded(Unbounded::Repeats(_)) => {
+            show(b"a repetition can be reached: a path can come back to where it was\n")
+        }
+        Refused::Unbounded(Unbounded::TooLarge) => show(b"the most cycles are over 65535\n"),
+        _ => Ok(()),
     }
 }
 
-fn explain(d: Device, answer: Bounded) -> bool {
+// The bound from an address with both of its paths, and the depth between them.
+fn show_bound(d: Device, window: Window, at: u16) -> Result<(), Failure> {
+    let mut path = [0u8; MOST_BYTES];
+    let mut deep = [0u8; MOST_BYTES];
+    let answer = bound_at(d, window.bytes, window.p3, at.into(), &mut path, &mut deep);
+    show_answer(answer)?;
     match answer {
-        Bounded::Recursion(_) => show(b"a routine can reach a call of itself\n"),
-        Bounded::Excluded(_) => explain_excluded(d),
-        Bounded::Repeats(_) => show(
-            b"a repetition can be reached: a path can come back to where it was\n",
-        ),
-        Bounded::TooLarge => show(b"the most cycles are over 65535\n"),
-        _ => true,
+        Ok(greatest) => {
+            list_path(window, &path, greatest.cycles as u32)?;
+            show_depth(greatest.depth)?;
+            list_deep(d, window, &deep)
+        }
+        Err(refused) => show_reason(d, refused),
     }
 }
 
-// Both paths of a bound, and the depth between them.
-fn list_both(d: Device, image: &[u8], p3: u8, bounds: Greatest, path: &[u8], deep: &[u8]) -> bool
-    requires { (window_end p3 ≤ length image.now) × (length path.now ≡ 131070) × (length deep.now ≡ 131070) × (bounds.cycles < 65536) × (bounds.depth < 65536) }
-{
-    let mut out = io::large_buffer();
-    if !list_path(image, p3, path, bounds.cycles as u32, &mut out) {
-        return false;
-    }
-    if !show_depth(bounds.depth as u32) {
-        return false;
-    }
-    list_deep(d, image, p3, deep, &mut out)
-}
-
-fn bound_at(d: Device, image: &[u8], p3: u8, at: u16) -> bool
-    requires { window_end p3 ≤ length image.now }
-{
+// The line of the entry at an address, that of the source of a latch.
+fn entry(d: Device, window: Window, at: u32, latch: u8) -> Result<(), Failure> {
     let mut path = [0u8; MOST_BYTES];
     let mut deep = [0u8; MOST_BYTES];
-    let answer = bound(d, image, p3 as u32, at as u32, &mut path, &mut deep);
-    if !show_answer(answer) {
-        return false;
-    }
-    let Bounded::Bounds(greatest) = answer else {
-        return explain(d, answer);
-    };
-    list_both(d, image, p3, greatest, &path, &deep)
+    let answer = bound_at(d, window.bytes, window.p3, at, &mut path, &mut deep);
+    let mut out = Text::<41>::new();
+    entry_line(&mut out, d, at, latch, answer);
+    show(out.as_slice())
 }
 
-// The entry of the source of a latch.
-fn entry(d: Device, image: &[u8], p3: u8, at: u32, latch: u8) -> bool {
-    let mut path = [0u8; MOST_BYTES];
-    let mut deep = [0u8; MOST_BYTES];
-    let answer = bound(d, image, p3 as u32, at, &mut path, &mut deep);
-    let mut out = io::buffer();
-    let n = entry_line(&mut out, d, at, latch, answer);
-    show_part(&out, n)
+fn entries(d: Device, window: Window) -> Result<(), Failure> {
+    for (at, latch) in ENTRIES {
+        entry(d, window, at, latch)?;
+    }
+    Ok(())
 }
 
-fn entries(d: Device, image: &[u8], p3: u8) -> bool {
-    if !entry(d, image, p3, 0x002, 5) {
-        return false;
+fn run(rt: &HostRuntime) -> Result<(), Failure> {
+    let c = chosen_window(rt)?;
+    let mut file = room();
+    let window = open_window(rt, c, MANUAL.usage, &mut file)?;
+    let word = usize::from(c.before) + 2;
+    if !is_given(rt, word) {
+        return entries(c.device, window);
     }
-    if !entry(d, image, p3, 0x006, 3) {
-        return false;
-    }
-    if !entry(d, image, p3, 0x008, 2) {
-        return false;
-    }
-    if !entry(d, image, p3, 0x00A, 1) {
-        return false;
-    }
-    entry(d, image, p3, 0x00C, 0)
-}
-
-fn bound_image(rt: &HostRuntime, d: Device, image: &[u8], p3: u8, before: u8) -> bool
-    requires { window_end p3 ≤ length image.now }
-{
-    let word_at = before as usize + 2;
-    if !is_given(rt, word_at) {
-        return entries(d, image, p3);
-    }
-    let mut word = io::buffer();
-    let n = arg(rt, word_at, &mut word);
-    let Address::At(at) = address_word(&word[..n]) else {
-        return refuse_address();
-    };
-    if is_given(rt, word_at + 1) {
-        usage();
-        return true;
-    }
-    bound_at(d, image, p3, at)
-}
-
-fn bound_chosen(rt: &HostRuntime, c: Chosen) -> bool {
-    let d = c.device;
-    let mut image = [0u8; 16385];
-    let file = open_image(rt, d, c.before as usize + 1, &mut image, &USAGE);
-    let size = file.size;
-    if size != image_size(d) {
-        return file.written;
-    }
-    if !is_banked(d, c.p3) {
-        return refuse_window();
-    }
-    bound_image(rt, d, &image[..size], c.p3 as u8, c.before)
+    let at = address_at(rt, word)?;
+    no_word(rt, word + 1)?;
+    show_bound(c.device, window, at)
 }
 
 fn main(rt: HostRuntime) {
-    if is_asked(&rt) {
-        return;
-    }
-    let Choice::Made(c) = chosen_window(&rt) else {
-        usage();
-        return;
-    };
-    say(ending_of(false, bound_chosen(&rt, c)));
+    answer(&rt, &MANUAL, run)
 }

@@ -4,57 +4,46 @@
 
 mod help;
 
-ghost use Rattle.std.specs.Prelude.{◌≡◌, ◌+◌, ◌*◌, ◌%◌, ◌<◌, ◌≤◌, length};
+ghost use Rattle.std.specs.Prelude.{◌≡◌, ◌<◌, ◌≤◌, length};
 ghost use Rattle.numbers.specs.Sizes.{addresses};
-ghost use Rattle.device.specs.Device.{window_end};
 
-use crate::help::is_asked;
-use bound::{Bounded, bound};
-use device::{Device, image_size, is_banked};
-use program::arguments::is_given;
-use program::help::show_version;
-use program::image::{chosen_window, open_image, refuse_window};
-use program::streams::{STDERR_FILENO, ending_of, say, show, show_part};
-use program::words::{Choice, Chosen};
+use crate::help::MANUAL;
+use device::Device;
+use device::image::Window;
+use program::arguments::no_word;
+use program::help::{answer, show_version};
+use program::image::{chosen_window, open_window, room};
+use program::streams::{Failure, show, show_decimal};
 use sha256::digest_of;
 use sheet_text::{section_of, sheet_text};
-use text::digits::{decimal, put, put_text};
-use text_bounder::{address_in, cycles_at, entry_line};
+use text::Text;
+use text_bounder::{ENTRIES, address_in, bound_at, cycles_at, entry_line};
 use text_certificate::{certified_line, digest, row_at};
-
-const USAGE: [u8; 46] = *b"usage: certify [--device NAME [--p3 N]] IMAGE\n";
-
-fn usage() {
-    io::write_all(STDERR_FILENO, &USAGE);
-}
 
 // The longest path there can be has 65,535 places: N is at most that, and each of them takes a cycle or more.
 const MOST_PLACES: usize = 65535;
 
 const MOST_BYTES: usize = 131070;
 
-// Whether all of it was written, as each function here answers of what it writes.
-fn show_digest(image: &[u8]) -> bool
-    requires { length image.now < 65536 }
+fn show_digest(image: &[u8]) -> Result<(), Failure>
+    requires { length image.now ≤ 16384 }
 {
     let mut bytes = [0u8; 32];
     digest_of(image, &mut bytes);
-    let mut out = io::buffer();
-    let from = put_text(&mut out, 0, b"SHA-256  ");
-    let end = digest(&mut out, from, &bytes);
-    let n = put(&mut out, end, b'\n');
-    show_part(&out, n)
+    let mut out = Text::<74>::new();
+    out.put_text(b"SHA-256  ");
+    digest(&mut out, &bytes);
+    out.put(b'\n');
+    show(out.as_slice())
 }
 
-fn show_p3(p3: u8) -> bool {
-    let mut out = io::buffer();
-    let from = put_text(&mut out, 0, b"Device   EM73P982\nBytes    16384\nP3       ");
-    let end = decimal(&mut out, from, p3 as u32);
-    let n = put(&mut out, end, b'\n');
-    show_part(&out, n)
+fn show_p3(p3: u8) -> Result<(), Failure> {
+    show(b"Device   EM73P982\nBytes    16384\nP3       ")?;
+    show_decimal(p3.into())?;
+    show(b"\n")
 }
 
-fn show_device(d: Device, p3: u8) -> bool {
+fn show_device(d: Device, p3: u8) -> Result<(), Failure> {
     match d {
         Device::Em73862 => show(b"Device   EM73862\nBytes    8192\n"),
         Device::Em73P982 => show_p3(p3),
@@ -62,24 +51,14 @@ fn show_device(d: Device, p3: u8) -> bool {
 }
 
 // What the page is about.
-fn show_head(d: Device, image: &[u8], p3: u8) -> bool
-    requires { length image.now < 65536 }
+fn show_head(d: Device, window: Window) -> Result<(), Failure>
+    requires { length window.bytes.now ≤ 16384 }
 {
-    if !show(b"CERTIFICATE OF INTERRUPT HANDLERS\n\nImage\n") {
-        return false;
-    }
-    if !show_digest(image) {
-        return false;
-    }
-    if !show_device(d, p3) {
-        return false;
-    }
-    if !show(b"\nChecked by\n") {
-        return false;
-    }
-    if !show_version() {
-        return false;
-    }
+    show(b"CERTIFICATE OF INTERRUPT HANDLERS\n\nImage\n")?;
+    show_digest(window.bytes)?;
+    show_device(d, window.p3)?;
+    show(b"\nChecked by\n")?;
+    show_version()?;
     show(
         b"
 Each handler has a line: the address of its entry, its source, the most cycles N
@@ -93,84 +72,60 @@ flags C, Z and S.
     )
 }
 
-// Remembers that a row was read.
-fn mark(used: &mut [u8], row: u8) {
-    let at = row as usize;
-    if at < used.len() {
-        used[at] = 1;
-    }
-}
+// Whether each row was read, by its number.
+type Used = [bool; 108];
 
-fn show_line(image: &[u8], p3: u8, at: u16, counted: u32) -> bool
-    requires { (window_end p3 ≤ length image.now) × (at < addresses) × (counted < 100000) }
+// The line of a row of N's path, with the sheet's line by which it was read.
+fn show_line(window: Window, at: u16, counted: u32) -> Result<(), Failure>
+    requires { (at < addresses) × (counted < 100000) }
 {
-    let mut out = io::buffer();
-    let end = certified_line(&mut out, 0, image, p3, at, counted);
-    show_part(&out, end)
+    let mut out = Text::<178>::new();
+    certified_line(&mut out, window, at, counted);
+    show(out.as_slice())
 }
 
 // The rows of N's path, which ends where its cycles come to N.
-fn list_path(image: &[u8], p3: u8, path: &[u8], most: u32, used: &mut [u8]) -> bool
-    requires { (window_end p3 ≤ length image.now) × (length path.now ≡ 131070) × (most < 65536) }
+fn list_path(window: Window, path: &[u8], most: u32, used: &mut Used) -> Result<(), Failure>
+    requires { (length path.now ≡ 131070) × (most < 65536) }
 {
     let mut total = 0;
-    let mut i = 0;
-    while i < MOST_PLACES {
+    for i in 0..MOST_PLACES {
         if most <= total {
-            return true;
+            break;
         }
         let at = address_in(path, i);
-        total += cycles_at(image, p3, at);
-        if !show_line(image, p3, at, total) {
-            return false;
+        total += cycles_at(window, at);
+        show_line(window, at, total)?;
+        if let Some(read) = used.get_mut(usize::from(row_at(window, at))) {
+            *read = true;
         }
-        mark(used, row_at(image, p3, at));
-        i += 1;
     }
-    true
+    Ok(())
 }
 
-// The handler of the source of a latch.
-fn certify_entry(d: Device, image: &[u8], p3: u8, at: u32, latch: u8, used: &mut [u8]) -> bool
-    requires { window_end p3 ≤ length image.now }
-{
+// The handler of the entry at an address, that of the source of a latch.
+fn certify_entry(
+    d: Device,
+    window: Window,
+    at: u32,
+    latch: u8,
+    used: &mut Used,
+) -> Result<(), Failure> {
     let mut path = [0u8; MOST_BYTES];
     let mut deep = [0u8; MOST_BYTES];
-    let answer = bound(d, image, p3 as u32, at, &mut path, &mut deep);
-    let mut out = io::buffer();
-    let n = entry_line(&mut out, d, at, latch, answer);
-    if !show(b"\n") {
-        return false;
+    let answer = bound_at(d, window.bytes, window.p3, at, &mut path, &mut deep);
+    let mut out = Text::<42>::new();
+    out.put(b'\n');
+    entry_line(&mut out, d, at, latch, answer);
+    show(out.as_slice())?;
+    match answer {
+        Ok(greatest) => list_path(window, &path, greatest.cycles as u32, used),
+        Err(_) => Ok(()),
     }
-    if !show_part(&out, n) {
-        return false;
-    }
-    let Bounded::Bounds(greatest) = answer else {
-        return true;
-    };
-    list_path(image, p3, &path, greatest.cycles as u32, used)
-}
-
-fn certify_entries(d: Device, image: &[u8], p3: u8, used: &mut [u8]) -> bool
-    requires { window_end p3 ≤ length image.now }
-{
-    if !certify_entry(d, image, p3, 0x002, 5, used) {
-        return false;
-    }
-    if !certify_entry(d, image, p3, 0x006, 3, used) {
-        return false;
-    }
-    if !certify_entry(d, image, p3, 0x008, 2, used) {
-        return false;
-    }
-    if !certify_entry(d, image, p3, 0x00A, 1, used) {
-        return false;
-    }
-    certify_entry(d, image, p3, 0x00C, 0, used)
 }
 
 // What the answers mean.
-fn show_promise() -> bool {
+fn show_promise() -> Result<(), Failure> {
     show(
         b"
 What N promises
@@ -199,119 +154,57 @@ Lines of the sheet by which the rows above were read
 }
 
 // A line of the sheet after two blanks.
-fn show_row(row: u8) -> bool {
-    let mut out = io::buffer();
-    let from = put_text(&mut out, 0, b"  ");
-    let end = sheet_text(&mut out, from, row);
-    let n = put(&mut out, end, b'\n');
-    show_part(&out, n)
+fn show_row(row: u8) -> Result<(), Failure> {
+    show(b"  ")?;
+    show(sheet_text(row))?;
+    show(b"\n")
 }
 
 // The heading of a section.
-fn show_heading(section: u8) -> bool
+fn show_heading(section: u8) -> Result<(), Failure>
     requires { section ≤ 14 }
 {
-    let mut out = io::buffer();
-    let end = sheet_text(&mut out, 0, 107 + section);
-    let n = put(&mut out, end, b'\n');
-    show_part(&out, n)
+    show(sheet_text(107 + section))?;
+    show(b"\n")
 }
 
-// What came of listing rows: whether all of it was written, and the section whose heading was written last.
-#[derive(Clone, Copy)]
-struct Listed {
-    written: bool,
-    section: u8,
-}
-
-// A row, under the heading of its section where that was not written yet.
-fn list_row(row: u8, before: u8) -> Listed {
-    let section = section_of(row);
-    if section != before {
-        if !show_heading(section) {
-            return Listed {
-                written: false,
-                section: section,
-            };
-        }
-    }
-    Listed {
-        written: show_row(row),
-        section: section,
-    }
-}
-
-// The rows that were read, each once.
-fn list_used(used: &[u8]) -> bool
-    requires { length used.now ≡ 108 }
-{
-    let mut section = 0;
-    let mut row = 1;
-    while row < used.len() {
-        if used[row] != 0 {
-            let listed = list_row(row as u8, section);
-            if !listed.written {
-                return false;
+// The rows that were read, each once, under the headings of their sections.
+fn list_used(used: &Used) -> Result<(), Failure> {
+    let mut shown = 0;
+    for row in 1..108 {
+        if used[usize::from(row)] {
+            let section = section_of(row);
+            if section != shown {
+                show_heading(section)?;
             }
-            section = listed.section;
+            shown = section;
+            show_row(row)?;
         }
-        row += 1;
     }
-    true
+    Ok(())
 }
 
-fn certify_image(d: Device, image: &[u8], p3: u8) -> bool
-    requires { (window_end p3 ≤ length image.now) × (length image.now < 65536) }
+fn certify(d: Device, window: Window) -> Result<(), Failure>
+    requires { length window.bytes.now ≤ 16384 }
 {
-    if !show_head(d, image, p3) {
-        return false;
+    show_head(d, window)?;
+    let mut used = [false; 108];
+    for (at, latch) in ENTRIES {
+        certify_entry(d, window, at, latch, &mut used)?;
     }
-    let mut used = [0u8; 108];
-    if !certify_entries(d, image, p3, &mut used) {
-        return false;
-    }
-    if !show_promise() {
-        return false;
-    }
-    if !list_used(&used) {
-        return false;
-    }
+    show_promise()?;
+    list_used(&used)?;
     show(b"\nSigned                                        Date\n")
 }
 
-// The page, where no word follows the image.
-fn certify_word(rt: &HostRuntime, d: Device, image: &[u8], p3: u8, word: usize) -> bool
-    requires { (window_end p3 ≤ length image.now) × (length image.now < 65536) }
-{
-    if is_given(rt, word) {
-        usage();
-        return true;
-    }
-    certify_image(d, image, p3)
-}
-
-fn certify_chosen(rt: &HostRuntime, c: Chosen) -> bool {
-    let d = c.device;
-    let word = c.before as usize + 1;
-    let mut image = [0u8; 16385];
-    let file = open_image(rt, d, word, &mut image, &USAGE);
-    let size = file.size;
-    if size != image_size(d) {
-        return file.written;
-    }
-    if !is_banked(d, c.p3) {
-        return refuse_window();
-    }
-    certify_word(rt, d, &image[..size], c.p3 as u8, word + 1)
+fn run(rt: &HostRuntime) -> Result<(), Failure> {
+    let c = chosen_window(rt)?;
+    let mut file = room();
+    let window = open_window(rt, c, MANUAL.usage, &mut file)?;
+    no_word(rt, usize::from(c.before) + 2)?;
+    certify(c.device, window)
 }
 
 fn main(rt: HostRuntime) {
-    if is_asked(&rt) {
-        return;
-    }
-    let Choice::Made(c) = chosen_window(&rt) else {
-        usage();
-        return;
-    };
-    say(ending_of(false, certify_chosen(&rt, c)));
+    answer(&rt, &MANUAL, run)
 }

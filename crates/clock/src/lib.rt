@@ -23,6 +23,26 @@ pub struct Rates {
     pub p81: bool,
 }
 
+// By the setting P25: the exponent of the time base period; none where it is off.
+const TBI: [Option<u8>; 16] = [
+    None,
+    None,
+    None,
+    None,
+    Some(10),
+    Some(11),
+    Some(12),
+    Some(13),
+    None,
+    None,
+    None,
+    None,
+    Some(9),
+    Some(8),
+    Some(15),
+    Some(17),
+];
+
 fn is_multiple(k: u8, base: u32) -> bool
     requires { k < 32 }
     ensures { result ≡ is_multiple k base }
@@ -43,18 +63,13 @@ fn counts(setting: u8, pin: bool, base: u32) -> bool
     runs(setting / 4, pin) && is_multiple(10 + 4 * (setting % 4), base)
 }
 
-// By the setting P25, which may be off.
-#[tactic(auto, unfolding(crate::specs::Clock::tbi_exponent))]
 fn tbi_sets(p25: u8, base: u32) -> bool
+    requires { p25 < 16 }
     ensures { result ≡ tbi_sets p25 base }
 {
-    match p25 {
-        4..=7 => is_multiple(p25 + 6, base),
-        12 => is_multiple(9, base),
-        13 => is_multiple(8, base),
-        14 => is_multiple(15, base),
-        15 => is_multiple(17, base),
-        _ => false,
+    match TBI[p25 as usize] {
+        Some(k) => is_multiple(k, base),
+        None => false,
     }
 }
 

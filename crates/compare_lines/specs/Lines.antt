@@ -5,14 +5,7 @@ use Rattle.text.specs.Same.{same_text}
 use Rattle.laws.specs.Choice.{pick, both}
 use Rattle.text.specs.Script.{is_lf, on_first}
 use Rattle.compare_lines.specs.declared.Compared.{Compared}
-use Rattle.compare_lines.specs.declared.Compared.TheVariants.{ImageOfAnotherSize, NotAFrame, Same, Differs}
-
--- "Refusals: 1, 3 as in the runner"
-abbrev pub number_of : Compared → ℕ
-number_of ImageOfAnotherSize = 1
-number_of NotAFrame = 3
-number_of Same = 0
-number_of (Differs line field) = 0
+use Rattle.compare_lines.specs.declared.Compared.TheVariants.{Same, Differs}
 
 -- a line of a listing: its characters, and whether an LF ends it, as it does each but perhaps the last
 pub record Line : Type 0 where

@@ -7,8 +7,6 @@ ghost use Rattle.compare_lines.specs.Left.{spaced_from, spaced_of, left_of, OneL
 
 #[derive(Clone, Copy, PartialEq, Eq)]
 pub enum Compared {
-    ImageOfAnotherSize,
-    NotAFrame,
     Same,
     Differs { line: u64, field: u8 },
 }

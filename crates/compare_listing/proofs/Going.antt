@@ -25,10 +25,9 @@ pub record Going (d : Device) (rom : ℕ → ℕ → ℕ) (p : Progress) (ram ou
   pub within : read ≤ length script
   pub hears : heard ≤ length listing
   pub count : now.line + now.line + (length script - read) ≤ p.line + p.line + length script
-  pub size : length ours' ≡ length ours
 
 -- the answer depends on the phase as what is left does
-heeded : (d : Device) (rom : ℕ → ℕ → ℕ) (p : Progress) (ram ours : List ℕ) (script : List (List ℕ)) (part theirs : List ℕ) (last : Bool) (r : Heard) → Heeds p.phase p.line (take p.size ours) part last r → (last ≡ true → theirs ≡ []) → answer_from d rom p ram ours script (part ++ theirs) ≡ answer_from d rom (with_phase p r.phase) ram ours script (drop r.used part ++ theirs)
+heeded : (d : Device) (rom : ℕ → ℕ → ℕ) (p : Progress) (ram ours : List ℕ) (script : List (List ℕ)) (part theirs : List ℕ) (last : Bool) (r : Heard) → Heeds p.phase p.line ours part last r → (last ≡ true → theirs ≡ []) → answer_from d rom p ram ours script (part ++ theirs) ≡ answer_from d rom (with_phase p r.phase) ram ours script (drop r.used part ++ theirs)
 unfolding answer_from
 heeded d rom p ram ours script part theirs last r h z =
     rw (h.same (pick p.ended [] (told_over d rom (assembled p.core ram) script)) theirs z)
@@ -42,14 +41,10 @@ module _ {d : Device} {rom : ℕ → ℕ → ℕ} {p : Progress} {ram ours scrip
         within = omega arith;
         hears = omega arith;
         count = omega arith;
-        size = refl;
       }
 
   module _ {now : Progress} {ram' ours' : List ℕ} {read heard : ℕ} (g : Going d rom p ram ours script listing last now ram' ours' read heard) where
-    pub line-size : length (take now.size ours') ≡ now.size
-    line-size = length-take-le now.size ours' g.sound.size
-
-    module _ {r : Heard} (h : Heeds now.phase now.line (take now.size ours') (take (length listing - heard) (drop heard listing)) last r) where
+    module _ {r : Heard} (h : Heeds now.phase now.line ours' (take (length listing - heard) (drop heard listing)) last r) where
       left-length : length (take (length listing - heard) (drop heard listing)) ≡ length listing - heard
       left-length = rw (rest_of heard listing) (length-drop heard listing)
 
@@ -60,18 +55,17 @@ module _ {d : Device} {rom : ℕ → ℕ → ℕ} {p : Progress} {ram ours scrip
       going-heeds =
           record {
             same = λ more theirs z. g.same more theirs z ∙ (rw (rest_of heard listing, drop-drop r.used heard listing) at (heeded d rom now ram' ours' (lines_of (drop read script ++ more)) (take (length listing - heard) (drop heard listing)) theirs last r h z));
-            sound = record { valid = g.sound.valid; line = g.sound.line; size = g.sound.size; placed = rw line-size at h.placed; room = g.sound.room; fair = g.sound.fair };
+            sound = record { valid = g.sound.valid; line = g.sound.line; placed = h.placed; fair = g.sound.fair };
             within = g.within;
             hears = going-used;
             count = g.count;
-            size = g.size;
           }
 
-      waiting : settled r.phase now.size ≡ false → (last ≡ false) × (heard + r.used ≡ length listing)
+      waiting : settled r.phase (length ours') ≡ false → (last ≡ false) × (heard + r.used ≡ length listing)
       waiting z =
-          let w = h.waits (rw line-size z) in (w.0, omega (arith, w.1, left-length, g.hears))
+          let w = h.waits z in (w.0, omega (arith, w.1, left-length, g.hears))
 
-      pub goes : (settled r.phase now.size ≡ true → now.ended ≡ false → up_to (drop read script) ≡ length (drop read script)) → Goes d rom p ram ours script listing last (record { progress = with_phase now r.phase; script = read; listing = heard + r.used }) ram' ours'
+      pub goes : (settled r.phase (length ours') ≡ true → now.ended ≡ false → up_to (drop read script) ≡ length (drop read script)) → Goes d rom p ram ours script listing last (record { progress = with_phase now r.phase; script = read; listing = heard + r.used }) ram' ours'
       goes e =
           record {
             same = going-heeds.same;
@@ -81,7 +75,6 @@ module _ {d : Device} {rom : ℕ → ℕ → ℕ} {p : Progress} {ram ours scrip
             count = g.count;
             ends = e;
             waits = waiting;
-            length = g.size;
           }
 
     -- a whole line of the script
@@ -106,20 +99,19 @@ module _ {d : Device} {rom : ℕ → ℕ → ℕ} {p : Progress} {ram ours scrip
             within = omega arith;
             hears = g.hears;
             count = omega (arith, g.count, n.count, taken);
-            size = n.length ∙ g.size;
           }
 
 -- the end of the script
 module _ {d : Device} {rom : ℕ → ℕ → ℕ} {p : Progress} {ram ours : List ℕ} (s : Sound d p ram ours) where
   pub last-ended : (text : List ℕ) → p.ended ≡ true → Lasts d rom p ram ours text p ram ours
   unfolding answer_from
-  last-ended text e = record { same = λ z theirs. rw e; sound = s; count = omega arith; length = refl }
+  last-ended text e = record { same = λ z theirs. rw e; sound = s; count = omega arith }
 
   pub last_none : (text : List ℕ) → length text ≡ 0 → Lasts d rom p ram ours text p ram ours
-  last_none [] e = record { same = λ z theirs. refl; sound = s; count = omega arith; length = refl }
+  last_none [] e = record { same = λ z theirs. refl; sound = s; count = omega arith }
   last_none (c ∷ text) e = absurd (omega arith)
 
   pub last_some : (text : List ℕ) {q : Progress} {ram' ours' : List ℕ} → (length text ≡ 0 → ⊥) → p.ended ≡ false → Nexts d rom p ram ours text q ram' ours' → Lasts d rom p ram ours text q ram' ours'
   last_some [] ne e n = absurd (ne refl)
   last_some (c ∷ text) ne e n =
-      record { same = λ z theirs. rw (lines_last c text (z e)) (n.same [] theirs); sound = n.sound; count = n.count; length = n.length }
+      record { same = λ z theirs. rw (lines_last c text (z e)) (n.same [] theirs); sound = n.sound; count = n.count }

@@ -8,8 +8,8 @@ use lib.ListN.{length, get_or}
 use Rattle.bits.specs.Bits.{bit_of}
 use Rattle.device.specs.declared.Device.{Device}
 use Rattle.frame.specs.Frame.{frame_of}
-use Rattle.frame.specs.declared.Frame.{Frame}
-use Rattle.frame.specs.declared.Frame.TheVariants.{Seen, NoFrame}
+use Rattle.frame.specs.declared.Pins.{Pins}
+use Rattle.std.specs.Prelude.{Option, Some, None}
 use Rattle.record.specs.declared.Core.{Core}
 use Rattle.record.specs.declared.Registers.{Registers}
 use Rattle.record.specs.declared.Machine.{Machine}
@@ -94,10 +94,10 @@ pub header_line : OneLine header
 header_line = record { body = characters "PC A H L S CZS C X"; ended = refl; alone = refl; short = omega arith }
 
 module _ (d : Device) (rom : ℕ → ℕ → ℕ) (m : Machine) (line : List ℕ) where
-  answer_by : (f : Frame) → frame_of d line ≡ f → Bodied (answer_of d rom m line).text
+  answer_by : (f : Option Pins) → frame_of d line ≡ f → Bodied (answer_of d rom m line).text
   unfolding answer_of
-  answer_by (Seen pins) e = rw e (step_bodied _ _ _)
-  answer_by NoFrame e = rw e refused_bodied
+  answer_by (Some pins) e = rw e (step_bodied _ _ _)
+  answer_by None e = rw e refused_bodied
 
   pub answer-line : length (answer_of d rom m line).text ≤ 26 → OneLine (answer_of d rom m line).text
   answer-line h =

@@ -1,5 +1,5 @@
 -- How far script and listing are compared, and what is promised of going on.
-use Rattle.std.specs.Prelude.{ℕ, ◌+◌, ◌-◌, ◌≤◌, ◌≡◌, Bool, true, false, List, [], ◌∷◌, ◌++◌, length, take, drop}
+use Rattle.std.specs.Prelude.{ℕ, ◌+◌, ◌-◌, ◌≤◌, ◌≡◌, Bool, true, false, List, [], ◌∷◌, ◌++◌, length, drop, Result, Ok, Err}
 use Rattle.laws.specs.Choice.{pick}
 use Rattle.device.specs.declared.Device.{Device}
 use Rattle.record.specs.Valid.{Valid}
@@ -9,7 +9,7 @@ use Rattle.text.specs.Script.{lines_of, up_to}
 use Rattle.listing.specs.Listing.{told_over}
 use Rattle.compare_lines.specs.Left.{left_of, OneLine, settled, Placed}
 use Rattle.compare_lines.specs.declared.Compared.{Compared}
-use Rattle.compare_lines.specs.declared.Compared.TheVariants.{NotAFrame}
+use Rattle.numbers.specs.declared.Refusal.{Refusal}
 use Rattle.compare_lines.specs.declared.Phase.{Phase}
 use Rattle.compare_lines.specs.declared.Phase.TheVariants.{Matching}
 use Rattle.compare_listing.specs.Compared.{reads_no_frame}
@@ -17,26 +17,24 @@ use Rattle.compare_listing.specs.declared.Progress.{Progress}
 use Rattle.compare_listing.specs.declared.Gone.{Gone}
 
 -- the answer that is still to come, from the record and our present line, where the script goes on with these lines and the listing with this text
-unfoldable pub answer_from : Device → (ℕ → ℕ → ℕ) → Progress → List ℕ → List ℕ → List (List ℕ) → List ℕ → Compared
+unfoldable pub answer_from : Device → (ℕ → ℕ → ℕ) → Progress → List ℕ → List ℕ → List (List ℕ) → List ℕ → Result Compared Refusal
 answer_from d rom p ram ours script theirs =
-    pick p.bad NotAFrame
-    (pick (pick p.ended false (reads_no_frame d rom (assembled p.core ram) script)) NotAFrame
-    (left_of p.phase p.line (take p.size ours) (pick p.ended [] (told_over d rom (assembled p.core ram) script)) theirs))
+    pick p.bad (Err Refusal.NoFrame)
+    (pick (pick p.ended false (reads_no_frame d rom (assembled p.core ram) script)) (Err Refusal.NoFrame)
+    (Ok (left_of p.phase p.line ours (pick p.ended [] (told_over d rom (assembled p.core ram) script)) theirs)))
 
 abbrev pub with_phase : Progress → Phase → Progress
-with_phase p phase = record { core = p.core; ended = p.ended; bad = p.bad; line = p.line; size = p.size; phase = phase }
+with_phase p phase = record { core = p.core; ended = p.ended; bad = p.bad; line = p.line; phase = phase }
 
 -- at the header, with nothing of theirs
-abbrev pub begun : Core → ℕ → Progress
-begun core size = record { core = core; ended = false; bad = false; line = 1; size = size; phase = Matching 0 }
+abbrev pub begun : Core → Progress
+begun core = record { core = core; ended = false; bad = false; line = 1; phase = Matching 0 }
 
--- the record is valid, and the buffer holds our present line
+-- the record is valid, and `ours` is our present line
 pub record Sound (d : Device) (p : Progress) (ram ours : List ℕ) : Type 0 where
   pub valid : Valid d (assembled p.core ram)
-  pub line : OneLine (take p.size ours)
-  pub size : p.size ≤ length ours
-  pub placed : Placed p.phase p.size
-  pub room : 26 ≤ length ours
+  pub line : OneLine ours
+  pub placed : Placed p.phase (length ours)
   pub fair : p.ended ≡ false → p.bad ≡ false
 
 -- a line of the script is used: whatever script and listing go on with, the answer stays. A line that is a frame has a character, so lines are not more than half of the characters
@@ -44,14 +42,12 @@ pub record Nexts (d : Device) (rom : ℕ → ℕ → ℕ) (p : Progress) (ram ou
   pub same : (script : List (List ℕ)) (theirs : List ℕ) → answer_from d rom p ram ours (text ∷ script) theirs ≡ answer_from d rom r ram' ours' script theirs
   pub sound : Sound d r ram' ours'
   pub count : r.line + r.line ≤ p.line + p.line + 1 + length text
-  pub length : length ours' ≡ length ours
 
 -- the last line, which no LF ends, is used, if there is one
 pub record Lasts (d : Device) (rom : ℕ → ℕ → ℕ) (p : Progress) (ram ours text : List ℕ) (r : Progress) (ram' ours' : List ℕ) : Type 0 where
   pub same : (p.ended ≡ false → up_to text ≡ length text) → (theirs : List ℕ) → answer_from d rom p ram ours (lines_of text) theirs ≡ answer_from d rom r ram' ours' [] theirs
   pub sound : Sound d r ram' ours'
   pub count : r.line + r.line ≤ p.line + p.line + 1 + length text
-  pub length : length ours' ≡ length ours
 
 -- of a part of the script and of the listing some characters are used: whatever they go on with, and theirs with nothing where this is its last part, the answer stays.
 -- Where our line is not waited for, no whole line of the script is left, or ours has ended
@@ -61,6 +57,5 @@ pub record Goes (d : Device) (rom : ℕ → ℕ → ℕ) (p : Progress) (ram our
   pub read : r.script ≤ length script
   pub heard : r.listing ≤ length listing
   pub count : r.progress.line + r.progress.line + (length script - r.script) ≤ p.line + p.line + length script
-  pub ends : settled r.progress.phase r.progress.size ≡ true → r.progress.ended ≡ false → up_to (drop r.script script) ≡ length (drop r.script script)
-  pub waits : settled r.progress.phase r.progress.size ≡ false → (last ≡ false) × (r.listing ≡ length listing)
-  pub length : length ours' ≡ length ours
+  pub ends : settled r.progress.phase (length ours') ≡ true → r.progress.ended ≡ false → up_to (drop r.script script) ≡ length (drop r.script script)
+  pub waits : settled r.progress.phase (length ours') ≡ false → (last ≡ false) × (r.listing ≡ length listing)

@@ -25,16 +25,16 @@ pub passes : {t : Bool} {P : Type 0} → Decides t P → t ≡ true → P
 passes {t} d e = d.sound (true→T e)
 
 module _ {d : Device} (m : Machine) (b : List ℕ) where
-  pub outside-ranges : (Valid d m → ⊥) → DisplayOf d m b b (Err Refusal.RecordOutsideTheRanges)
-  outside-ranges n =
+  pub outside_ranges : (Valid d m → ⊥) → DisplayOf d m b b (Err Refusal.RecordOutsideTheRanges)
+  outside_ranges n =
       record {
         outside = λ _. record { answer = refl; kept = refl };
         short = λ v. absurd (n v);
         shown = λ v. absurd (n v);
       }
 
-  pub under-40 : Valid d m → length b < 40 → DisplayOf d m b b (Err Refusal.DisplayBufferUnder40Bytes)
-  under-40 v h =
+  pub under_40 : Valid d m → length b < 40 → DisplayOf d m b b (Err Refusal.DisplayBufferUnder40Bytes)
+  under_40 v h =
       record {
         outside = λ n. absurd (n v);
         short = λ _ _. record { answer = refl; kept = refl };

@@ -48,6 +48,7 @@ fn show(m: Machine, out: &mut [u8])
 }
 
 // The dots in the first forty bytes of out. Where the call refuses, out is as it was.
+#[tactic(auto, using(crate::proofs::Answers::fails, crate::proofs::Answers::passes, crate::proofs::Answers::outside_ranges, crate::proofs::Answers::under_40, crate::proofs::Answers::all_shown))]
 pub fn display(d: Device, m: Machine, out: &mut [u8]) -> Result<(), Refusal>
     ensures { DisplayOf d m out.old out.new result }
 {

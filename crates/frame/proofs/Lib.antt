@@ -1,7 +1,6 @@
 pub mod Sizes
 pub mod Characters
 pub mod Sequence
-pub mod Digits
 pub mod Alike
 pub mod Judging
 pub mod First

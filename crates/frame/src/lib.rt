@@ -18,18 +18,18 @@ pub struct Pins {
     pub speech: u8,
 }
 
-#[tactic(auto, using(crate::proofs::Digits::digit_range))]
+#[tactic(auto, unfolding(text::specs::Hexadecimal::digit_of))]
 fn is_digit(c: u8) -> bool
     ensures { result ≡ ltb (digit_of c) 16 }
 {
-    (48 <= c) & (c <= 57) | (65 <= c) & (c <= 70) | (97 <= c) & (c <= 102)
+    c.is_ascii_hexdigit()
 }
 
-#[tactic(auto, using(crate::proofs::Digits::bit_range))]
+#[tactic(auto, unfolding(text::specs::Hexadecimal::digit_of))]
 fn is_bit(c: u8) -> bool
     ensures { result ≡ ltb (digit_of c) 2 }
 {
-    (48 <= c) & (c <= 49)
+    matches!(c, b'0' | b'1')
 }
 
 // The first two characters are digits, and the last is 0 or 1; the EM73P982 has one more digit between them.
@@ -45,7 +45,7 @@ fn is_frame_at(d: Device, s: &[u8], at: usize) -> bool
 }
 
 // The value of a character that is a digit.
-#[tactic(auto, using(crate::proofs::Digits::digit))]
+#[tactic(auto, unfolding(text::specs::Hexadecimal::digit_of))]
 fn digit_value(c: u8) -> u8
     requires { digit_of c < 16 }
     ensures { result ≡ digit_of c }
@@ -105,10 +105,11 @@ fn again(s: &[u8], n: usize, at: usize) -> bool
 }
 
 // The 24 characters after a frame: eight frames of three, or six of four.
-fn after_one(d: Device, s: &[u8], n: usize, at: usize) -> bool
-    requires { (n ≡ frame_size d) × (at + n + 24 ≤ length s.now) × (AfterFrame d s.now (at + n)) }
-    ensures { Between d s.now (at + n) (at + n + 24) result }
+fn after_one(d: Device, s: &[u8], at: usize) -> bool
+    requires { (at + frame_size d + 24 ≤ length s.now) × (AfterFrame d s.now (at + frame_size d)) }
+    ensures { Between d s.now (at + frame_size d) (at + frame_size d + 24) result }
 {
+    let n = frame_size(d);
     again(s, n, at) || judged(d, s, at + n, at + n + 24)
 }
 
@@ -128,7 +129,7 @@ pub fn are_frames(d: Device, s: &[u8]) -> bool
     }
     let mut at: usize = 0;
     while s.len() - at >= n + 24 {
-        if !after_one(d, s, n, at) {
+        if !after_one(d, s, at) {
             return false;
         }
         at += 24;

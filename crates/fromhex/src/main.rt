@@ -27,7 +27,7 @@ fn refuse(refusal: HexRefusal) -> Failure {
 }
 
 // For a device whose image has IMAGE bytes. A proved loop has to end, and nothing says that a text does: no run uses up the turns.
-fn read<const IMAGE: usize, const WORK: usize>(rt: &HostRuntime, d: Device) -> Result<(), Failure>
+fn read<const IMAGE: usize, const WORK: usize>(rt: &HostRuntime) -> Result<(), Failure>
     requires { (IMAGE < 65536) × (WORK < 65536) }
 {
     let mut part = io::large_buffer();
@@ -37,13 +37,13 @@ fn read<const IMAGE: usize, const WORK: usize>(rt: &HostRuntime, d: Device) -> R
     for _ in 0..u64::MAX {
         let n = read_into(&mut rt.stdin(), &mut part)?;
         if n == 0 {
-            return match finish(d, state, &mut work, &mut image).told {
+            return match finish(state, IMAGE, &mut work, &mut image).told {
                 Ok(Told::Good) => show(&image),
                 Ok(Told::More) => Ok(()),
                 Err(refusal) => Err(refuse(refusal)),
             };
         }
-        let fed = feed(d, state, &part[..n], &mut work, &image);
+        let fed = feed(state, &part[..n], IMAGE, &mut work, &image);
         if let Err(refusal) = fed.told {
             return Err(refuse(refusal));
         }
@@ -56,8 +56,8 @@ fn run(rt: &HostRuntime) -> Result<(), Failure> {
     let c = chosen_device(rt)?;
     no_word(rt, usize::from(c.before) + 1)?;
     match c.device {
-        Device::Em73862 => read::<IMAGE_SIZE, WORK_SIZE>(rt, c.device),
-        Device::Em73P982 => read::<P982_IMAGE_SIZE, P982_WORK_SIZE>(rt, c.device),
+        Device::Em73862 => read::<IMAGE_SIZE, WORK_SIZE>(rt),
+        Device::Em73P982 => read::<P982_IMAGE_SIZE, P982_WORK_SIZE>(rt),
     }
 }
 

@@ -10,7 +10,7 @@ ghost use Rattle.hex_calls.specs.Chunks.{number_of, line_of, StartCall, FeedByte
 ghost use Rattle.hex_calls.specs.Calls.{ReadCall, WriteCall};
 
 use crate::state::{STATE_SIZE, pack, unpack};
-use device::Device;
+use device::{Device, image_size};
 use hex_chunks::{Told, check_buffers, feed, finish, start};
 use hex_reader::fault::HexRefusal;
 use hex_reader::read_hex;
@@ -84,13 +84,14 @@ fn feed_chunk(
     ensures { FeedBytes (image_size d) state.old state.new chunk.now work.old work.new image.now result line.new }
 {
     *line = 0;
-    if let Err(refusal) = check_buffers(d, work, image) {
+    let size = image_size(d);
+    if let Err(refusal) = check_buffers(size, work, image) {
         return u8::from(refusal);
     }
     let Some(s) = unpack(state) else {
         return u8::from(Refusal::RecordOutsideTheRanges);
     };
-    let fed = feed(d, s, chunk, work, image);
+    let fed = feed(s, chunk, size, work, image);
     pack(fed.state, state);
     *line = line_of(fed.told);
     number_of(fed.told)
@@ -107,13 +108,14 @@ fn declare_end(
     ensures { EndBytes (image_size d) state.old state.new work.old work.new image.old image.new result line.new }
 {
     *line = 0;
-    if let Err(refusal) = check_buffers(d, work, image) {
+    let size = image_size(d);
+    if let Err(refusal) = check_buffers(size, work, image) {
         return u8::from(refusal);
     }
     let Some(s) = unpack(state) else {
         return u8::from(Refusal::RecordOutsideTheRanges);
     };
-    let last = finish(d, s, work, image);
+    let last = finish(s, size, work, image);
     pack(last.state, state);
     *line = line_of(last.told);
     number_of(last.told)

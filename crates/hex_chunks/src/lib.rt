@@ -3,9 +3,8 @@
 
 pub mod held;
 
-ghost use Rattle.std.specs.Prelude.{◌≡◌, true, false, List, [], ◌++◌, ℕ, ◌+◌, ◌^◌, ◌<◌, length, MatchOption, Ok};
+ghost use Rattle.std.specs.Prelude.{◌≡◌, true, false, List, [], ◌++◌, ℕ, ◌+◌, ◌^◌, ◌<◌, ◌≤◌, length, MatchOption, Ok};
 ghost use Rattle.laws.specs.Choice.{either};
-ghost use Rattle.device.specs.Device.{image_size};
 ghost use Rattle.hex_reader.specs.Work.{work_size};
 ghost use Rattle.hex_reader.specs.Progress.{read_of};
 ghost use Rattle.hex_reader.specs.Reached.{Concluded, is_stopped};
@@ -13,7 +12,6 @@ ghost use Rattle.hex_chunks.specs.Cut.{fed};
 ghost use Rattle.hex_chunks.specs.Carries.{Along, Chunked, Carries, Readied, Sized, FeedCall, EndCall, told_of, refused_buffer};
 
 use crate::held::{HeldLine, complete_last, complete_line};
-use device::{Device, image_size};
 use hex_reader::fault::{HexFault, HexRefusal};
 use hex_reader::progress::{Stage, conclude};
 use hex_reader::work::{clear, copy_image, work_size};
@@ -142,10 +140,10 @@ fn told_of(s: HexChunks) -> Result<Told, HexRefusal>
 }
 
 // The refusal of the buffers by the size of the device's image: the work buffer's comes first.
-pub fn check_buffers(d: Device, work: &[u8], image: &[u8]) -> Result<(), Refusal>
-    ensures { Sized (image_size d) work.now image.now result }
+pub fn check_buffers(size: usize, work: &[u8], image: &[u8]) -> Result<(), Refusal>
+    requires { size ≤ 65536 }
+    ensures { Sized size work.now image.now result }
 {
-    let size = image_size(d);
     if work.len() != work_size(size) {
         return Err(Refusal::WorkBufferIsNot9216Bytes);
     }
@@ -165,10 +163,11 @@ fn refuse(state: HexChunks, refusal: Refusal) -> Fed
 }
 
 // A chunk, which may be empty.
-pub fn feed(d: Device, s: HexChunks, chunk: &[u8], work: &mut [u8], image: &[u8]) -> Fed
-    ensures { FeedCall (image_size d) s chunk.now work.old work.new image.now result }
+pub fn feed(s: HexChunks, chunk: &[u8], size: usize, work: &mut [u8], image: &[u8]) -> Fed
+    requires { size ≤ 65536 }
+    ensures { FeedCall size s chunk.now work.old work.new image.now result }
 {
-    if let Err(refusal) = check_buffers(d, work, image) {
+    if let Err(refusal) = check_buffers(size, work, image) {
         return refuse(s, refusal);
     }
     let Some(stage) = open_stage(s) else {
@@ -177,7 +176,6 @@ pub fn feed(d: Device, s: HexChunks, chunk: &[u8], work: &mut [u8], image: &[u8]
             told: told_of(s),
         };
     };
-    let size = image_size(d);
     make_ready(s.begun, size, work);
     let state = take_chunk(s, stage, chunk, size, work);
     Fed {
@@ -187,10 +185,11 @@ pub fn feed(d: Device, s: HexChunks, chunk: &[u8], work: &mut [u8], image: &[u8]
 }
 
 // The end is declared. The image is written where the whole text is good.
-pub fn finish(d: Device, s: HexChunks, work: &mut [u8], image: &mut [u8]) -> Fed
-    ensures { EndCall (image_size d) s work.old work.new image.old image.new result }
+pub fn finish(s: HexChunks, size: usize, work: &mut [u8], image: &mut [u8]) -> Fed
+    requires { size ≤ 65536 }
+    ensures { EndCall size s work.old work.new image.old image.new result }
 {
-    if let Err(refusal) = check_buffers(d, work, image) {
+    if let Err(refusal) = check_buffers(size, work, image) {
         return refuse(s, refusal);
     }
     let Some(stage) = open_stage(s) else {
@@ -199,7 +198,6 @@ pub fn finish(d: Device, s: HexChunks, work: &mut [u8], image: &mut [u8]) -> Fed
             told: told_of(s),
         };
     };
-    let size = image_size(d);
     make_ready(s.begun, size, work);
     match conclude_text(&s.held, s.line, stage, size, work) {
         Ok(()) => {

@@ -2,7 +2,7 @@
 // What is wrong with it is said in words on standard error, after the refusal's number on standard output.
 ghost use Rattle.std.specs.Prelude.{◌≡◌, ◌<◌, length, IfOk};
 ghost use Rattle.numbers.specs.Sizes.{addresses};
-ghost use Rattle.device.specs.Device.{Banked};
+ghost use Rattle.device.specs.Device.{Banked, image_size};
 
 use crate::arguments::{arg, is_given, open_read};
 use crate::part::fill;
@@ -76,7 +76,7 @@ pub fn open_window<'a>(
     usage: &[u8],
     room: &'a mut [u8],
 ) -> Result<Window<'a>, Failure>
-    ensures { IfOk result (λ window. Banked c.device c.p3 × (window.p3 ≡ c.p3)) }
+    ensures { IfOk result (λ window. Banked c.device c.p3 × (window.p3 ≡ c.p3) × (length window.bytes.now ≡ image_size c.device)) }
 {
     let image = open_image(rt, c.device, usize::from(c.before) + 1, usage, room)?;
     let Ok(window) = image.shown(c.p3) else {

@@ -1,4 +1,4 @@
-// PC and the flags as the four nibbles of a stack level, and a level of RAM.
+// PC and the flags as the four nibbles of a stack level, by shifts and masks, and a level of RAM.
 ghost use Rattle.std.specs.Prelude.{◌≡◌, ◌+◌, ◌*◌, ◌%◌, ◌≤◌, ◌<◌};
 ghost use Rattle.numbers.specs.Sizes.{addresses};
 ghost use Rattle.record.specs.Valid.{Nibbles};
@@ -14,7 +14,7 @@ pub(crate) fn top_of(pc: u16, r: Registers) -> u8
     requires { pc < addresses }
     ensures { result ≡ top_of pc r }
 {
-    nibble_at(pc, 12) + 2 * u8::from(r.cf) + 4 * u8::from(r.zf) + 8 * u8::from(r.sf)
+    ((u8::from(r.sf) << 1 | u8::from(r.zf)) << 1 | u8::from(r.cf)) << 1 | nibble_at(pc, 12)
 }
 
 // The nibble of PC12, with the flag bits of the one that stands there.
@@ -22,14 +22,14 @@ pub(crate) fn kept_top(pc: u16, old: u8) -> u8
     requires { (pc < addresses) × (old < 16) }
     ensures { result ≡ kept_top pc old }
 {
-    nibble_at(pc, 12) + 2 * (old / 2)
+    old & 14 | nibble_at(pc, 12)
 }
 
 fn pc_of(a: u8, b: u8, c: u8, d: u8) -> u16
     requires { (a < 16) × (b < 16) × (c < 16) }
     ensures { result ≡ a + 16 * b + 256 * c + 4096 * (d % 2) }
 {
-    a as u16 + 16 * b as u16 + 256 * c as u16 + 4096 * (d as u16 % 2)
+    (((d as u16 & 1) << 4 | c as u16) << 4 | b as u16) << 4 | a as u16
 }
 
 fn place_of(n: u8) -> usize

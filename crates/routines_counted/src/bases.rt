@@ -38,14 +38,12 @@ pub fn lay_bases(counts: &[u32], masks: &[u16], marks: &[u8], bases: &mut [u16])
     ensures { Based (counts_of counts.now) masks.now marks.now bases.new result }
 {
     let mut total = 0;
-    let mut v = 0;
-    while v < marks.len() {
+    for v in 0..marks.len() {
         bases[v] = base_of(marks, v, total);
         total = base_after(counts, masks, marks, v, total);
         if MOST_TURNS < total {
             return total;
         }
-        v += 1;
     }
     total
 }

@@ -37,11 +37,9 @@ pub fn size_of(counts: &[u32], mask: u16) -> u32
 {
     let mut s = 1;
     let mut m = mask;
-    let mut i = 0;
-    while i < counts.len() {
-        s = times(s, counts[i], m);
-        m = m / 2;
-        i += 1;
+    for &count in counts {
+        s = times(s, count, m);
+        m /= 2;
     }
     s
 }
@@ -101,9 +99,7 @@ pub fn moved_to(counts: &[u32], mask: u16, there: u16, address: u32, d: u32) -> 
     let mut m = mask;
     let mut t = there;
     let mut left = d;
-    let mut i = 0;
-    while i < counts.len() {
-        let count = counts[i];
+    for &count in counts {
         let n = step_to(count, address, first_in(count, m, left));
         if count / 65536 < n {
             return NO_STEP;
@@ -111,9 +107,8 @@ pub fn moved_to(counts: &[u32], mask: u16, there: u16, address: u32, d: u32) -> 
         r = with_digit(r, scale, t, n);
         scale = times(scale, count, t);
         left = rest_in(count, m, left);
-        m = m / 2;
-        t = t / 2;
-        i += 1;
+        m /= 2;
+        t /= 2;
     }
     r
 }

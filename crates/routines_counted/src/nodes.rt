@@ -162,11 +162,9 @@ pub fn link_place(
         (size (counts_of counts.now) (get_or masks.now v 0)) linked.old linked.new }
 {
     let size = size_of(counts, masks[v]);
-    let mut d = 0;
-    while d < size {
+    for d in 0..size {
         let node = node_of(bases, v, d);
         linked[node] = linked_word(words, counts, masks, bases, n, v, d);
-        d += 1;
     }
 }
 
@@ -203,9 +201,7 @@ pub fn link_all(
         × Apart counts.now masks.now bases.now marks.now (length marks.now) }
     ensures { LaidAll (LinkedIs words.now counts.now masks.now bases.now) counts.now masks.now bases.now marks.now (length marks.now) linked.new }
 {
-    let mut v = 0;
-    while v < marks.len() {
+    for v in 0..marks.len() {
         link_marked(words, counts, masks, bases, marks, v, linked);
-        v += 1;
     }
 }

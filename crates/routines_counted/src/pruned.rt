@@ -154,11 +154,9 @@ fn prune_place(
         (size (counts_of counts.now) (get_or masks.now v 0)) pruned.old pruned.new }
 {
     let size = size_of(counts, masks[v]);
-    let mut d = 0;
-    while d < size {
+    for d in 0..size {
         let node = node_of(bases, v, d);
         pruned[node] = pruned_word(words, counts, masks, bases, lives, n, v, d);
-        d += 1;
     }
 }
 
@@ -200,9 +198,7 @@ pub fn prune_all(
     ensures { LaidAll (PrunedIs words.now counts.now masks.now bases.now lives.now) counts.now masks.now bases.now
         marks.now (length marks.now) pruned.new }
 {
-    let mut v = 0;
-    while v < marks.len() {
+    for v in 0..marks.len() {
         prune_marked(words, counts, masks, bases, marks, lives, v, pruned);
-        v += 1;
     }
 }

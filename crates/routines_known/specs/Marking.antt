@@ -1,5 +1,5 @@
 -- Marks m, one a number: what a number's mark goes by, and what marking comes to.
-use Rattle.std.specs.Prelude.{◌≡◌, Bool, false, List, ℕ, ◌+◌, ◌≤◌, ◌<◌, ltb, length, get_or}
+use Rattle.std.specs.Prelude.{◌≡◌, Bool, true, false, List, ℕ, ◌+◌, ◌≤◌, ◌<◌, ltb, length, get_or}
 use Rattle.graph_search.specs.Marks.{Marked, zeros}
 use Rattle.routines.specs.Calling.{Flow}
 use Rattle.routines.specs.Losing.{Loses}
@@ -35,10 +35,6 @@ pub data Lost (f : Flow) (m : List ℕ) (v : ℕ) : Type 0 where
   past_known : f.kind v ≡ 3 → Marked m (f.other v) → Lost f m v
   past_unknown : f.kind v ≡ 3 → Marked m (f.from (f.entry v)) → Marked m (f.next v) → Lost f m v
 
-pub record Judges (f : Flow) (m : List ℕ) (v r : ℕ) : Type 0 where
-  pub so : 0 < r → Lost f m v
-  pub not_so : r ≡ 0 → Lost f m v → ⊥
-
 -- v is marked, or does not lose it by the marks; so are the first t numbers
 abbrev pub Idle : Flow → List ℕ → ℕ → Type 0
 Idle f m v = Lost f m v → Marked m v
@@ -46,17 +42,17 @@ Idle f m v = Lost f m v → Marked m v
 pub record IdleTo (f : Flow) (m : List ℕ) (t : ℕ) : Type 0 where
   pub at : (v : ℕ) → v < t → Idle f m v
 
--- v was settled: r is 1 where that marked it, else 0
-pub record Settled (f : Flow) (m : List ℕ) (v : ℕ) (m' : List ℕ) (r : ℕ) : Type 0 where
+-- v was settled: r tells whether that marked it
+pub record Settled (f : Flow) (m : List ℕ) (v : ℕ) (m' : List ℕ) (r : Bool) : Type 0 where
   pub lose : AllLose f m'
-  pub count : zeros m' + r ≡ zeros m
-  pub idle : r ≡ 0 → (m' ≡ m) × Idle f m v
+  pub marked : r ≡ true → zeros m' + 1 ≡ zeros m
+  pub idle : r ≡ false → (m' ≡ m) × Idle f m v
 
--- the first t numbers were settled, and r of them were marked
-pub record Swept (f : Flow) (m : List ℕ) (t : ℕ) (m' : List ℕ) (r : ℕ) : Type 0 where
+-- the first t numbers were settled, and r tells whether some were marked
+pub record Swept (f : Flow) (m : List ℕ) (t : ℕ) (m' : List ℕ) (r : Bool) : Type 0 where
   pub lose : AllLose f m'
-  pub count : zeros m' + r ≡ zeros m
-  pub idle : r ≡ 0 → (m' ≡ m) × IdleTo f m t
+  pub marked : r ≡ true → zeros m' < zeros m
+  pub idle : r ≡ false → (m' ≡ m) × IdleTo f m t
 
 -- the marks as they are asked: SF is known after a call of a routine whose first place has none
 unfoldable pub marked_in : List ℕ → ℕ → Bool

@@ -16,28 +16,15 @@ pub struct Deep {
     pub reached: usize,
 }
 
-fn most(a: usize, b: usize) -> usize
-    ensures { result ≡ max a b }
-{
-    if a < b {
-        return b;
-    }
-    a
-}
-
 // At a fork: first, where the goal was reached or can be that way or later, else second.
 fn turn(dep: &[u16], pend: &[u32], goal: usize, here: Deep, way: Way) -> usize
     requires { (here.top < length pend.now) × (here.top < 65536) × (way.first < length dep.now) }
     ensures { Turned goal (max (max here.reached (get_or pend.now here.top 0)) (here.top + get_or dep.now way.first 0)) way.first way.second result }
 {
     let top = here.top;
-    let first = way.first;
     let later = pend[top] as usize;
-    let m = most(most(here.reached, later), top + dep[first] as usize);
-    if goal <= m {
-        return first;
-    }
-    way.second
+    let most = here.reached.max(later).max(top + dep[way.first] as usize);
+    if goal <= most { way.first } else { way.second }
 }
 
 // At a call: where it goes on is laid on the stack, and what can be reached from there on beside it.
@@ -48,13 +35,13 @@ fn enter(dep: &[u16], stack: &mut [u16], pend: &mut [u32], here: Deep, way: Way)
 {
     let top = here.top;
     let second = way.second;
-    let m = most(top + dep[second] as usize, pend[top] as usize);
+    let most = (top + dep[second] as usize).max(pend[top] as usize);
     stack[top] = second as u16;
-    pend[top + 1] = m as u32;
+    pend[top + 1] = most as u32;
     Deep {
         v: way.first,
         top: top + 1,
-        reached: most(here.reached, top + 1),
+        reached: here.reached.max(top + 1),
     }
 }
 
@@ -78,8 +65,7 @@ fn deep_on(
     if way.kind == 1 {
         return Deep {
             v: turn(dep, pend, goal, here, way),
-            top: top,
-            reached: here.reached,
+            ..here
         };
     }
     if way.kind == 3 {
@@ -88,7 +74,7 @@ fn deep_on(
     Deep {
         v: latest(stack, top),
         top: top - 1,
-        reached: here.reached,
+        ..here
     }
 }
 

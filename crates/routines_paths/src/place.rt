@@ -12,11 +12,7 @@ pub fn more(words: &[u64], v: usize, top: usize) -> bool
     requires { v < length words.now }
     ensures { More ((ways_in words.now).kind v) top result }
 {
-    let way = way_of(words, v);
-    if way.kind != 2 {
-        return true;
-    }
-    0 < top
+    way_of(words, v).kind != 2 || 0 < top
 }
 
 // Where the latest call goes on, of so many that are open.

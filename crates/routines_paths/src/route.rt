@@ -21,12 +21,8 @@ fn greater(d: &[u32], way: Way) -> usize
     requires { (way.first < length d.now) × (way.second < length d.now) }
     ensures { Greater d.now way.first way.second result }
 {
-    let a = way.first;
-    let b = way.second;
-    if d[a] < d[b] {
-        return b;
-    }
-    a
+    let Way { first, second, .. } = way;
+    if d[first] < d[second] { second } else { first }
 }
 
 // One move of the way: on, into a routine, or back to where the latest call goes on.
@@ -41,7 +37,7 @@ fn move_on(words: &[u64], d: &[u32], stack: &mut [u16], here: At) -> At
     if way.kind == 1 {
         return At {
             v: greater(d, way),
-            top: top,
+            top,
         };
     }
     if way.kind == 3 {

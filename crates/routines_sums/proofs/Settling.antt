@@ -34,8 +34,8 @@ pub dist_blank : {g : Graph} {c : ℕ → ℕ} {d dep : List ℕ} → Blank d �
 dist_blank {d = d} b e =
     record { fits = λ v. omega (arith, b.at v); deep = λ v. omega (arith, e.at v, zeros_le d); value = λ v h. absurd (omega (arith, b.at v)) }
 
-pub settle_keep : {g : Graph} {c : ℕ → ℕ} {d dep : List ℕ} {v : ℕ} → Dist g c d dep → Idle g c d v → Settled g c d v d dep 0
-settle_keep dist idle = record { dist = dist; count = omega arith; idle = λ _. (refl, idle) }
+pub settle_keep : {g : Graph} {c : ℕ → ℕ} {d dep : List ℕ} {v : ℕ} → Dist g c d dep → Idle g c d v → Settled g c d v d dep false
+settle_keep dist idle = record { dist = dist; changed = λ e. absurd (never (sym e)); idle = λ _. (refl, idle) }
 
 zeros_set_pos : (l : List ℕ) (i x : ℕ) → i < length l → get_or l i 0 ≡ 0 → 0 < x → zeros (set l i x) + 1 ≡ zeros l
 zeros_set_pos l i zero h e p = absurd (not-suc-le-zero p)
@@ -112,7 +112,7 @@ module _ {g : Graph} {c : ℕ → ℕ} (d dep : List ℕ) (v : ℕ) (pos : 1 ≤
   value-size x y (forks kk a b e q) = (omega (arith, pos (omega (arith, kk)) (omega (arith, kk))), omega (arith, dist.deep (g.next v), dist.deep (g.other v)))
   value-size x y (calls kk a b e q) = (omega (arith, pos (omega (arith, kk)) (omega (arith, kk))), omega (arith, dist.deep (g.next v), dist.deep (g.other v)))
 
-  pub settle_new : (x y : ℕ) → get_or d v 0 ≡ 0 → x < 65536 → Value g c d dep v x y → Settled g c d v (set d v x) (set dep v y) 1
+  pub settle_new : (x y : ℕ) → get_or d v 0 ≡ 0 → x < 65536 → Value g c d dep v x y → Settled g c d v (set d v x) (set dep v y) true
   settle_new x y z low val =
       let size = value-size x y val in
       let zs : zeros (set d v x) + 1 ≡ zeros d = zeros_set_pos d v x l z size.0 in
@@ -123,8 +123,8 @@ module _ {g : Graph} {c : ℕ → ℕ} (d dep : List ℕ) (v : ℕ) (pos : 1 ≤
           deep = λ u. cases_set (λ a. a + zeros (set d v x) ≤ length (set d v x)) dep v u y (omega arith) (λ _. omega (arith, size.1)) (λ _. omega (arith, dist.deep u));
           value = λ u h. value u h (ℕ_discrete u v);
         };
-        count = zs;
-        idle = λ e. absurd (omega arith);
+        changed = λ _. zs;
+        idle = λ e. absurd (never e);
       }
     where
       value : (u : ℕ) → 0 < get_or (set d v x) u 0 → Dec (u ≡ v) → Value g c (set d v x) (set dep v y) u (get_or (set d v x) u 0) (get_or (set dep v y) u 0)
@@ -139,28 +139,27 @@ either_lt h l (inr e) = rw e l
 pub priced_at : {x : List ℕ} {n n' : ℕ} → n' ≡ n → Priced x n → Priced x n'
 priced_at e p = rw e p
 
-module _ {g : Graph} {c : ℕ → ℕ} where
-  pub swept_none : {d dep : List ℕ} → Dist g c d dep → Swept g c d 0 d dep 0
-  swept_none a = record { dist = a; count = omega arith; idle = λ _. (refl, record { at = λ v h. absurd (omega (arith, h)) }) }
+module _ {g : Graph} {c : ℕ → ℕ} {d d' dep' d'' dep'' : List ℕ} {i : ℕ} where
+  -- one that is given its sum
+  pub swept_changed : {r : Bool} → Swept g c d i d' dep' r → Settled g c d' i d'' dep'' true → Swept g c d (i + 1) d'' dep'' true
+  swept_changed {r} a b = record { dist = b.dist; changed = λ _. fewer r a; idle = λ e. absurd (never e) }
+    where
+      fewer : (r : Bool) → Swept g c d i d' dep' r → zeros d'' < zeros d
+      fewer true s = omega (arith, s.changed refl, b.changed refl)
+      fewer false s =
+          let y : zeros d'' < zeros d' = omega (arith, b.changed refl) in
+          rw (s.idle refl).0 at y
 
-  pub swept_more : {d d' dep' d'' dep'' : List ℕ} {i r t : ℕ} → Swept g c d i d' dep' r → Settled g c d' i d'' dep'' t → Swept g c d (i + 1) d'' dep'' (r + t)
-  swept_more {d} {i = i} a b =
+  -- one that is not
+  pub swept_kept : {r : Bool} → Swept g c d i d' dep' r → Settled g c d' i d'' dep'' false → Swept g c d (i + 1) d'' dep'' r
+  swept_kept {r} a b =
+      let y = b.idle refl in
       record {
         dist = b.dist;
-        count = omega (arith, a.count, b.count);
-        idle = λ e.
-            let x = a.idle (omega (arith, e)) in
-            let y = b.idle (omega (arith, e)) in
-            (y.0 ∙ x.0, record { at = λ v l. last v l x.1 (rw (y.0 ∙ x.0) at y.1) (ℕ_discrete v i) });
+        changed = λ e. rw y.0 (a.changed e);
+        idle = λ e. let x = a.idle e in (y.0 ∙ x.0, record { at = λ v l. last v l x.1 (rw (y.0 ∙ x.0) at y.1) (ℕ_discrete v i) });
       }
     where
       last : (v : ℕ) → v < i + 1 → IdleTo g c d i → Idle g c d i → Dec (v ≡ i) → Idle g c d v
       last v l x y (yes e) = rw e y
       last v l x y (no ne) = x.at v (omega (arith, l, ne))
-
-  pub swept_end : {d d' dep' : List ℕ} {i t r : ℕ} → i ≡ t → Swept g c d i d' dep' r → Swept g c d t d' dep' r
-  swept_end e a = rw e at a
-
-  -- a sweep that changes nothing leaves the numbers idle
-  pub idle_after : {d d' dep' : List ℕ} {t r : ℕ} → Swept g c d t d' dep' r → r ≡ 0 → IdleTo g c d' t
-  idle_after s e = let x = s.idle e in rw x.0 x.1

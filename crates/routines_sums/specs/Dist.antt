@@ -40,8 +40,8 @@ pub data Idle (g : Graph) (c : ℕ → ℕ) (d : List ℕ) (v : ℕ) : Type 0 wh
   fork_over : g.kind v ≡ 1 → 65535 < c v + max (get_or d (g.next v) 0) (get_or d (g.other v) 0) → Idle g c d v
   call_over : g.kind v ≡ 3 → 65535 < c v + (get_or d (g.next v) 0 + get_or d (g.other v) 0) → Idle g c d v
 
--- v was settled: r is 1 where that changed d, else 0
-pub record Settled (g : Graph) (c : ℕ → ℕ) (d : List ℕ) (v : ℕ) (d' dep' : List ℕ) (r : ℕ) : Type 0 where
+-- v was settled: r tells whether that changed d
+pub record Settled (g : Graph) (c : ℕ → ℕ) (d : List ℕ) (v : ℕ) (d' dep' : List ℕ) (r : Bool) : Type 0 where
   pub dist : Dist g c d' dep'
-  pub count : zeros d' + r ≡ zeros d
-  pub idle : r ≡ 0 → (d' ≡ d) × Idle g c d' v
+  pub changed : r ≡ true → zeros d' + 1 ≡ zeros d
+  pub idle : r ≡ false → (d' ≡ d) × Idle g c d' v

@@ -1,5 +1,5 @@
 -- Words by number as the graph on which sums and depths are settled: after 21 a number is reached in the outer routine or in called ones, not in both, so that one sum a number is enough.
-use Rattle.std.specs.Prelude.{◌≡◌, List, ℕ, ◌+◌, ◌≤◌, ◌<◌, eqb, length}
+use Rattle.std.specs.Prelude.{◌≡◌, Bool, true, false, List, ℕ, ◌≤◌, ◌<◌, eqb, length}
 use Rattle.laws.specs.Choice.{pick}
 use Rattle.graph.specs.Graph.{Graph}
 use Rattle.graph_search.specs.Marks.{zeros}
@@ -29,8 +29,8 @@ pub record Priced (x : List ℕ) (n : ℕ) : Type 0 where
 pub record IdleTo (g : Graph) (c : ℕ → ℕ) (d : List ℕ) (t : ℕ) : Type 0 where
   pub at : (v : ℕ) → v < t → Idle g c d v
 
--- they were settled, and r of them changed d
-pub record Swept (g : Graph) (c : ℕ → ℕ) (d : List ℕ) (t : ℕ) (d' dep' : List ℕ) (r : ℕ) : Type 0 where
+-- they were settled, and r tells whether some changed d
+pub record Swept (g : Graph) (c : ℕ → ℕ) (d : List ℕ) (t : ℕ) (d' dep' : List ℕ) (r : Bool) : Type 0 where
   pub dist : Dist g c d' dep'
-  pub count : zeros d' + r ≡ zeros d
-  pub idle : r ≡ 0 → (d' ≡ d) × IdleTo g c d t
+  pub changed : r ≡ true → zeros d' < zeros d
+  pub idle : r ≡ false → (d' ≡ d) × IdleTo g c d t

@@ -1,4 +1,3 @@
 pub mod Calling
-pub mod Latching
 pub mod Pairs
 pub mod Returning

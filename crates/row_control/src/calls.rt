@@ -2,8 +2,6 @@
 ghost use Rattle.std.specs.Prelude.{◌≡◌, true, ◌<◌};
 ghost use Rattle.laws.specs.Among.{among};
 ghost use Rattle.numbers.specs.Sizes.{addresses};
-ghost use Rattle.sheet.specs.Operation.Entry.{short};
-ghost use Rattle.sheet.specs.Flow.{call_entry};
 ghost use Rattle.record.specs.Stack.{CanPush, called};
 ghost use Rattle.record.specs.Valid.{Nibbles};
 ghost use Rattle.row.specs.Rows.{spent};
@@ -15,15 +13,8 @@ use numbers::{ADDRESSES, Stop};
 use record::stack::can_push;
 use record::{Core, Ram};
 use row::{Turn, held, moved_on};
+use sheet::flow::short_entry;
 use sheet::rows;
-
-// "SCALL n: 8n + 6, but 86h for n = 0"
-fn short_entry(n: u16) -> u16
-    requires { n < addresses }
-    ensures { result ≡ call_entry short n }
-{
-    if n == 0 { 0x86 } else { 8 * n + 6 }
-}
 
 fn called(m: Core, ram: &mut Ram, ret: u16, target: u16) -> Turn
     requires { (Nibbles ram.old) × (CanPush m) × (ret < addresses) }
@@ -42,6 +33,6 @@ pub fn call(m: Core, ram: &mut Ram, row: u8, a: u16) -> Result<Turn, Stop>
     }
     match row {
         rows::LCALL => Ok(called(m, ram, (m.pc + 2) % ADDRESSES, a)),
-        _ => Ok(called(m, ram, (m.pc + 1) % ADDRESSES, short_entry(a))),
+        _ => Ok(called(m, ram, (m.pc + 1) % ADDRESSES, short_entry(a) as u16)),
     }
 }

@@ -47,6 +47,7 @@ fn exchanged(m: Core) -> Turn
     }
 }
 
+#[tactic(auto, unfolding(sheet::specs::Table::line_at, sheet::specs::Table::lines, row::specs::Rows::work_of, row::specs::Steps::exchange_step, row::specs::Rows::latches_of, alu::specs::Flags::flag_after))]
 pub fn latch(m: Core, row: u8, r: u8) -> Turn
     requires { (m.pc < addresses) × (among latches row ≡ true) }
     ensures { Keeps m row r result }

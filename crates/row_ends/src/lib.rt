@@ -3,7 +3,7 @@
 
 ghost use Rattle.std.specs.Prelude.{◌≡◌, ◌<◌};
 ghost use Rattle.numbers.specs.Sizes.{addresses};
-ghost use Rattle.row_ends.specs.Ends.{acc_loaded, acc_hr_exchanged, acc_lr_exchanged, acc_summed, acc_lessened, acc_logical, acc_carried, acc_borrowed, hr_loaded, hr_summed, lr_loaded, lr_summed, lr_lessened, went_on, summed, lessened, logical, compared, cf_tested, tested, nothing, goes_past, jumped};
+ghost use Rattle.row_ends.specs.Ends.{held, loaded_with, given, goes_past, loaded, acc_loaded, exchanged, summed, lessened, logical, acc_carried, acc_borrowed, compared, tested, cf_tested, went_on, nothing, jumped};
 
 use alu::Made;
 use numbers::ADDRESSES;
@@ -17,6 +17,44 @@ pub struct Act {
     pub regs: Registers,
 }
 
+// A register of a nibble.
+#[derive(Clone, Copy)]
+pub enum Register {
+    Acc,
+    Hr,
+    Lr,
+}
+
+fn held(r: Registers, from: Register) -> u8
+    ensures { result ≡ held r from }
+{
+    match from {
+        Register::Acc => r.acc,
+        Register::Hr => r.hr,
+        Register::Lr => r.lr,
+    }
+}
+
+fn loaded_with(r: Registers, to: Register, v: u8) -> Registers
+    ensures { result ≡ loaded_with r to v }
+{
+    match to {
+        Register::Acc => Registers { acc: v, ..r },
+        Register::Hr => Registers { hr: v, ..r },
+        Register::Lr => Registers { lr: v, ..r },
+    }
+}
+
+// The registers where one of them is given v, or none is.
+fn given(r: Registers, to: Option<Register>, v: u8) -> Registers
+    ensures { result ≡ given r to v }
+{
+    match to {
+        Some(to) => loaded_with(r, to, v),
+        None => r,
+    }
+}
+
 fn past(m: Core, r: Registers, n: u8, t: u16) -> Act
     requires { m.pc < addresses }
     ensures { result ≡ goes_past m r n t }
@@ -26,6 +64,18 @@ fn past(m: Core, r: Registers, n: u8, t: u16) -> Act
         pc: (m.pc + n as u16) % ADDRESSES,
         regs: r,
     }
+}
+
+// - - 1
+pub fn loaded(m: Core, to: Register, v: u8, n: u8, t: u16) -> Act
+    requires { m.pc < addresses }
+    ensures { result ≡ loaded m to v n t }
+{
+    let r = Registers {
+        sf: true,
+        ..loaded_with(m.regs, to, v)
+    };
+    past(m, r, n, t)
 }
 
 // - Z 1
@@ -42,74 +92,57 @@ pub fn acc_loaded(m: Core, v: u8, n: u8, t: u16) -> Act
     past(m, r, n, t)
 }
 
-// - Z 1: Z speaks of what ACC receives
-pub fn acc_hr_exchanged(m: Core, n: u8, t: u16) -> Act
+// - Z 1: ACC and another register change places, and Z speaks of what ACC receives.
+pub fn exchanged(m: Core, with: Register, n: u8, t: u16) -> Act
     requires { m.pc < addresses }
-    ensures { result ≡ acc_hr_exchanged m n t }
+    ensures { result ≡ exchanged m with n t }
 {
+    let v = held(m.regs, with);
     let r = Registers {
-        acc: m.regs.hr,
-        hr: m.regs.acc,
-        zf: m.regs.hr == 0,
+        acc: v,
+        zf: v == 0,
         sf: true,
-        ..m.regs
-    };
-    past(m, r, n, t)
-}
-
-pub fn acc_lr_exchanged(m: Core, n: u8, t: u16) -> Act
-    requires { m.pc < addresses }
-    ensures { result ≡ acc_lr_exchanged m n t }
-{
-    let r = Registers {
-        acc: m.regs.lr,
-        lr: m.regs.acc,
-        zf: m.regs.lr == 0,
-        sf: true,
-        ..m.regs
+        ..loaded_with(m.regs, with, m.regs.acc)
     };
     past(m, r, n, t)
 }
 
 // - Z C'
-pub fn acc_summed(m: Core, x: Made, n: u8, t: u16) -> Act
+pub fn summed(m: Core, to: Option<Register>, x: Made, n: u8, t: u16) -> Act
     requires { m.pc < addresses }
-    ensures { result ≡ acc_summed m x n t }
+    ensures { result ≡ summed m to x n t }
 {
     let r = Registers {
-        acc: x.value,
         zf: x.value == 0,
         sf: !x.carry,
-        ..m.regs
+        ..given(m.regs, to, x.value)
     };
     past(m, r, n, t)
 }
 
 // - Z C
-pub fn acc_lessened(m: Core, x: Made, n: u8, t: u16) -> Act
+pub fn lessened(m: Core, to: Option<Register>, x: Made, n: u8, t: u16) -> Act
     requires { m.pc < addresses }
-    ensures { result ≡ acc_lessened m x n t }
+    ensures { result ≡ lessened m to x n t }
 {
     let r = Registers {
-        acc: x.value,
         zf: x.value == 0,
         sf: x.carry,
-        ..m.regs
+        ..given(m.regs, to, x.value)
     };
     past(m, r, n, t)
 }
 
 // - Z Z'
-pub fn acc_logical(m: Core, x: Made, n: u8, t: u16) -> Act
+pub fn logical(m: Core, to: Option<Register>, x: Made, n: u8, t: u16) -> Act
     requires { m.pc < addresses }
-    ensures { result ≡ acc_logical m x n t }
+    ensures { result ≡ logical m to x n t }
 {
     let zero = x.value == 0;
     let r = Registers {
-        acc: x.value,
         zf: zero,
         sf: !zero,
-        ..m.regs
+        ..given(m.regs, to, x.value)
     };
     past(m, r, n, t)
 }
@@ -139,126 +172,6 @@ pub fn acc_borrowed(m: Core, x: Made, n: u8, t: u16) -> Act
         cf: x.carry,
         zf: x.value == 0,
         sf: x.carry,
-        ..m.regs
-    };
-    past(m, r, n, t)
-}
-
-// - - 1
-pub fn hr_loaded(m: Core, v: u8, n: u8, t: u16) -> Act
-    requires { m.pc < addresses }
-    ensures { result ≡ hr_loaded m v n t }
-{
-    let r = Registers {
-        hr: v,
-        sf: true,
-        ..m.regs
-    };
-    past(m, r, n, t)
-}
-
-// - Z C'
-pub fn hr_summed(m: Core, x: Made, n: u8, t: u16) -> Act
-    requires { m.pc < addresses }
-    ensures { result ≡ hr_summed m x n t }
-{
-    let r = Registers {
-        hr: x.value,
-        zf: x.value == 0,
-        sf: !x.carry,
-        ..m.regs
-    };
-    past(m, r, n, t)
-}
-
-// - - 1
-pub fn lr_loaded(m: Core, v: u8, n: u8, t: u16) -> Act
-    requires { m.pc < addresses }
-    ensures { result ≡ lr_loaded m v n t }
-{
-    let r = Registers {
-        lr: v,
-        sf: true,
-        ..m.regs
-    };
-    past(m, r, n, t)
-}
-
-// - Z C'
-pub fn lr_summed(m: Core, x: Made, n: u8, t: u16) -> Act
-    requires { m.pc < addresses }
-    ensures { result ≡ lr_summed m x n t }
-{
-    let r = Registers {
-        lr: x.value,
-        zf: x.value == 0,
-        sf: !x.carry,
-        ..m.regs
-    };
-    past(m, r, n, t)
-}
-
-// - Z C
-pub fn lr_lessened(m: Core, x: Made, n: u8, t: u16) -> Act
-    requires { m.pc < addresses }
-    ensures { result ≡ lr_lessened m x n t }
-{
-    let r = Registers {
-        lr: x.value,
-        zf: x.value == 0,
-        sf: x.carry,
-        ..m.regs
-    };
-    past(m, r, n, t)
-}
-
-// - - 1
-pub fn went_on(m: Core, n: u8, t: u16) -> Act
-    requires { m.pc < addresses }
-    ensures { result ≡ went_on m n t }
-{
-    let r = Registers {
-        sf: true,
-        ..m.regs
-    };
-    past(m, r, n, t)
-}
-
-// - Z C'
-pub fn summed(m: Core, x: Made, n: u8, t: u16) -> Act
-    requires { m.pc < addresses }
-    ensures { result ≡ summed m x n t }
-{
-    let r = Registers {
-        zf: x.value == 0,
-        sf: !x.carry,
-        ..m.regs
-    };
-    past(m, r, n, t)
-}
-
-// - Z C
-pub fn lessened(m: Core, x: Made, n: u8, t: u16) -> Act
-    requires { m.pc < addresses }
-    ensures { result ≡ lessened m x n t }
-{
-    let r = Registers {
-        zf: x.value == 0,
-        sf: x.carry,
-        ..m.regs
-    };
-    past(m, r, n, t)
-}
-
-// - Z Z'
-pub fn logical(m: Core, x: Made, n: u8, t: u16) -> Act
-    requires { m.pc < addresses }
-    ensures { result ≡ logical m x n t }
-{
-    let zero = x.value == 0;
-    let r = Registers {
-        zf: zero,
-        sf: !zero,
         ..m.regs
     };
     past(m, r, n, t)
@@ -302,6 +215,14 @@ pub fn cf_tested(m: Core, cf: bool, answer: bool, n: u8, t: u16) -> Act
         ..m.regs
     };
     past(m, r, n, t)
+}
+
+// - - 1
+pub fn went_on(m: Core, n: u8, t: u16) -> Act
+    requires { m.pc < addresses }
+    ensures { result ≡ went_on m n t }
+{
+    tested(m, true, n, t)
 }
 
 // - - -

@@ -1,3 +1,1 @@
-pub mod Loading
-pub mod Storing
-pub mod FromRom
+pub mod OtherBank

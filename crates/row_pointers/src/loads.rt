@@ -12,6 +12,7 @@ use row_ends::{Act, acc_loaded};
 use sheet::rows;
 
 // The row that is none of those named is LDADPL.
+#[tactic(auto, unfolding(sheet::specs::Table::line_at, sheet::specs::Table::lines, row::specs::Rows::work_of, row::specs::Steps::put_step, alu::specs::Making::made, alu::specs::Flags::flag_after))]
 fn from_pointer(m: Core, row: u8) -> Act
     requires { (Asks load_pointer m row) × (bank_of m ≡ 0) }
     ensures { Leaves m row (loaded m (Ok result)) }
@@ -26,6 +27,7 @@ fn from_pointer(m: Core, row: u8) -> Act
 }
 
 // The row that is none of those named is LDATAL.
+#[tactic(auto, unfolding(sheet::specs::Table::line_at, sheet::specs::Table::lines, row::specs::Rows::work_of, row::specs::Steps::put_step, alu::specs::Making::made, alu::specs::Flags::flag_after))]
 fn from_timer(m: Core, row: u8) -> Act
     requires { (Asks load_timer m row) × (bank_of m ≡ 0) }
     ensures { Leaves m row (loaded m (Ok result)) }

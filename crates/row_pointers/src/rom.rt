@@ -7,7 +7,7 @@ use crate::Pointed;
 use record::{Core, Pointers};
 use row_ends::acc_loaded;
 
-#[tactic(auto, using(crate::proofs::FromRom::ldax))]
+#[tactic(auto, unfolding(sheet::specs::Table::line_at, sheet::specs::Table::lines, row::specs::Rows::work_of, row::specs::Steps::put_step, alu::specs::Making::made, alu::specs::Flags::flag_after))]
 pub fn load_low(m: Core, byte: u8) -> Pointed
     requires { m.pc < addresses }
     ensures { FromRom m 3 byte result }
@@ -20,7 +20,7 @@ pub fn load_low(m: Core, byte: u8) -> Pointed
 }
 
 // "DP + 1 wraps at 4096."
-#[tactic(auto, using(crate::proofs::FromRom::ldaxi))]
+#[tactic(auto, unfolding(sheet::specs::Table::line_at, sheet::specs::Table::lines, row::specs::Rows::work_of, row::specs::Steps::put_step, alu::specs::Making::made, alu::specs::Flags::flag_after))]
 pub fn load_high(m: Core, byte: u8) -> Pointed
     requires { (m.pc < addresses) × (m.ptrs.dp < 4096) }
     ensures { FromRom m 4 byte result }

@@ -35,6 +35,7 @@ fn high_put(n: u16, v: u8) -> u16
 }
 
 // The row that is none of those named is STADPL.
+#[tactic(auto, unfolding(sheet::specs::Table::line_at, sheet::specs::Table::lines, row::specs::Rows::work_of, row::specs::Steps::put_step, alu::specs::Making::made, alu::specs::Flags::flag_after))]
 fn into_pointer(m: Core, row: u8) -> Pointers
     requires { (Asks store_pointer m row) × (bank_of m ≡ 0) }
     ensures { Leaves m row (Ok (record { act = went_on m 2 2; ptrs = result; timers = m.timers })) }
@@ -59,6 +60,7 @@ fn into_pointer(m: Core, row: u8) -> Pointers
 }
 
 // The row that is none of those named is STATAL.
+#[tactic(auto, unfolding(sheet::specs::Table::line_at, sheet::specs::Table::lines, row::specs::Rows::work_of, row::specs::Steps::put_step, alu::specs::Making::made, alu::specs::Flags::flag_after))]
 fn into_timer(m: Core, row: u8) -> Timers
     requires { (Asks store_timer m row) × (bank_of m ≡ 0) }
     ensures { Leaves m row (Ok (record { act = went_on m 2 2; ptrs = m.ptrs; timers = result })) }

@@ -1,4 +1,2 @@
 pub mod Stops
-pub mod Writing
-pub mod Reading
 pub mod WithCell

@@ -17,7 +17,9 @@ use Rattle.row.specs.Rows.{Done, spent, stops}
 use Rattle.row.specs.Turns.{turned, done_as}
 use Rattle.row_registers.specs.Quiet.{after_act}
 use Rattle.row_ends.specs.declared.Act.{Act}
-use Rattle.row_ends.specs.Ends.{tested, acc_logical}
+use Rattle.std.specs.Prelude.{Some}
+use Rattle.row_ends.specs.Ends.{tested, logical}
+use Rattle.row_ends.specs.declared.Register.TheVariants.{Acc}
 use Rattle.row.specs.declared.Turn.{Turn}
 
 -- what came of the scalars m is what f says, whatever RAM is
@@ -67,4 +69,4 @@ port_tested options m n w one bytes = after_read m (port_read options m n) (test
 
 -- - Z Z'
 abbrev pub port_loaded : Options → Core → ℕ → List ℕ → Done
-port_loaded options m n = after_read m (port_read options m n) (acc_logical m (value_and_carry (port_read options m n).value false) 2 2)
+port_loaded options m n = after_read m (port_read options m n) (logical m (Some Acc) (value_and_carry (port_read options m n).value false) 2 2)

@@ -38,6 +38,7 @@ fn wrote(d: Device, m: Core, n: u8, v: u8, bytes: u8, ports: Ports) -> Core
 }
 
 // - - 1: v to port n, or the port's stop, by a row of so many bytes. Every row of ports takes two cycles.
+#[tactic(auto, using(crate::proofs::Stops::named), unfolding(crate::specs::Ends::written))]
 pub(crate) fn written(d: Device, m: Core, n: u8, v: u8, bytes: u8) -> Result<Turn, Stop>
     requires { (m.pc < addresses) × (n < 32) }
     ensures { Tells m (written d m n v bytes) result }

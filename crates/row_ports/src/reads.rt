@@ -11,7 +11,8 @@ use numbers::Stop;
 use ports::read_port;
 use record::Core;
 use row::Turn;
-use row_ends::{acc_logical, tested};
+use row_ends::Register::Acc;
+use row_ends::{logical, tested};
 use row_registers::weight;
 use sheet::rows;
 
@@ -24,6 +25,7 @@ fn answered(one: bool, v: u8, w: u8) -> bool
 }
 
 // - - *, by a row of so many bytes.
+#[tactic(auto, using(crate::proofs::Stops::named), unfolding(crate::specs::Ends::after_read))]
 fn port_tested(options: Options, m: Core, n: u8, w: u8, one: bool, bytes: u8) -> Result<Turn, Stop>
     requires { (Readable options.device m n) × (0 < w) }
     ensures { Tells m (port_tested options m n w one bytes) result }
@@ -34,6 +36,7 @@ fn port_tested(options: Options, m: Core, n: u8, w: u8, one: bool, bytes: u8) ->
 }
 
 // INA: - Z Z'
+#[tactic(auto, using(crate::proofs::Stops::named), unfolding(crate::specs::Ends::after_read))]
 fn port_loaded(options: Options, m: Core, n: u8) -> Result<Turn, Stop>
     requires { Readable options.device m n }
     ensures { Tells m (port_loaded options m n) result }
@@ -43,10 +46,11 @@ fn port_loaded(options: Options, m: Core, n: u8) -> Result<Turn, Stop>
         value: read.value,
         carry: false,
     };
-    Ok(left(m, acc_logical(m, moved, 2, 2), read.ports))
+    Ok(left(m, logical(m, Some(Acc), moved, 2, 2), read.ports))
 }
 
 // TFPL names port LR 3..2 + 4 and bit LR 1..0. The row that is none of those named is INA.
+#[tactic(auto, using(crate::proofs::Stops::alone), unfolding(sheet::specs::Table::line_at, sheet::specs::Table::lines, row::specs::Rows::work_of, row::specs::Steps::put_step, alu::specs::Making::made, alu::specs::Flags::flag_after, crate::specs::Ends::after_read))]
 pub fn read_row(options: Options, m: Core, row: u8, a: u8, b: u8) -> Result<Turn, Stop>
     requires { ReadFits options.device m row b }
     ensures { Reads options m row a b result }

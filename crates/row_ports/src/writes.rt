@@ -37,6 +37,7 @@ fn bit_cleared(d: Device, m: Core, n: u8, w: u8, bytes: u8) -> Result<Turn, Stop
 }
 
 // CLPL and SEPL name port LR 3..2 + 4 and bit LR 1..0. The row that is none of those named is OUTA.
+#[tactic(auto, unfolding(sheet::specs::Table::line_at, sheet::specs::Table::lines, row::specs::Rows::work_of, row::specs::Steps::put_step, alu::specs::Making::made, alu::specs::Flags::flag_after, crate::specs::Ends::written))]
 pub fn write_row(options: Options, m: Core, row: u8, a: u8, b: u8) -> Result<Turn, Stop>
     requires { WriteFits m row b }
     ensures { Writes options m row a b result }

@@ -1,4 +1,2 @@
 pub mod Absent
 pub mod Around
-pub mod Read
-pub mod Write

@@ -11,13 +11,13 @@ use bits::has_bit;
 use numbers::Stop;
 use record::ram::{at_hl, peek};
 use record::{Core, Ram};
-use row_ends::{
-    Act, acc_borrowed, acc_carried, acc_loaded, acc_logical, acc_summed, compared, tested,
-};
+use row_ends::Register::Acc;
+use row_ends::{Act, acc_borrowed, acc_carried, acc_loaded, compared, logical, summed, tested};
 use row_registers::weight;
 use sheet::{Insn, rows};
 
 // v is the nibble there. The row that is none of those named is LDAM.
+#[tactic(auto, unfolding(sheet::specs::Table::line_at, sheet::specs::Table::lines, row::specs::Rows::work_of, row::specs::Steps::put_step, alu::specs::Making::made, alu::specs::Flags::flag_after))]
 fn reading(m: Core, row: u8, a: u8, v: u8) -> Act
     requires { (Low m v) × (among read_by_hl row ≡ true) }
     ensures { Reads by_hl m row a v result }
@@ -27,11 +27,11 @@ fn reading(m: Core, row: u8, a: u8, v: u8) -> Act
     match row {
         rows::TFM => tested(m, !has_bit(v, weight(a)), 1, 1),
         rows::CMPAM => compared(m, minus(v, acc, cf), 1, 1),
-        rows::XORAM => acc_logical(m, xor(acc, v, cf), 1, 1),
-        rows::ORAM => acc_logical(m, or(acc, v, cf), 1, 1),
-        rows::ANDAM => acc_logical(m, and(acc, v, cf), 1, 1),
+        rows::XORAM => logical(m, Some(Acc), xor(acc, v, cf), 1, 1),
+        rows::ORAM => logical(m, Some(Acc), or(acc, v, cf), 1, 1),
+        rows::ANDAM => logical(m, Some(Acc), and(acc, v, cf), 1, 1),
         rows::SBCAM => acc_borrowed(m, minus_cf(v, acc, cf), 1, 1),
-        rows::ADDAM => acc_summed(m, plus(acc, v, cf), 1, 1),
+        rows::ADDAM => summed(m, Some(Acc), plus(acc, v, cf), 1, 1),
         rows::ADCAM => acc_carried(m, plus_cf(acc, v, cf), 1, 1),
         _ => acc_loaded(m, v, 1, 1),
     }

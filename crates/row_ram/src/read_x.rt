@@ -14,6 +14,7 @@ use row_ends::{Act, acc_loaded, compared};
 use sheet::{Insn, rows};
 
 // v is the nibble at x. The row that is none of those named is LDA.
+#[tactic(auto, unfolding(sheet::specs::Table::line_at, sheet::specs::Table::lines, row::specs::Rows::work_of, row::specs::Steps::put_step, alu::specs::Making::made, alu::specs::Flags::flag_after))]
 fn reading(m: Core, row: u8, x: u16, v: u8) -> Act
     requires { (Low m v) × (among read_by_x row ≡ true) }
     ensures { Reads by_x m row x v result }

@@ -16,6 +16,7 @@ use row_registers::weight;
 use sheet::{Insn, rows};
 
 // v is the nibble at y. The row that is none of those named is CMP.
+#[tactic(auto, unfolding(sheet::specs::Table::line_at, sheet::specs::Table::lines, row::specs::Rows::work_of, row::specs::Steps::put_step, alu::specs::Making::made, alu::specs::Flags::flag_after))]
 fn reading(m: Core, row: u8, a: u8, v: u8) -> Act
     requires { (Low m a) × ((v < 16) × (among read_by_y row ≡ true)) }
     ensures { Reads by_y m row a v result }

@@ -12,11 +12,13 @@ use bits::{with_bit, without_bit};
 use numbers::Stop;
 use record::ram::{at_hl, peek, poke};
 use record::{Core, Ram};
-use row_ends::{Act, acc_loaded, lessened, logical, lr_lessened, lr_summed, summed, went_on};
+use row_ends::Register::Lr;
+use row_ends::{Act, acc_loaded, lessened, logical, summed, went_on};
 use row_registers::weight;
 use sheet::{Insn, rows};
 
 // v is the nibble there. The row that is none of those named is STAM.
+#[tactic(auto, unfolding(sheet::specs::Table::line_at, sheet::specs::Table::lines, row::specs::Rows::work_of, row::specs::Steps::put_step, row::specs::Steps::exchange_step, alu::specs::Making::made, alu::specs::Flags::flag_after))]
 fn writing(m: Core, row: u8, a: u8, v: u8) -> Stored
     requires { (Low m a) × ((v < 16) × (among written_by_hl row ≡ true)) }
     ensures { Stores by_hl m row a v result }
@@ -41,55 +43,55 @@ fn writing(m: Core, row: u8, a: u8, v: u8) -> Stored
             let x = or(v, a, cf);
             Stored {
                 value: x.value,
-                act: logical(m, x, 2, 2),
+                act: logical(m, None, x, 2, 2),
             }
         },
         rows::ANDM => {
             let x = and(v, a, cf);
             Stored {
                 value: x.value,
-                act: logical(m, x, 2, 2),
+                act: logical(m, None, x, 2, 2),
             }
         },
         rows::SUBM => {
             let x = minus(a, v, cf);
             Stored {
                 value: x.value,
-                act: lessened(m, x, 2, 2),
+                act: lessened(m, None, x, 2, 2),
             }
         },
         rows::INCM => {
             let x = plus(v, 1, cf);
             Stored {
                 value: x.value,
-                act: summed(m, x, 1, 1),
+                act: summed(m, None, x, 1, 1),
             }
         },
         rows::DECM => {
             let x = minus(v, 1, cf);
             Stored {
                 value: x.value,
-                act: lessened(m, x, 1, 1),
+                act: lessened(m, None, x, 1, 1),
             }
         },
         rows::ADDM => {
             let x = plus(v, a, cf);
             Stored {
                 value: x.value,
-                act: summed(m, x, 2, 2),
+                act: summed(m, None, x, 2, 2),
             }
         },
         rows::STDMI => Stored {
             value: a,
-            act: lr_summed(m, plus(lr, 1, cf), 1, 1),
+            act: summed(m, Some(Lr), plus(lr, 1, cf), 1, 1),
         },
         rows::STAMI => Stored {
             value: acc,
-            act: lr_summed(m, plus(lr, 1, cf), 1, 1), // Z and C' of LR
+            act: summed(m, Some(Lr), plus(lr, 1, cf), 1, 1), // Z and C' of LR
         },
         rows::STAMD => Stored {
             value: acc,
-            act: lr_lessened(m, minus(lr, 1, cf), 1, 1),
+            act: lessened(m, Some(Lr), minus(lr, 1, cf), 1, 1),
         },
         _ => Stored {
             value: acc,

@@ -14,6 +14,7 @@ use row_ends::{Act, acc_loaded, went_on};
 use sheet::{Insn, rows};
 
 // v is the nibble there. The row that is none of those named is STA.
+#[tactic(auto, unfolding(sheet::specs::Table::line_at, sheet::specs::Table::lines, row::specs::Rows::work_of, row::specs::Steps::put_step, row::specs::Steps::exchange_step, alu::specs::Making::made, alu::specs::Flags::flag_after))]
 fn writing(m: Core, row: u8, x: u16, v: u8) -> Stored
     requires { (Low m v) × (among written_by_x row ≡ true) }
     ensures { Stores by_x m row x v result }

@@ -17,6 +17,7 @@ use row_registers::weight;
 use sheet::{Insn, rows};
 
 // v is the nibble there. The row that is none of those named is STD.
+#[tactic(auto, unfolding(sheet::specs::Table::line_at, sheet::specs::Table::lines, row::specs::Rows::work_of, row::specs::Steps::put_step, alu::specs::Making::made, alu::specs::Flags::flag_after))]
 fn writing(m: Core, row: u8, a: u8, v: u8) -> Stored
     requires { (Low m a) × ((v < 16) × (among written_by_y row ≡ true)) }
     ensures { Stores by_y m row a v result }
@@ -34,7 +35,7 @@ fn writing(m: Core, row: u8, a: u8, v: u8) -> Stored
             let x = plus(v, a, m.regs.cf);
             Stored {
                 value: x.value,
-                act: summed(m, x, 2, 2),
+                act: summed(m, None, x, 2, 2),
             }
         },
         _ => Stored {

@@ -9,6 +9,7 @@ use record::Core;
 use row_ends::Act;
 use sheet::rows;
 
+#[tactic(auto, unfolding(sheet::specs::Table::line_at, sheet::specs::Table::lines, row::specs::Rows::branch_of, alu::specs::Flags::flag_after))]
 fn taken(m: Core, row: u8, a: u16) -> Act
     requires { (m.pc < addresses) × (a < addresses) × (among branches row ≡ true) × (m.regs.sf ≡ true) }
     ensures { Quiet m row a result }
@@ -20,6 +21,7 @@ fn taken(m: Core, row: u8, a: u16) -> Act
     }
 }
 
+#[tactic(auto, unfolding(sheet::specs::Table::line_at, sheet::specs::Table::lines, row::specs::Rows::branch_of, alu::specs::Flags::flag_after))]
 fn passed(m: Core, row: u8, a: u16) -> Act
     requires { (m.pc < addresses) × (among branches row ≡ true) × (m.regs.sf ≡ false) }
     ensures { Quiet m row a result }

@@ -6,8 +6,10 @@ ghost use Rattle.row_registers.specs.Groups.{makes};
 
 use record::Core;
 use row_ends::Act;
+use row_ends::Register::{Acc, Hr, Lr};
 use sheet::rows;
 
+#[tactic(auto, unfolding(sheet::specs::Table::line_at, sheet::specs::Table::lines, row::specs::Rows::work_of, row::specs::Steps::put_step, alu::specs::Making::made, alu::specs::Flags::flag_after))]
 pub fn made(m: Core, row: u8, k: u8) -> Act
     requires { (Low m k) × (among makes row ≡ true) }
     ensures { Quiet m row k result }
@@ -16,15 +18,15 @@ pub fn made(m: Core, row: u8, k: u8) -> Act
     match row {
         rows::RLCA => row_ends::acc_carried(m, alu::rotate_left(r.acc, r.cf), 1, 1),
         rows::RRCA => row_ends::acc_carried(m, alu::rotate_right(r.acc, r.cf), 1, 1),
-        rows::ADDA => row_ends::acc_summed(m, alu::plus(r.acc, k, r.cf), 2, 2),
-        rows::ADDH => row_ends::hr_summed(m, alu::plus(r.hr, k, r.cf), 2, 2),
-        rows::ADDL => row_ends::lr_summed(m, alu::plus(r.lr, k, r.cf), 2, 2),
-        rows::DECA => row_ends::acc_lessened(m, alu::minus(r.acc, 1, r.cf), 1, 1),
-        rows::DECL => row_ends::lr_lessened(m, alu::minus(r.lr, 1, r.cf), 1, 1),
-        rows::INCA => row_ends::acc_summed(m, alu::plus(r.acc, 1, r.cf), 1, 1),
-        rows::INCL => row_ends::lr_summed(m, alu::plus(r.lr, 1, r.cf), 1, 1),
-        rows::SUBA => row_ends::acc_lessened(m, alu::minus(k, r.acc, r.cf), 2, 2),
-        rows::ANDA => row_ends::acc_logical(m, alu::and(r.acc, k, r.cf), 2, 2),
-        _ => row_ends::acc_logical(m, alu::or(r.acc, k, r.cf), 2, 2),
+        rows::ADDA => row_ends::summed(m, Some(Acc), alu::plus(r.acc, k, r.cf), 2, 2),
+        rows::ADDH => row_ends::summed(m, Some(Hr), alu::plus(r.hr, k, r.cf), 2, 2),
+        rows::ADDL => row_ends::summed(m, Some(Lr), alu::plus(r.lr, k, r.cf), 2, 2),
+        rows::DECA => row_ends::lessened(m, Some(Acc), alu::minus(r.acc, 1, r.cf), 1, 1),
+        rows::DECL => row_ends::lessened(m, Some(Lr), alu::minus(r.lr, 1, r.cf), 1, 1),
+        rows::INCA => row_ends::summed(m, Some(Acc), alu::plus(r.acc, 1, r.cf), 1, 1),
+        rows::INCL => row_ends::summed(m, Some(Lr), alu::plus(r.lr, 1, r.cf), 1, 1),
+        rows::SUBA => row_ends::lessened(m, Some(Acc), alu::minus(k, r.acc, r.cf), 2, 2),
+        rows::ANDA => row_ends::logical(m, Some(Acc), alu::and(r.acc, k, r.cf), 2, 2),
+        _ => row_ends::logical(m, Some(Acc), alu::or(r.acc, k, r.cf), 2, 2),
     }
 }

@@ -4,57 +4,43 @@
 
 mod help;
 
-ghost use Rattle.std.specs.Prelude.{◌*◌, ◌<◌, ◌≤◌, length};
-
-use crate::help::is_asked;
-use program::arguments::is_given;
-use program::part::read_behind;
-use program::streams::{Ending, STDERR_FILENO, ending_of, say, show_part};
+use crate::help::MANUAL;
+use program::arguments::no_word;
+use program::help::answer;
+use program::part::read_into;
+use program::streams::{Failure, show};
 use sound_generator::start;
 use sound_text::command::nothing_entered;
 use sound_text::{feed, last};
+use text::Text;
 
-fn usage() {
-    io::write_all(STDERR_FILENO, b"usage: sound < COMMANDS\n");
-}
+// What is read at once, and the longest answer to it: 76 characters for each character of it.
+const PART: usize = 512;
+
+const ANSWERS: usize = 38912;
 
 // A proved loop has to end, and nothing says that the input does: no run uses up the turns.
-fn session(rt: &HostRuntime, part: &mut [u8], out: &mut [u8]) -> Ending
-    requires { (0 < length part.old) × (76 ≤ length out.old) × (76 * length part.old ≤ length out.old) }
-{
+fn run(rt: &HostRuntime) -> Result<(), Failure> {
+    no_word(rt, 1)?;
+    let mut part = [0u8; PART];
+    let mut out: Text<ANSWERS> = Text::new();
     let mut state = start();
     let mut entry = nothing_entered();
-    let mut turns = u64::MAX;
-    while turns > 0 {
-        let got = read_behind(&mut rt.stdin(), part, 0);
-        if got.failed {
-            return Ending::CannotRead;
-        }
-        let n = got.count;
+    for _ in 0..u64::MAX {
+        let n = read_into(&mut rt.stdin(), &mut part)?;
         if n == 0 {
-            let end = last(state, entry, out);
-            return ending_of(false, show_part(out, end));
+            last(state, entry, &mut out);
+            return show(out.as_slice());
         }
-        let told = feed(state, entry, &part[..n], out);
-        if !show_part(out, told.at) {
-            return Ending::CannotWrite;
-        }
-        state = told.state;
-        entry = told.entry;
-        turns -= 1;
+        let fed = feed(state, entry, &part[..n], &mut out);
+        show(out.as_slice())?;
+        out.clear();
+        state = fed.state;
+        entry = fed.entry;
     }
-    Ending::Done
+    Ok(())
 }
 
 fn main(rt: HostRuntime) {
-    if is_asked(&rt) {
-        return;
-    }
-    if is_given(&rt, 1) {
-        usage();
-        return;
-    }
-    let mut part = [0u8; 512];
-    let mut out = io::large_buffer();
-    say(session(&rt, &mut part, &mut out));
+    answer(&rt, &MANUAL, run)
 }

@@ -1,6 +1,6 @@
 -- What each call hands on; that two answers of it to the same are equal; and that a buffer's bytes are those of its state, so that a refusal leaves them.
 use Prim.Native.Nat.{ℕ, zero, suc, ◌+◌, ◌*◌, ◌/◌, ◌%◌, ◌<◌}
-use mathlib.Core.Path.{◌≡◌, refl, sym, ap, ◌∙◌}
+use mathlib.Core.Path.{◌≡◌, refl, sym, ◌∙◌}
 use mathlib.Core.Bool.{Bool, true, false}
 use mathlib.Core.List.{List, [], ◌∷◌}
 use native.Mathlib.Omega.{arith}
@@ -10,17 +10,17 @@ use borrow.Author.Tests.{ltb-true}
 use Rattle.laws.specs.Choice.{both}
 use Rattle.laws.proofs.Computed.{true→T, T→true, both_left, both_right}
 use Rattle.bits.specs.Bits.{bit_of}
-use Rattle.sound_generator.specs.Answers.{output_of}
+use Rattle.std.specs.Prelude.{Result, Err}
+use Rattle.numbers.specs.declared.Refusal.{Refusal}
+use Rattle.sound_generator.specs.Answers.{Answer}
 use Rattle.sound_generator.specs.declared.Sound.{Sound}
-use Rattle.sound_generator.specs.declared.Answer.{Answer}
-use Rattle.sound_generator.specs.declared.Shown.{Shown}
 use Rattle.sound_calls.specs.Layout.{bytes_of, holds_state, state_at}
-use Rattle.sound_calls.specs.Calls.{Left, changed_by, Leaves, level_at, Shows}
+use Rattle.sound_calls.specs.Calls.{Left, changed_by, Leaves, Shows}
 
 pub one_leaves : {l : Left} {n m : ℕ} {a b : List ℕ} → Leaves l n a → Leaves l m b → (n ≡ m) × (a ≡ b)
 one_leaves f g = (f.answer ∙ sym g.answer, f.left ∙ sym g.left)
 
-pub one_shows : {l : Shown} {n m a b : ℕ} → Shows l n a → Shows l m b → (n ≡ m) × (a ≡ b)
+pub one_shows : {l : Result Bool Refusal} {n m a b : ℕ} → Shows l n a → Shows l m b → (n ≡ m) × (a ≡ b)
 one_shows f g = (f.answer ∙ sym g.answer, f.shown ∙ sym g.shown)
 
 -- what a buffer that holds a state has
@@ -40,22 +40,6 @@ module _ (bytes : List ℕ) where
         asleep = ltb-true (get_or bytes 1 0) 2 (T→true (ltb (get_or bytes 1 0) 2) (both_left (ltb (get_or bytes 1 0) 2) (ltb (get_or bytes 4 0) 2) both-flags));
         tone = ltb-true (get_or bytes 4 0) 2 (T→true (ltb (get_or bytes 4 0) 2) (both_right (ltb (get_or bytes 1 0) 2) (ltb (get_or bytes 4 0) 2) both-flags));
       }
-
-  pub changed : (f : Sound → Answer) {t : Bool} {s : Sound} {r : Answer} {after : List ℕ} → t ≡ holds_state bytes → t ≡ true → s ≡ state_at bytes → r ≡ f s → after ≡ bytes_of r.state → Leaves (changed_by f bytes) r.number after
-  changed f {t} {s} {r} e h w a b =
-      let same : r ≡ f (state_at bytes) = a ∙ ap f w in
-      rw (sym e ∙ h) (record { answer = ap (λ (x : Answer). x.number) same; left = b ∙ ap (λ (x : Answer). bytes_of x.state) same })
-
-  pub not-held : (f : Sound → Answer) {t : Bool} → t ≡ holds_state bytes → t ≡ false → Leaves (changed_by f bytes) 2 bytes
-  not-held f e h = rw (sym e ∙ h) (record { answer = refl; left = refl })
-
-pub no_level : (bytes : List ℕ) {t : Bool} → t ≡ holds_state bytes → t ≡ false → Shows (level_at bytes) 2 0
-no_level bytes e h = rw (sym e ∙ h) (record { answer = refl; shown = refl })
-
-pub a_level : (bytes : List ℕ) {t : Bool} {s : Sound} {r : Shown} {level : ℕ} → t ≡ holds_state bytes → t ≡ true → s ≡ state_at bytes → r ≡ output_of s → level ≡ bit_of r.high → Shows (level_at bytes) r.number level
-a_level bytes {t} {s} {r} e h w a b =
-    let same : r ≡ output_of (state_at bytes) = a ∙ ap output_of w in
-    rw (sym e ∙ h) (record { answer = ap (λ (x : Shown). x.number) same; shown = b ∙ ap (λ (x : Shown). bit_of x.high) same })
 
 flag_back : (b : ℕ) → b < 2 → bit_of (eqb b 1) ≡ b
 flag_back zero h = refl
@@ -83,10 +67,10 @@ back bytes e h =
     let high : (get_or bytes 5 0 + 256 * get_or bytes 6 0) / 256 ≡ get_or bytes 6 0 = omega arith in
     rw (flag_back (get_or bytes 1 0) k.asleep, flag_back (get_or bytes 4 0) k.tone, low, high) (eight bytes k.size)
 
-kept_by : (f : Sound → Answer) (bytes : List ℕ) (t : Bool) → holds_state bytes ≡ t → get_or bytes 5 0 < 256 → (f (state_at bytes)).state ≡ state_at bytes → (changed_by f bytes).bytes ≡ bytes
-kept_by f bytes true e h k = rw (e, k) (back bytes e h)
-kept_by f bytes false e h k = rw e
+kept_by : (f : Sound → Answer) (bytes : List ℕ) (refusal : Refusal) (t : Bool) → holds_state bytes ≡ t → f (state_at bytes) ≡ Err refusal → (changed_by f bytes).bytes ≡ bytes
+kept_by f bytes refusal true e h = rw (e, h)
+kept_by f bytes refusal false e h = rw e
 
--- a call whose answer is the state as it was, as every refusal is, leaves the bytes
-pub kept : (f : Sound → Answer) (bytes : List ℕ) → get_or bytes 5 0 < 256 → (f (state_at bytes)).state ≡ state_at bytes → (changed_by f bytes).bytes ≡ bytes
-kept f bytes h k = kept_by f bytes (holds_state bytes) refl h k
+-- a refusal leaves the bytes
+pub kept : (f : Sound → Answer) (bytes : List ℕ) (refusal : Refusal) → f (state_at bytes) ≡ Err refusal → (changed_by f bytes).bytes ≡ bytes
+kept f bytes refusal h = kept_by f bytes refusal (holds_state bytes) refl h

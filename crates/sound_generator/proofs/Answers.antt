@@ -3,10 +3,10 @@ use Prim.Native.Nat.{ℕ}
 use mathlib.Core.Path.{◌≡◌, refl, sym, ◌∙◌}
 use mathlib.Core.Bool.{true}
 use Rattle.sound_generator.specs.Sound.{start_state, level_of}
-use Rattle.sound_generator.specs.Answers.{p30_written, p24_written, p23_written, made_sleep, made_wake, output_of}
+use Rattle.sound_generator.specs.Answers.{Answer, p30_written, p24_written, p23_written, made_sleep, made_wake, output_of}
 use Rattle.sound_generator.specs.declared.Sound.{Sound}
-use Rattle.sound_generator.specs.declared.Answer.{Answer}
-use Rattle.sound_generator.specs.declared.Shown.{Shown}
+use Rattle.std.specs.Prelude.{Bool, Result}
+use Rattle.numbers.specs.declared.Refusal.{Refusal}
 
 pub one : {A : Type 0} {x r q : A} → r ≡ x → q ≡ x → r ≡ q
 one p q = p ∙ sym q
@@ -28,7 +28,7 @@ module _ (s : Sound) {r q : Answer} where
   pub one-wake : r ≡ made_wake s → q ≡ made_wake s → r ≡ q
   one-wake = one
 
-pub one_output : (s : Sound) {r q : Shown} → r ≡ output_of s → q ≡ output_of s → r ≡ q
+pub one_output : (s : Sound) {r q : Result Bool Refusal} → r ≡ output_of s → q ≡ output_of s → r ≡ q
 one_output s = one
 
 pub one_start : {r q : Sound} → r ≡ start_state → q ≡ start_state → r ≡ q

@@ -1,12 +1,11 @@
 -- The request of the sound pin: the state "advanced by a number of pulses of the basic frequency".
-use Rattle.std.specs.Prelude.{ℕ, zero, suc, ◌+◌, ◌≤◌, Bool, not, ◌≡◌, eqb, ltb}
+use Rattle.std.specs.Prelude.{ℕ, zero, suc, ◌+◌, ◌≤◌, Bool, not, ◌≡◌, eqb, ltb, Ok, Err}
 use Rattle.laws.specs.Choice.{pick, both}
-use Rattle.numbers.specs.ComesBack.{record_outside_the_ranges, pulses_over_the_limit, tf_of_zero_while_on}
+use Rattle.numbers.specs.declared.Refusal.TheVariants.{RecordOutsideTheRanges, PulsesOverTheLimit, TfOfZeroWhileOn}
 use Rattle.sound_generator.specs.Random.{with_next}
 use Rattle.sound_generator.specs.Sound.{disabled, in_ranges}
-use Rattle.sound_generator.specs.Answers.{answered, refused}
+use Rattle.sound_generator.specs.Answers.{Answer, number_of, state_after}
 use Rattle.sound_generator.specs.declared.Sound.{Sound}
-use Rattle.sound_generator.specs.declared.Answer.{Answer}
 
 -- "disabled or asleep nothing advances"
 abbrev pub runs : Sound → Bool
@@ -36,17 +35,18 @@ most_pulses = 65535
 abbrev pub zero_while_on : Sound → Bool
 zero_while_on s = both (eqb s.tf 0) (not (eqb s.mode disabled))
 
--- the refusals in their order, each with the state as it was; else the state n pulses later
+-- the refusals in their order; else the state n pulses later
 unfoldable pub advanced_by : ℕ → Sound → Answer
 advanced_by n s =
-    pick (not (in_ranges s)) (refused record_outside_the_ranges s)
-    (pick (ltb most_pulses n) (refused pulses_over_the_limit s)
-    (pick (zero_while_on s) (refused tf_of_zero_while_on s) (answered (pulses n s))))
+    pick (not (in_ranges s)) (Err RecordOutsideTheRanges)
+    (pick (ltb most_pulses n) (Err PulsesOverTheLimit)
+    (pick (zero_while_on s) (Err TfOfZeroWhileOn) (Ok (pulses n s))))
 
 -- "advancing by a and then b equals advancing by a + b when the sum is within the limit": of every state, refusals included; and the first of the two answers the number of the whole
 pub record Adds (a b : ℕ) (s : Sound) : Type 0 where
-  pub same : advanced_by b (advanced_by a s).state ≡ advanced_by (a + b) s
-  pub number : (advanced_by a s).number ≡ (advanced_by (a + b) s).number
+  pub same : advanced_by b (state_after s (advanced_by a s)) ≡ advanced_by (a + b) s
+  pub state : state_after (state_after s (advanced_by a s)) (advanced_by b (state_after s (advanced_by a s))) ≡ state_after s (advanced_by (a + b) s)
+  pub number : number_of (advanced_by a s) ≡ number_of (advanced_by (a + b) s)
 
 abbrev pub AdvancingAdds : Type 0
 AdvancingAdds = (a b : ℕ) (s : Sound) → a + b ≤ most_pulses → Adds a b s

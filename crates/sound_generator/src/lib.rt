@@ -1,5 +1,5 @@
 // The sound pin's state: its ranges, its start, the writes of P30, P24 and P23, sleep and waking, and the output.
-// Each public call answers 0 and what comes of it, or a refusal's number and the state as it was; two answers to the same are equal: proofs/Answers.antt.
+// Each public call answers what comes of it, or a refusal; two answers to the same are equal: proofs/Answers.antt.
 #![tactic(auto)]
 
 pub mod advance;
@@ -7,11 +7,10 @@ pub mod random;
 
 ghost use Rattle.std.specs.Prelude.{◌≡◌};
 ghost use Rattle.sound_generator.specs.Sound.{in_ranges, start_state, level_of};
-ghost use Rattle.sound_generator.specs.Answers.{takes as takesValue, answered, refused, p30_written, p24_written, p23_written, made_sleep, made_wake, output_of};
+ghost use Rattle.sound_generator.specs.Answers.{takes as takesValue, p30_written, p24_written, p23_written, made_sleep, made_wake, output_of};
 
 use crate::random::NINE_BITS;
-use laws::{both, either};
-use numbers::RECORD_OUTSIDE_THE_RANGES;
+use numbers::Refusal;
 
 // mode is P30 bits 1..0, p24 the value of P24 as it stands, bits the last nine random bits, bit 0 the latest.
 #[derive(Clone, Copy)]
@@ -23,18 +22,6 @@ pub struct Sound {
     pub tone: bool,
     pub bits: u16,
     pub p24: u8,
-}
-
-#[derive(Clone, Copy)]
-pub struct Answer {
-    pub number: u8,
-    pub state: Sound,
-}
-
-#[derive(Clone, Copy)]
-pub struct Shown {
-    pub number: u8,
-    pub high: bool,
 }
 
 const NIBBLES: u8 = 16;
@@ -61,122 +48,99 @@ pub fn start() -> Sound
     }
 }
 
+#[tactic(auto, unfolding(crate::specs::Sound::in_ranges))]
 pub fn in_ranges(s: Sound) -> bool
     ensures { result ≡ in_ranges s }
 {
-    let ports = both(s.mode < MODES, s.p24 < NIBBLES);
-    let bits = both(0 < s.bits, s.bits < NINE_BITS);
-    both(ports, both(s.count <= s.tf, bits))
-}
-
-pub fn taken(s: Sound) -> Answer
-    ensures { result ≡ answered s }
-{
-    Answer {
-        number: 0,
-        state: s,
-    }
-}
-
-pub fn refuse(number: u8, s: Sound) -> Answer
-    ensures { result ≡ refused number s }
-{
-    Answer {
-        number: number,
-        state: s,
-    }
+    let ports = s.mode < MODES && s.p24 < NIBBLES;
+    let bits = 0 < s.bits && s.bits < NINE_BITS;
+    ports && s.count <= s.tf && bits
 }
 
 fn takes(s: Sound, n: u8) -> bool
     ensures { result ≡ takesValue s n }
 {
-    both(in_ranges(s), n < NIBBLES)
+    in_ranges(s) && n < NIBBLES
 }
 
-pub fn write_p30(s: Sound, n: u8) -> Answer
+#[tactic(auto, unfolding(crate::specs::Answers::p30_written))]
+pub fn write_p30(s: Sound, n: u8) -> Result<Sound, Refusal>
     ensures { result ≡ p30_written s n }
 {
-    if takes(s, n) {
-        let mut t = s;
-        t.mode = n % MODES;
-        return taken(t);
+    if !takes(s, n) {
+        return Err(Refusal::RecordOutsideTheRanges);
     }
-    refuse(RECORD_OUTSIDE_THE_RANGES, s)
+    Ok(Sound {
+        mode: n % MODES,
+        ..s
+    })
 }
 
-pub fn write_p24(s: Sound, n: u8) -> Answer
+#[tactic(auto, unfolding(crate::specs::Answers::p24_written))]
+pub fn write_p24(s: Sound, n: u8) -> Result<Sound, Refusal>
     ensures { result ≡ p24_written s n }
 {
-    if takes(s, n) {
-        let mut t = s;
-        t.p24 = n;
-        return taken(t);
+    if !takes(s, n) {
+        return Err(Refusal::RecordOutsideTheRanges);
     }
-    refuse(RECORD_OUTSIDE_THE_RANGES, s)
+    Ok(Sound { p24: n, ..s })
 }
 
-pub fn write_p23(s: Sound, n: u8) -> Answer
+#[tactic(auto, unfolding(crate::specs::Answers::p23_written))]
+pub fn write_p23(s: Sound, n: u8) -> Result<Sound, Refusal>
     ensures { result ≡ p23_written s n }
 {
-    if takes(s, n) {
-        let mut t = s;
-        t.tf = NIBBLES * s.p24 + n;
-        t.count = 0;
-        return taken(t);
+    if !takes(s, n) {
+        return Err(Refusal::RecordOutsideTheRanges);
     }
-    refuse(RECORD_OUTSIDE_THE_RANGES, s)
+    let restarted = Sound { count: 0, ..s };
+    Ok(Sound {
+        tf: NIBBLES * s.p24 + n,
+        ..restarted
+    })
 }
 
-pub fn sleep(s: Sound) -> Answer
+#[tactic(auto, unfolding(crate::specs::Answers::made_sleep))]
+pub fn sleep(s: Sound) -> Result<Sound, Refusal>
     ensures { result ≡ made_sleep s }
 {
-    if in_ranges(s) {
-        let mut t = s;
-        t.asleep = true;
-        return taken(t);
+    if !in_ranges(s) {
+        return Err(Refusal::RecordOutsideTheRanges);
     }
-    refuse(RECORD_OUTSIDE_THE_RANGES, s)
+    Ok(Sound { asleep: true, ..s })
 }
 
-pub fn wake(s: Sound) -> Answer
+#[tactic(auto, unfolding(crate::specs::Answers::made_wake))]
+pub fn wake(s: Sound) -> Result<Sound, Refusal>
     ensures { result ≡ made_wake s }
 {
-    if in_ranges(s) {
-        let mut t = s;
-        t.asleep = false;
-        return taken(t);
+    if !in_ranges(s) {
+        return Err(Refusal::RecordOutsideTheRanges);
     }
-    refuse(RECORD_OUTSIDE_THE_RANGES, s)
+    Ok(Sound { asleep: false, ..s })
 }
 
+#[tactic(auto, unfolding(crate::specs::Sound::level_of))]
 fn level(s: Sound) -> bool
     ensures { result ≡ level_of s }
 {
-    if either(s.asleep, s.mode == DISABLED) {
-        return true;
-    }
-    if s.mode == TONE_OUTPUT {
-        return s.tone;
-    }
     let latest = s.bits % 2 == 1;
-    if s.mode == RANDOM_OUTPUT {
-        return latest;
+    match s.mode {
+        _ if s.asleep => true,
+        DISABLED => true,
+        TONE_OUTPUT => s.tone,
+        RANDOM_OUTPUT => latest,
+        _ => s.tone && latest,
     }
-    both(s.tone, latest)
 }
 
-// What the pin shows.
-pub fn output(s: Sound) -> Shown
+// What the pin shows: whether it is high.
+#[tactic(auto, unfolding(crate::specs::Answers::output_of))]
+pub fn output(s: Sound) -> Result<bool, Refusal>
     ensures { result ≡ output_of s }
 {
-    if in_ranges(s) {
-        return Shown {
-            number: 0,
-            high: level(s),
-        };
+    if !in_ranges(s) {
+        return Err(Refusal::RecordOutsideTheRanges);
     }
-    Shown {
-        number: RECORD_OUTSIDE_THE_RANGES,
-        high: false,
-    }
+    Ok(level(s))
 }

@@ -1,5 +1,5 @@
 -- The input, a character at a time: what is answered to it all does not depend on how it is cut.
-use Prim.Native.Nat.{ℕ, ◌≤◌}
+use Prim.Native.Nat.{ℕ}
 use mathlib.Core.Path.{◌≡◌, refl, sym, ap, ◌∙◌}
 use mathlib.Core.Bool.{Bool, true, false, not}
 use mathlib.Core.List.{List, [], ◌∷◌, ◌++◌, append_assoc, append-nil}
@@ -8,9 +8,7 @@ use lib.Dec.{T, ltb}
 use lib.ListN.{length}
 use borrow.Author.Tests.{lt-ltb, ne_eqb}
 use Rattle.laws.specs.Choice.{pick, either}
-use Rattle.laws.specs.Writing.{Wrote}
 use Rattle.laws.proofs.Computed.{true→T, both_left, both_right, both_i}
-use Rattle.laws.proofs.Writing.{wrote_then, wrote_none}
 use Rattle.text.specs.Script.{is_lf, on_first, lines_of}
 use Rattle.sound_generator.specs.Sound.{start_state}
 use Rattle.sound_generator.specs.declared.Sound.{Sound}
@@ -18,10 +16,11 @@ use Rattle.sound_text.specs.Commands.{command_of}
 use Rattle.sound_text.specs.Entry.{Entered, Fits, Feeds as Enters}
 use Rattle.sound_text.specs.declared.command.Entry.{Entry}
 use Rattle.sound_text.specs.declared.command.Command.{Command}
-use Rattle.sound_text.specs.Telling.{performed, text_of, told_over, sound_of}
+use Rattle.sound_text.specs.Telling.{performed, text_of, state_left, told_over, sound_of}
 use Rattle.sound_text.specs.Feeding.{unended, Begun, Feeds}
 use Rattle.sound_text.proofs.command.Entering.{begun}
-use Rattle.sound_text.specs.declared.Performed.{Performed}
+use Rattle.std.specs.Prelude.{Option}
+use Rattle.sound_generator.specs.Answers.{Answer}
 use Rattle.sound_text.specs.declared.Progress.{Progress}
 
 unended_more : (l : List ℕ) (c : ℕ) → T (unended l) → is_lf c ≡ false → T (unended (l ++ (c ∷ [])))
@@ -49,27 +48,27 @@ one_line c (d ∷ l) t = by (is_lf c) (both_left (not (is_lf c)) (unended (d ∷
     by true n f = absurd n
     by false n f = rw f
 
-told_line : (s : Sound) (l : List ℕ) (ls : List (List ℕ)) → told_over s (l ∷ ls) ≡ text_of (performed s (command_of l)) ++ told_over (performed s (command_of l)).answer.state ls
+told_line : (s : Sound) (l : List ℕ) (ls : List (List ℕ)) → told_over s (l ∷ ls) ≡ text_of (performed s (command_of l)) ++ told_over (state_left s (performed s (command_of l))) ls
 unfolding told_over
 told_line s l ls = refl
 
 -- a character of a line
-pub entered : {s : Sound} {e next : Entry} {c from : ℕ} {out : List ℕ} → from ≤ length out → (c ≡ 10 → ⊥) → Enters e c next → Feeds s e (c ∷ []) out out from (record { state = s; entry = next; at = from })
-entered {s} {e} {next} {c} {from} {out} room ne f =
+pub entered : {s : Sound} {e next : Entry} {c : ℕ} (out : List ℕ) → (c ≡ 10 → ⊥) → Enters e c next → Feeds s e (c ∷ []) out out (record { state = s; entry = next })
+entered {s} {e} {next} {c} out ne f =
     record {
       fits = f.fits;
       fed = λ b.
           record {
             text = [];
-            wrote = wrote_none room;
+            wrote = sym (append-nil out);
             begun = record { line = b.line ++ (c ∷ []); entered = f.entered b.line b.entered; no_end = unended_more b.line c b.no_end (ne_eqb c 10 ne) };
             told = λ rest. rw append_assoc;
           };
     }
 
 -- the LF that ends it
-pub answered : {s : Sound} {e next : Entry} {c from end : ℕ} {before after : List ℕ} {command : Command} {p : Performed} → c ≡ 10 → Fits next → Entered [] next → ((line : List ℕ) → Entered line e → command ≡ command_of line) → p ≡ performed s command → Wrote before after from end (text_of p) → Feeds s e (c ∷ []) before after from (record { state = p.answer.state; entry = next; at = end })
-answered {s} {c = c} {command = command} {p = p} lf fits none of same w =
+pub answered : {s left : Sound} {e next : Entry} {c : ℕ} {before after : List ℕ} {command : Option Command} {p : Option Answer} → c ≡ 10 → Fits next → Entered [] next → ((line : List ℕ) → Entered line e → command ≡ command_of line) → p ≡ performed s command → after ≡ before ++ text_of p → left ≡ state_left s p → Feeds s e (c ∷ []) before after (record { state = left; entry = next })
+answered {s} {c = c} {command = command} {p = p} lf fits none of same w k =
     record {
       fits = fits;
       fed = λ b.
@@ -77,25 +76,25 @@ answered {s} {c = c} {command = command} {p = p} lf fits none of same w =
             text = text_of p;
             wrote = w;
             begun = record { line = []; entered = none; no_end = tt };
-            told = λ rest. rw (lf, ended b.line rest b.no_end, told_line s b.line (lines_of rest), ← of b.line b.entered, ← same);
+            told = λ rest. rw (lf, ended b.line rest b.no_end, told_line s b.line (lines_of rest), ← of b.line b.entered, ← same, k);
           };
     }
 
-pub nothing_fed : {s : Sound} {e : Entry} {out : List ℕ} → Fits e → Feeds s e [] out out 0 (record { state = s; entry = e; at = 0 })
-nothing_fed fits = record {
+pub nothing_fed : {s : Sound} {e : Entry} (out : List ℕ) → Fits e → Feeds s e [] out out (record { state = s; entry = e })
+nothing_fed out fits = record {
   fits = fits;
-  fed = λ b. record { text = []; wrote = wrote_none (omega arith); begun = b; told = λ rest. refl };
+  fed = λ b. record { text = []; wrote = sym (append-nil out); begun = b; told = λ rest. refl };
 }
 
 -- one part and then another
-pub fed_then : {s : Sound} {e : Entry} {p q before mid after : List ℕ} {from : ℕ} {m r : Progress} → Feeds s e p before mid from m → Feeds m.state m.entry q mid after m.at r → Feeds s e (p ++ q) before after from r
-fed_then {s} {e} {p} {q} f g =
+pub fed_then : {s : Sound} {e : Entry} {p q before mid after : List ℕ} {m r : Progress} → Feeds s e p before mid m → Feeds m.state m.entry q mid after r → Feeds s e (p ++ q) before after r
+fed_then {s} {e} {p} {q} {before} f g =
     record {
       fits = g.fits;
       fed = λ b. let x = f.fed b in let y = g.fed x.begun in
           record {
             text = x.text ++ y.text;
-            wrote = wrote_then x.wrote y.wrote;
+            wrote = y.wrote ∙ rw x.wrote (append_assoc before x.text y.text);
             begun = y.begun;
             told = λ rest. rw (append_assoc p q rest, append_assoc x.text y.text) (x.told (q ++ rest) ∙ ap (λ (l : List ℕ). x.text ++ l) (y.told rest));
           };
@@ -112,16 +111,16 @@ unfolding told_over
 none_told s [] h = refl
 none_told s (c ∷ l) h = absurd (true→T (sym h ∙ lt-ltb 0 (length (c ∷ l)) (omega arith)))
 
-module _ (s : Sound) {e : Entry} {t : Bool} (test : t ≡ either e.spaced (ltb 0 e.kept)) {before : List ℕ} where
-  pub last-told : {command : Command} {p : Performed} {after : List ℕ} {r : ℕ} → t ≡ true → ((line : List ℕ) → Entered line e → command ≡ command_of line) → p ≡ performed s command → Wrote before after 0 r (text_of p) → (b : Begun e) → Wrote before after 0 r (told_over s (lines_of b.line))
+module _ (s : Sound) {e : Entry} {t : Bool} (test : t ≡ either e.spaced (ltb 0 e.kept)) (before : List ℕ) where
+  pub last-told : {command : Option Command} {p : Option Answer} {after : List ℕ} → t ≡ true → ((line : List ℕ) → Entered line e → command ≡ command_of line) → p ≡ performed s command → after ≡ before ++ text_of p → (b : Begun e) → after ≡ before ++ told_over s (lines_of b.line)
   last-told h of same w b =
       rw (unended_told s b.line b.no_end (sym (begun b.line b.entered) ∙ (sym test ∙ h)), ← of b.line b.entered, ← same) w
 
-  pub nothing-told : t ≡ false → (b : Begun e) → Wrote before before 0 0 (told_over s (lines_of b.line))
-  nothing-told h b = rw (none_told s b.line (sym (begun b.line b.entered) ∙ (sym test ∙ h))) (wrote_none (omega arith))
+  pub nothing-told : t ≡ false → (b : Begun e) → before ≡ before ++ told_over s (lines_of b.line)
+  nothing-told h b = rw (none_told s b.line (sym (begun b.line b.entered) ∙ (sym test ∙ h))) (sym (append-nil before))
 
 -- all of the input: what was written, and then the answer to a line that it ends within, is what the program has to write
-pub whole : {e : Entry} {input before after : List ℕ} {from : ℕ} {r : Progress} (none : Entered [] e) (f : Feeds start_state e input before after from r) → let x = f.fed (record { line = []; entered = none; no_end = tt }) in x.text ++ told_over r.state (lines_of x.begun.line) ≡ sound_of input
+pub whole : {e : Entry} {input before after : List ℕ} {r : Progress} (none : Entered [] e) (f : Feeds start_state e input before after r) → let x = f.fed (record { line = []; entered = none; no_end = tt }) in x.text ++ told_over r.state (lines_of x.begun.line) ≡ sound_of input
 whole {input = input} {r = r} none f =
     let x = f.fed (record { line = []; entered = none; no_end = tt }) in
     let t = x.told [] in

@@ -1,19 +1,18 @@
 -- What the program sound answers to its input. Sentences in quotation marks are of docs/PROGRAMS.md.
-use Rattle.std.specs.Prelude.{ℕ, true, false, List, [], ◌∷◌, ◌++◌, eqb}
-use Rattle.laws.specs.Choice.{pick}
+use Rattle.std.specs.Prelude.{ℕ, false, List, [], ◌∷◌, ◌++◌, Option, Some, None, Ok, Err}
+use Rattle.std.specs.Result.{result_unwrap_or}
+use Rattle.numbers.specs.Numbered.{refusal_number}
 use Rattle.bits.specs.Bits.{bit_of}
 use Rattle.text.specs.Digits.{characters, joined, decimal, hex}
 use Rattle.text.specs.Refusal.{refused_line}
 use Rattle.text.specs.Script.{lines_of}
 use Rattle.sound_generator.specs.Sound.{start_state}
-use Rattle.sound_generator.specs.Answers.{answered, p30_written, p24_written, p23_written, made_sleep, made_wake, output_of}
+use Rattle.sound_generator.specs.Answers.{Answer, state_after, p30_written, p24_written, p23_written, made_sleep, made_wake, output_of}
 use Rattle.sound_generator.specs.declared.Sound.{Sound}
-use Rattle.sound_generator.specs.declared.Answer.{Answer}
 use Rattle.sound_generator.specs.Advance.{advanced_by}
 use Rattle.sound_text.specs.Commands.{command_of}
 use Rattle.sound_text.specs.declared.command.Command.{Command}
-use Rattle.sound_text.specs.declared.command.Command.TheVariants.{P30, P24, P23, Sleep, Wake, Reset, Advance, Nothing}
-use Rattle.sound_text.specs.declared.Performed.{Performed}
+use Rattle.sound_text.specs.declared.command.Command.TheVariants.{P30, P24, P23, Sleep, Wake, Reset, Advance}
 
 -- a field of the line: its name with the blank after it, and a number
 abbrev pub field : List ℕ → ℕ → List ℕ
@@ -29,37 +28,37 @@ tone_fields s =
 abbrev pub output_fields : Sound → List ℕ
 output_fields s =
     joined
-    (field (characters " tone ") (bit_of s.tone) ∷ characters " bits " ∷ hex 3 s.bits ∷ field (characters " output ") (bit_of (output_of s).high) ∷ characters "\n" ∷ [])
+    (field (characters " tone ") (bit_of s.tone) ∷ characters " bits " ∷ hex 3 s.bits ∷ field (characters " output ") (bit_of (result_unwrap_or (output_of s) false)) ∷ characters "\n" ∷ [])
 
 unfoldable pub state_line : Sound → List ℕ
 state_line s = tone_fields s ++ output_fields s
 
-abbrev pub known : Answer → Performed
-known a = record { known = true; answer = a }
-
--- what a command does: "reset puts p24 back to 15"
-unfoldable pub performed : Sound → Command → Performed
-performed s (P30 n) = known (p30_written s n)
-performed s (P24 n) = known (p24_written s n)
-performed s (P23 n) = known (p23_written s n)
-performed s Sleep = known (made_sleep s)
-performed s Wake = known (made_wake s)
-performed s Reset = known (answered start_state)
-performed s (Advance n) = known (advanced_by n s)
-performed s Nothing = record { known = false; answer = answered s }
+-- what a command does: "reset puts p24 back to 15"; nothing comes of a line that is no command
+unfoldable pub performed : Sound → Option Command → Option Answer
+performed s (Some (P30 n)) = Some (p30_written s n)
+performed s (Some (P24 n)) = Some (p24_written s n)
+performed s (Some (P23 n)) = Some (p23_written s n)
+performed s (Some Sleep) = Some (made_sleep s)
+performed s (Some Wake) = Some (made_wake s)
+performed s (Some Reset) = Some (Ok start_state)
+performed s (Some (Advance n)) = Some (advanced_by n s)
+performed s None = None
 
 -- "Each is answered by one line, the state after it ..., or refused 48 and the state stays. .. not a command, and the state stays."
-unfoldable pub text_of : Performed → List ℕ
-text_of p =
-    pick p.known
-    (pick (eqb p.answer.number 0) (state_line p.answer.state) (refused_line p.answer.number))
-    (characters "not a command\n")
+unfoldable pub text_of : Option Answer → List ℕ
+text_of (Some (Ok after)) = state_line after
+text_of (Some (Err refusal)) = refused_line (refusal_number refusal)
+text_of None = characters "not a command\n"
+
+abbrev pub state_left : Sound → Option Answer → Sound
+state_left s (Some answer) = state_after s answer
+state_left s None = s
 
 -- a line, "a command a line", and then the others
 unfoldable pub told_over : Sound → List (List ℕ) → List ℕ
 told_over s [] = []
 told_over s (l ∷ ls) =
-    text_of (performed s (command_of l)) ++ told_over (performed s (command_of l)).answer.state ls
+    text_of (performed s (command_of l)) ++ told_over (state_left s (performed s (command_of l))) ls
 
 -- all that the program writes, for all of its input
 abbrev pub sound_of : List ℕ → List ℕ

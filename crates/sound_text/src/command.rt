@@ -1,12 +1,10 @@
 // A line of the program sound, read a character at a time, and the command that it is. No line is held, so that a line may have any length.
-ghost use Rattle.std.specs.Prelude.{◌≡◌, true, false, List, [], ℕ, ◌≤◌, min, ltb};
+ghost use Rattle.std.specs.Prelude.{◌≡◌, true, false, List, [], ℕ, ltb};
 ghost use Rattle.laws.specs.Choice.{either as either_of};
-ghost use Rattle.text.specs.Hexadecimal.{between};
-ghost use Rattle.sound_text.specs.Commands.{is_blank, bare as bare_of, port as port_of, numbered as numberedOf, most, command_of};
+ghost use Rattle.sound_text.specs.Commands.{is_blank, bare as bare_of, port as port_of, numbered as numberedOf, command_of};
 ghost use Rattle.sound_text.specs.Entry.{Entered, Fits, Feeds};
 
 use check::same;
-use laws::{both, either};
 
 #[derive(Clone, Copy)]
 pub enum Command {
@@ -17,7 +15,6 @@ pub enum Command {
     Wake,
     Reset,
     Advance(u32),
-    Nothing,
 }
 
 // The word's first characters, and how many; whether a blank came; and of what came after it: whether there is any, whether all are digits, and their value.
@@ -54,31 +51,7 @@ pub fn nothing_entered() -> Entry
 pub fn is_begun(e: Entry) -> bool
     ensures { result ≡ either_of e.spaced (ltb 0 e.kept) }
 {
-    either(e.spaced, 0 < e.kept)
-}
-
-fn is_digit(c: u8) -> bool
-    ensures { result ≡ between "0" "9" c }
-{
-    if c < b'0' {
-        return false;
-    }
-    c <= b'9'
-}
-
-fn wide(b: u8) -> u32
-    ensures { (result ≡ b) × (result ≤ 255) }
-{
-    b as u32
-}
-
-fn at_most(v: u32) -> u32
-    ensures { result ≡ min most v }
-{
-    if v < MOST {
-        return v;
-    }
-    MOST
+    e.spaced || 0 < e.kept
 }
 
 // A character after the first blank.
@@ -86,14 +59,17 @@ fn number_fed(e: Entry, c: u8) -> Entry
     requires { (Fits e) × (e.spaced ≡ true) }
     ensures { Feeds e c result }
 {
-    let mut t = e;
-    t.some = true;
-    if is_digit(c) {
-        t.value = at_most(e.value * 10 + wide(c - b'0'));
-        return t;
+    let more = Entry { some: true, ..e };
+    match c {
+        b'0'..=b'9' => Entry {
+            value: MOST.min(e.value * 10 + u32::from(c - b'0')),
+            ..more
+        },
+        _ => Entry {
+            digits: false,
+            ..more
+        },
     }
-    t.digits = false;
-    t
 }
 
 // A character of the word.
@@ -108,12 +84,9 @@ fn word_fed(e: Entry, c: u8) -> Entry
     let mut word = e.word;
     word[at] = c;
     Entry {
-        word: word,
+        word,
         kept: at + 1,
-        spaced: e.spaced,
-        some: e.some,
-        digits: e.digits,
-        value: e.value,
+        ..e
     }
 }
 
@@ -125,67 +98,62 @@ pub fn enter(e: Entry, c: u8) -> Entry
         return number_fed(e, c);
     }
     if c == b' ' {
-        let mut t = e;
-        t.spaced = true;
-        return t;
+        return Entry { spaced: true, ..e };
     }
     word_fed(e, c)
 }
 
-fn bare(word: &[u8]) -> Command
+fn bare(word: &[u8]) -> Option<Command>
     ensures { result ≡ bare_of word.now }
 {
     if same(word, b"sleep") {
-        return Command::Sleep;
+        Some(Command::Sleep)
+    } else if same(word, b"wake") {
+        Some(Command::Wake)
+    } else if same(word, b"reset") {
+        Some(Command::Reset)
+    } else {
+        None
     }
-    if same(word, b"wake") {
-        return Command::Wake;
-    }
-    if same(word, b"reset") {
-        return Command::Reset;
-    }
-    Command::Nothing
 }
 
-fn port(word: &[u8], n: u8) -> Command
+fn port(word: &[u8], n: u8) -> Option<Command>
     ensures { result ≡ port_of word.now n }
 {
     if same(word, b"p30") {
-        return Command::P30(n);
+        Some(Command::P30(n))
+    } else if same(word, b"p24") {
+        Some(Command::P24(n))
+    } else if same(word, b"p23") {
+        Some(Command::P23(n))
+    } else {
+        None
     }
-    if same(word, b"p24") {
-        return Command::P24(n);
-    }
-    if same(word, b"p23") {
-        return Command::P23(n);
-    }
-    Command::Nothing
 }
 
-fn numbered(word: &[u8], n: u32) -> Command
+fn numbered(word: &[u8], n: u32) -> Option<Command>
     ensures { result ≡ numberedOf word.now n }
 {
     if same(word, b"advance") {
-        return Command::Advance(n);
+        Some(Command::Advance(n))
+    } else if n <= MOST_OF_A_PORT {
+        port(word, n as u8)
+    } else {
+        None
     }
-    if n <= MOST_OF_A_PORT {
-        return port(word, n as u8);
-    }
-    Command::Nothing
 }
 
 // What the line that was entered commands.
-pub fn command_of(e: Entry) -> Command
+pub fn command_of(e: Entry) -> Option<Command>
     requires { Fits e }
     ensures { (line : List ℕ) → Entered line e → result ≡ command_of line }
 {
-    let word = e.word;
-    let n = e.kept;
+    let word = &e.word[..e.kept];
     if !e.spaced {
-        return bare(&word[..n]);
+        return bare(word);
     }
-    if both(e.some, e.digits) {
-        return numbered(&word[..n], e.value);
+    if e.some && e.digits {
+        return numbered(word, e.value);
     }
-    Command::Nothing
+    None
 }

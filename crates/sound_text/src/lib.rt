@@ -3,179 +3,149 @@
 
 pub mod command;
 
-ghost use Rattle.std.specs.Prelude.{◌≡◌, true, [], ◌∷◌, ◌++◌, ◌+◌, ◌*◌, ◌<◌, ◌≤◌, length};
-ghost use Rattle.laws.specs.Writing.{Wrote};
+ghost use Rattle.std.specs.Prelude.{◌≡◌, [], ◌∷◌, ◌++◌, ◌+◌, ◌*◌, ◌≤◌, length};
 ghost use Rattle.text.specs.Digits.{decimal as decimalOf};
 ghost use Rattle.text.specs.Script.{lines_of};
 ghost use Rattle.sound_text.specs.Entry.{Fits};
-ghost use Rattle.sound_text.specs.Telling.{tone_fields, output_fields, state_line, performed, text_of, told_over};
+ghost use Rattle.sound_text.specs.Telling.{tone_fields, output_fields, state_line, performed, text_of, state_left, told_over};
 ghost use Rattle.sound_text.specs.Feeding.{Begun, Feeds};
 
 use crate::command::{Command, Entry, command_of, enter, is_begun, nothing_entered};
-use bits::bit_of;
+use numbers::Refusal;
 use sound_generator::advance::advance;
-use sound_generator::{
-    Answer, Sound, output, sleep, start, taken, wake, write_p23, write_p24, write_p30,
-};
-use text::digits::{decimal, number, put, put_text};
-use text::refusal::refused_line;
+use sound_generator::{Sound, output, sleep, start, wake, write_p23, write_p24, write_p30};
+use text::Text;
 
-// Whether a line was a command, and what came of it.
-#[derive(Clone, Copy)]
-pub struct Performed {
-    pub known: bool,
-    pub answer: Answer,
-}
-
-// The state and the line that was begun, after some characters, and the place after what was written.
+// The state and the line that was begun, after some characters.
 #[derive(Clone, Copy)]
 pub struct Progress {
     pub state: Sound,
     pub entry: Entry,
-    pub at: usize,
 }
 
-fn known(answer: Answer) -> Performed
-    ensures { result ≡ record { known = true; answer = answer } }
-{
-    Performed {
-        known: true,
-        answer: answer,
-    }
-}
-
-pub fn perform(s: Sound, command: Command) -> Performed
+// What came of a line; nothing of one that was no command.
+#[tactic(auto, unfolding(crate::specs::Telling::performed))]
+pub fn perform(s: Sound, command: Option<Command>) -> Option<Result<Sound, Refusal>>
     ensures { result ≡ performed s command }
 {
-    match command {
-        Command::P30(n) => known(write_p30(s, n)),
-        Command::P24(n) => known(write_p24(s, n)),
-        Command::P23(n) => known(write_p23(s, n)),
-        Command::Sleep => known(sleep(s)),
-        Command::Wake => known(wake(s)),
-        Command::Reset => known(taken(start())),
-        Command::Advance(n) => known(advance(s, n)),
-        Command::Nothing => Performed {
-            known: false,
-            answer: taken(s),
-        },
+    match command? {
+        Command::P30(n) => Some(write_p30(s, n)),
+        Command::P24(n) => Some(write_p24(s, n)),
+        Command::P23(n) => Some(write_p23(s, n)),
+        Command::Sleep => Some(sleep(s)),
+        Command::Wake => Some(wake(s)),
+        Command::Reset => Some(Ok(start())),
+        Command::Advance(n) => Some(advance(s, n)),
     }
 }
 
-// A name and a number below 1000.
-fn field(out: &mut [u8], from: usize, name: &[u8], v: u32) -> usize
-    requires { (v < 1000) × (length name.now ≤ 8) × (from + 11 ≤ length out.old) }
-    ensures wrote { Wrote out.old out.new from result (name.now ++ decimalOf v) }
-    ensures upper_bound { result ≤ from + 11 }
+// A refusal, and a line that is no command, leave the state.
+fn state_left(s: Sound, p: Option<Result<Sound, Refusal>>) -> Sound
+    ensures { result ≡ state_left s p }
 {
-    let end = put_text(out, from, name);
-    decimal(out, end, v)
+    match p {
+        Some(Ok(after)) => after,
+        Some(Err(_)) | None => s,
+    }
 }
 
-fn tone_fields(out: &mut [u8], from: usize, s: Sound) -> usize
-    requires { from + 44 ≤ length out.old }
-    ensures wrote { Wrote out.old out.new from result (tone_fields s) }
-    ensures upper_bound { result ≤ from + 44 }
+// A name and a number.
+fn field<const N: usize>(out: &mut Text<N>, name: &[u8], v: u8)
+    requires { (length name.now ≤ 8) × (length out.old + 11 ≤ N) }
+    ensures text { out.new ≡ out.old ++ (name.now ++ decimalOf v) }
+    ensures size { length out.new ≤ length out.old + 11 }
 {
-    let end = field(out, from, b"mode ", s.mode as u32);
-    let end = field(out, end, b" asleep ", bit_of(s.asleep) as u32);
-    let end = field(out, end, b" tf ", s.tf as u32);
-    field(out, end, b" count ", s.count as u32)
+    out.put_text(name);
+    out.decimal(u64::from(v));
 }
 
-fn output_fields(out: &mut [u8], from: usize, s: Sound) -> usize
-    requires { from + 32 ≤ length out.old }
-    ensures wrote { Wrote out.old out.new from result (output_fields s) }
-    ensures upper_bound { result ≤ from + 32 }
+fn tone_fields<const N: usize>(out: &mut Text<N>, s: Sound)
+    requires { length out.old + 44 ≤ N }
+    ensures text { out.new ≡ out.old ++ tone_fields s }
+    ensures size { length out.new ≤ length out.old + 44 }
 {
-    let shown = output(s);
-    let end = field(out, from, b" tone ", bit_of(s.tone) as u32);
-    let end = put_text(out, end, b" bits ");
-    let end = number(out, end, 16, 3, s.bits as u32);
-    let end = field(out, end, b" output ", bit_of(shown.high) as u32);
-    put(out, end, b'\n')
+    field(out, b"mode ", s.mode);
+    field(out, b" asleep ", u8::from(s.asleep));
+    field(out, b" tf ", s.tf);
+    field(out, b" count ", s.count);
+}
+
+fn output_fields<const N: usize>(out: &mut Text<N>, s: Sound)
+    requires { length out.old + 32 ≤ N }
+    ensures text { out.new ≡ out.old ++ output_fields s }
+    ensures size { length out.new ≤ length out.old + 32 }
+{
+    let high = output(s).unwrap_or(false);
+    field(out, b" tone ", u8::from(s.tone));
+    out.put_text(b" bits ");
+    out.number(16, 3, u32::from(s.bits));
+    field(out, b" output ", u8::from(high));
+    out.put(b'\n');
 }
 
 // At most 76 characters.
-fn state_line(out: &mut [u8], from: usize, s: Sound) -> usize
-    requires { from + 76 ≤ length out.old }
-    ensures wrote { Wrote out.old out.new from result (state_line s) }
-    ensures upper_bound { result ≤ from + 76 }
+#[tactic(auto, unfolding(crate::specs::Telling::state_line))]
+fn state_line<const N: usize>(out: &mut Text<N>, s: Sound)
+    requires { length out.old + 76 ≤ N }
+    ensures text { out.new ≡ out.old ++ state_line s }
+    ensures size { length out.new ≤ length out.old + 76 }
 {
-    let end = tone_fields(out, from, s);
-    output_fields(out, end, s)
+    tone_fields(out, s);
+    output_fields(out, s);
 }
 
 // The answer to a line, at most 76 characters.
-pub fn tell(out: &mut [u8], from: usize, p: Performed) -> usize
-    requires { from + 76 ≤ length out.old }
-    ensures wrote { Wrote out.old out.new from result (text_of p) }
-    ensures upper_bound { result ≤ from + 76 }
+#[tactic(auto, unfolding(crate::specs::Telling::text_of))]
+pub fn tell<const N: usize>(out: &mut Text<N>, p: Option<Result<Sound, Refusal>>)
+    requires { length out.old + 76 ≤ N }
+    ensures text { out.new ≡ out.old ++ text_of p }
+    ensures size { length out.new ≤ length out.old + 76 }
 {
-    if p.known {
-        let answer = p.answer;
-        if answer.number == 0 {
-            return state_line(out, from, answer.state);
-        }
-        return refused_line(out, from, answer.number);
+    match p {
+        Some(Ok(state)) => state_line(out, state),
+        Some(Err(refusal)) => out.refused_line(refusal),
+        None => out.put_text(b"not a command\n"),
     }
-    put_text(out, from, b"not a command\n")
 }
 
 // One character of the input: of a line, or the LF that ends it.
-fn fed(s: Sound, e: Entry, c: u8, out: &mut [u8], from: usize) -> Progress
-    requires { (Fits e) × (from + 76 ≤ length out.old) }
-    ensures feeds { Feeds s e (c ∷ []) out.old out.new from result }
-    ensures at_bound { result.at ≤ from + 76 }
+fn fed<const N: usize>(s: Sound, e: Entry, c: u8, out: &mut Text<N>) -> Progress
+    requires { (Fits e) × (length out.old + 76 ≤ N) }
+    ensures feeds { Feeds s e (c ∷ []) out.old out.new result }
+    ensures size { length out.new ≤ length out.old + 76 }
 {
     if c != b'\n' {
         return Progress {
             state: s,
             entry: enter(e, c),
-            at: from,
         };
     }
     let p = perform(s, command_of(e));
-    let end = tell(out, from, p);
-    let answer = p.answer;
-    let state = answer.state;
+    tell(out, p);
     Progress {
-        state: state,
+        state: state_left(s, p),
         entry: nothing_entered(),
-        at: end,
     }
 }
 
 // The lines that end in a part of the input, answered, and the beginning of the next.
-pub fn feed(s: Sound, e: Entry, part: &[u8], out: &mut [u8]) -> Progress
-    requires { (Fits e) × (76 * length part.now ≤ length out.old) }
-    ensures feeds { Feeds s e part.now out.old out.new 0 result }
-    ensures at_in_bounds { result.at ≤ length out.old }
+pub fn feed<const N: usize>(s: Sound, e: Entry, part: &[u8], out: &mut Text<N>) -> Progress
+    requires { (Fits e) × (length out.old + 76 * length part.now ≤ N) }
+    ensures { Feeds s e part.now out.old out.new result }
 {
-    let mut p = Progress {
-        state: s,
-        entry: e,
-        at: 0,
-    };
-    let mut i = 0;
-    while i < part.len() {
-        let state = p.state;
-        let entry = p.entry;
-        p = fed(state, entry, part[i], out, p.at);
-        i += 1;
+    let mut p = Progress { state: s, entry: e };
+    for c in part {
+        p = fed(p.state, p.entry, *c, out);
     }
     p
 }
 
 // Where the input ends within a line: that line's answer.
-pub fn last(s: Sound, e: Entry, out: &mut [u8]) -> usize
-    requires { (Fits e) × (76 ≤ length out.old) }
-    ensures wrote { (b : Begun e) → Wrote out.old out.new 0 result (told_over s (lines_of b.line)) }
-    ensures upper_bound { result ≤ length out.old }
+pub fn last<const N: usize>(s: Sound, e: Entry, out: &mut Text<N>)
+    requires { (Fits e) × (length out.old + 76 ≤ N) }
+    ensures { (b : Begun e) → out.new ≡ out.old ++ told_over s (lines_of b.line) }
 {
     if is_begun(e) {
-        let p = perform(s, command_of(e));
-        return tell(out, 0, p);
+        tell(out, perform(s, command_of(e)));
     }
-    0
 }

@@ -1,6 +1,6 @@
 // A step as two calls, looking and doing apart: for any input the record, the stop and the cycles that request Q-4 says, or a refusal that changes nothing.
-ghost use Rattle.std.specs.Prelude.{◌≡◌, length};
-ghost use Rattle.device.specs.Device.{image_size, rom_of};
+ghost use Rattle.std.specs.Prelude.{◌≡◌};
+ghost use Rattle.device.specs.Device.{rom_of};
 ghost use Rattle.record.specs.Valid.{ValidCore, Nibbles};
 ghost use Rattle.step.specs.Step.{act_step};
 ghost use Rattle.step.specs.Advance.{Advances};
@@ -13,15 +13,16 @@ use frame::frame_of;
 use numbers::Refusal;
 use record::valid::is_valid;
 use record::{Core, Machine, Ram};
+use step_act::board::Board;
 use step_look::{Looked, is_running};
 
 // The second call on the RAM that is lent: after a look that was the whole step it "does nothing, spends 0 and clears the mark".
-fn act_on(image: &[u8], options: Options, m: Core, ram: &mut Ram) -> Advanced
-    requires { (ValidCore options.device m) × (Nibbles ram.old) × (length image.now ≡ image_size options.device) }
-    ensures { Advances (act_step (rom_of image.now) options (record { core = m; ram = ram.old })) ram.new result }
+fn act_on(board: Board, m: Core, ram: &mut Ram) -> Advanced
+    requires { (ValidCore board.options.device m) × (Nibbles ram.old) }
+    ensures { Advances (act_step (rom_of board.entry.image.now) board.entry.options (record { core = m; ram = ram.old })) ram.new result }
 {
     if is_running(m.mode) && !m.mark {
-        acted(m, step_act::act(image, options, m, ram))
+        acted(m, step_act::act(board, m, ram))
     } else {
         Advanced {
             stop: None,
@@ -54,7 +55,7 @@ pub fn act(image: &[u8], options: Options, m: Machine) -> Result<Stepped, Refusa
 {
     judged(image, options.device, m)?;
     let mut ram = m.ram;
-    let Advanced { stop, cycles, core } = act_on(image, options, m.core, &mut ram);
+    let Advanced { stop, cycles, core } = act_on(Board { options, image }, m.core, &mut ram);
     Ok(Stepped {
         stop,
         cycles,

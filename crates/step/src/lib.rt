@@ -18,6 +18,7 @@ use record::valid::is_valid;
 use record::{Core, Machine, Ram};
 use row::Turn;
 use step_act::act;
+use step_act::board::Board;
 use step_look::{Looked, is_running, seen, waited};
 
 // What a step gives: why it stops, where it does, the cycles and the record.
@@ -61,7 +62,7 @@ pub fn advance(image: &[u8], options: Options, m: Core, ram: &mut Ram, pins: Pin
 {
     if is_running(m.mode) {
         let core = seen(options.device, m, pins);
-        acted(core, act(image, options, core, ram))
+        acted(core, act(Board { options, image }, core, ram))
     } else {
         let Looked { core, cycles } = waited(options.wake, m, pins);
         Advanced {

@@ -1,18 +1,20 @@
 // What a running record does once it has seen the frame: it accepts an interrupt or executes one row, then time passes.
 #![tactic(auto)]
 
-ghost use Rattle.std.specs.Prelude.{◌≡◌, ◌<◌, length};
+pub mod board;
+
+ghost use Rattle.std.specs.Prelude.{◌≡◌, ◌<◌};
 ghost use Rattle.numbers.specs.Sizes.{addresses};
 ghost use Rattle.bits.specs.Bits.{OneOfSix};
-ghost use Rattle.device.specs.Device.{image_size, rom_of};
+ghost use Rattle.device.specs.Device.{rom_of};
 ghost use Rattle.record.specs.Valid.{ValidInterrupts, ValidTimers, ValidCore, Nibbles};
 ghost use Rattle.step_act.specs.Act.{source_of, accept_of, run_one, accept_or_run, core_after, timed, act_of};
 ghost use Rattle.step_act.specs.Runs.{Runs};
 ghost use Rattle.row.specs.Turns.{Gives};
 
+use crate::board::Board;
 use bits::has_bit;
 use clock::Rates;
-use device::Options;
 use device::image::Window;
 use due::latch_of;
 use numbers::Stop;
@@ -37,16 +39,19 @@ fn accept(m: Core, ram: &mut Ram, source: u8) -> Result<Turn, Stop>
 }
 
 // The row at PC, or the stop of what is no row.
-fn run_one(image: &[u8], options: Options, m: Core, ram: &mut Ram) -> Result<Turn, Stop>
-    requires { (ValidCore options.device m) × (Nibbles ram.old) × (length image.now ≡ image_size options.device) }
-    ensures { Gives (run_one (rom_of image.now) options (record { core = m; ram = ram.old })) m ram.new result }
+fn run_one(board: Board, m: Core, ram: &mut Ram) -> Result<Turn, Stop>
+    requires { (ValidCore board.options.device m) × (Nibbles ram.old) }
+    ensures { Gives (run_one (rom_of board.entry.image.now) board.entry.options (record { core = m; ram = ram.old })) m ram.new result }
 {
     let window = Window {
-        bytes: image,
+        bytes: board.image,
         p3: m.ports.p3,
     };
-    let insn = read_at(window, m.pc)?;
-    perform(window, options, m, ram, insn)
+    let read = read_at(window, m.pc);
+    let Ok(insn) = read else {
+        return Err(Stop::from(read.unwrap_err()));
+    };
+    perform(window, board.options, m, ram, insn)
 }
 
 // The latch of the source that is due, where EI is set.
@@ -61,13 +66,13 @@ fn source(m: Core) -> Option<u8>
     }
 }
 
-fn turn(image: &[u8], options: Options, m: Core, ram: &mut Ram) -> Result<Turn, Stop>
-    requires { (ValidCore options.device m) × (Nibbles ram.old) × (length image.now ≡ image_size options.device) }
-    ensures { Gives (accept_or_run (rom_of image.now) options (record { core = m; ram = ram.old })) m ram.new result }
+fn turn(board: Board, m: Core, ram: &mut Ram) -> Result<Turn, Stop>
+    requires { (ValidCore board.options.device m) × (Nibbles ram.old) }
+    ensures { Gives (accept_or_run (rom_of board.entry.image.now) board.entry.options (record { core = m; ram = ram.old })) m ram.new result }
 {
     match source(m) {
         Some(source) => accept(m, ram, source),
-        None => run_one(image, options, m, ram),
+        None => run_one(board, m, ram),
     }
 }
 
@@ -99,11 +104,11 @@ fn after(m: Core, n: u16) -> Core
 }
 
 // A running record acts. "A stop now leaves the record as the first call left it" (Q-4).
-pub fn act(image: &[u8], options: Options, m: Core, ram: &mut Ram) -> Result<Turn, Stop>
-    requires { (Runs options.device m) × (Nibbles ram.old) × (length image.now ≡ image_size options.device) }
-    ensures { Gives (act_of (rom_of image.now) options (record { core = m; ram = ram.old })) m ram.new result }
+pub fn act(board: Board, m: Core, ram: &mut Ram) -> Result<Turn, Stop>
+    requires { (Runs board.options.device m) × (Nibbles ram.old) }
+    ensures { Gives (act_of (rom_of board.entry.image.now) board.entry.options (record { core = m; ram = ram.old })) m ram.new result }
 {
-    let Turn { cycles, core } = turn(image, options, m, ram)?;
+    let Turn { cycles, core } = turn(board, m, ram)?;
     Ok(Turn {
         cycles,
         core: after(core, cycles),

@@ -1,6 +1,5 @@
 #![tactic(auto)]
 
-pub mod digits;
 pub mod hexadecimal;
 pub mod refusal;
 pub mod script;

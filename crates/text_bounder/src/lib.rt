@@ -1,15 +1,17 @@
 // What the bounder says, as characters at the end of a text.
 #![tactic(auto)]
 
-ghost use Rattle.std.specs.Prelude.{◌≡◌, ◌++◌, ◌+◌, ◌*◌, ◌%◌, ◌<◌, ◌≤◌, length, Err};
+ghost use Rattle.std.specs.Prelude.{◌≡◌, ◌++◌, ◌+◌, ◌*◌, ◌%◌, ◌<◌, ◌≤◌, length, Err, IfOk};
 ghost use Rattle.numbers.specs.Sizes.{addresses};
 ghost use Rattle.numbers.specs.ComesBack.{value_at};
 ghost use Rattle.device.specs.Device.{rom_of};
 ghost use Rattle.routines.specs.Calling as calling;
+ghost use Rattle.reader.specs.Answer.{p3_given};
+ghost use Rattle.bound_calls.specs.CallAnswer.{CallAnswer};
 ghost use Rattle.bound.specs.Answer.{paper_of};
 ghost use Rattle.text_bounder.specs.Report.{cycles_text, depth_text, summary_of, answer_text, entry_line_of, path_line_of, cycles_at};
 
-use bound::Refused;
+use bound::{Refused, bound};
 use device::Device;
 use device::image::Window;
 use notation::sources::source_name;
@@ -17,6 +19,22 @@ use numbers::ADDRESSES;
 use routines_bound::{Greatest, Unbounded};
 use text::Text;
 use text_lister::line::{columns, decoded_at};
+
+// The bound that is told, and how large its numbers can be.
+pub fn bound_at(
+    d: Device,
+    image: &[u8],
+    p3: u8,
+    at: u32,
+    path: &mut [u8],
+    deep: &mut [u8],
+) -> Result<Greatest, Refused>
+    ensures answer { CallAnswer d image.now (p3_given d p3) at path.old path.new deep.old deep.new (paper_of result) }
+    ensures value { (value_at (paper_of result) 0 < 131072) × (value_at (paper_of result) 1 < 65536) }
+    ensures bounds { IfOk result (λ greatest. (greatest.cycles < 65536) × (greatest.depth < 65536)) }
+{
+    bound(d, image, p3.into(), at, path, deep)
+}
 
 // A refusal, and an address in four digits or the bytes of a path in decimal: at most 17 characters.
 #[tactic(auto, using(text::proofs::digits::Numbers::places_of_six))]
@@ -88,6 +106,9 @@ fn answer_text<const N: usize>(out: &mut Text<N>, answer: Result<Greatest, Refus
         most_depth(out, greatest.depth as u64);
     }
 }
+
+// The five interrupt entries: the address of each, and the latch of its source.
+pub const ENTRIES: [(u32, u8); 5] = [(0x002, 5), (0x006, 3), (0x008, 2), (0x00A, 1), (0x00C, 0)];
 
 // A line of the entries: the address, the source of its latch, and the answer.
 pub fn entry_line<const N: usize>(

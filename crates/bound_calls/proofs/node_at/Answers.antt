@@ -13,8 +13,8 @@ way_of-requires c = read-in-fields (rom_of c.args.image.now c.args.p3) (c.args.v
 pub node_by-requires : goal.node_by-requires
 node_by-requires c = (omega arith, operand_lt _ (read-in-fields (rom_of c.args.image.now c.args.p3) (c.args.v / 2) _ (sym c.read_at.ensures ∙ c.in-Ok.is) (λ at. (c.type_inv.image (in_image c.args.p3 at)).fits)), c.way_of.ensures.few)
 
-pub returns-in-Ok : goal.returns-in-Ok
-returns-in-Ok c = row-node _ _ _ _ (sym c.read_at.ensures ∙ c.in-Ok.is) _ _ _ (rw c.byte.ensures at c.timing-cost.ensures.timed_from) c.way_of.ensures _ c.node_by.ensures
+pub returns : goal.returns
+returns c = row-node _ _ _ _ (sym c.read_at.ensures ∙ c.in-Ok.is) _ _ _ (rw c.byte.ensures at c.timing-cost.ensures.timed_from) c.way_of.ensures _ c.node_by.ensures
 
-pub returns-in-Err : goal.returns-in-Err
-returns-in-Err c = none-node _ _ _ (sym c.read_at.ensures ∙ c.in-Err.is) _ c.nowhere.ensures
+pub returns-in_default : goal.returns-in_default
+returns-in_default c = none-node _ _ _ _ c.read_at.ensures c.in_default.not-Ok _ c.nowhere.ensures

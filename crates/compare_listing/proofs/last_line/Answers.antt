@@ -1,18 +1,20 @@
 -- `compare_listing::last_line` meets its contract.
+use native.Mathlib.Omega.{arith}
+use Rattle.std.proofs.lemmas.Grind.{common_steps}
 use Rattle.compare_listing.proofs.Going.{last-ended, last_none, last_some}
 use Rattle.compare_listing.proofs.last_line.Goals as goal
+use Rattle.compare_listing.proofs.last_line.Goals.{then-p, else-p}
 
-pub returns-then-p : goal.returns-then-p
-returns-then-p c = last-ended c.requires.1 c.args.text.now c.if-p.true
+pub returns-then-is_empty : goal.returns-then-is_empty
+returns-then-is_empty c =
+    elim c.if-p.branch [
+      then-p w ↦ last-ended c.requires.0 c.args.text.now w.if-p.true
+    | else-p w ↦ last_none c.requires.0 c.args.text.now (grind (arith, common_steps))
+    ]
 
-pub returns-then-text-eq0 : goal.returns-then-text-eq0
-returns-then-text-eq0 c = last_none c.requires.1 c.args.text.now c.if-text-eq0.true
-
-pub next-requires : goal.next-requires
-next-requires c = (c.requires.0, c.requires.1, c.requires.2, c.if-p.false, c.requires.1.fair c.if-p.false, c.requires.3)
-
-pub shape_of-ours : goal.shape_of-ours
-shape_of-ours c = c.next.ensures.length
-
-pub returns : goal.returns
-returns c = last_some c.requires.1 c.args.text.now c.if-text-eq0.false c.if-p.false c.next.ensures
+pub returns-else-is_empty : goal.returns-else-is_empty
+returns-else-is_empty c =
+    elim c.if-p.branch [
+      then-p w ↦ absurd (grind (arith, common_steps))
+    | else-p w ↦ last_some c.requires.0 c.args.text.now (λ z. grind (arith, common_steps)) w.if-p.false c.next.ensures
+    ]

@@ -23,14 +23,11 @@ returns-then-not-is_frame_at c = sym (first-bad _ _ _ (rw c.frame_size-n.ensures
 pub loop-at-init : goal.loop-at-init
 loop-at-init c = first_good _ _ _ (rw c.frame_size-n.ensures at c.if-s-n.false) c.is_frame_at.ensures (rw c.frame_size-n.ensures at c.if-s-n-ne0.false) c.if-not-is_frame_at.false
 
-pub after_one-requires : goal.after_one-requires
-after_one-requires c = (c.frame_size-n.ensures, omega arith, rw c.frame_size-n.ensures c.loop-at.invariant.after)
-
 pub returns-then-not-after_one : goal.returns-then-not-after_one
-returns-then-not-after_one c = sym (more-bad _ _ _ _ c.loop-at.invariant (rw c.frame_size-n.ensures at c.after_one.ensures) c.if-not-after_one.true)
+returns-then-not-after_one c = sym (more-bad _ _ _ _ c.loop-at.invariant c.after_one.ensures c.if-not-after_one.true)
 
 pub loop-at-preserved : goal.loop-at-preserved
-loop-at-preserved c = more-good _ _ _ _ c.loop-at.invariant (rw c.frame_size-n.ensures at c.after_one.ensures) (omega arith) c.if-not-after_one.false
+loop-at-preserved c = more-good _ _ _ _ c.loop-at.invariant c.after_one.ensures (omega arith) c.if-not-after_one.false
 
 pub judged-requires : goal.judged-requires
 judged-requires c =

@@ -1,6 +1,5 @@
 -- `hex_chunks::finish` meets its contract.
 use mathlib.Core.Path.{refl}
-use Rattle.device.specs.Device.{image_size}
 use Rattle.hex_chunks.proofs.Answers.{end-good, end_refused}
 use Rattle.hex_chunks.proofs.finish.Goals as goal
 
@@ -8,12 +7,10 @@ pub returns-in-Ok : goal.returns-in-Ok
 returns-in-Ok c =
     let z = c.in_default.ensures.right refl in
     let k = c.in-Some.ensures in
-    let size = c.image_size-size.ensures in
-    end-good (image_size c.args.d) c.args.s c.args.work.now c.args.image.now c.in-Some.stage k.1 k.0 _ _ (rw size at c.make_ready.ensures.readied) (rw size at c.in-Ok.ensures.by_index) _ refl refl refl refl refl _ z.0 z.1 c.copy_image.ensures
+    end-good c.args.size c.args.s c.args.work.now c.args.image.now c.in-Some.stage k.1 k.0 _ _ c.make_ready.ensures.readied c.in-Ok.ensures.by_index _ refl refl refl refl refl _ z.0 z.1 c.copy_image.ensures
 
 pub returns-in-Err-conclude_text : goal.returns-in-Err-conclude_text
 returns-in-Err-conclude_text c =
     let z = c.in_default.ensures.right refl in
     let k = c.in-Some.ensures in
-    let size = c.image_size-size.ensures in
-    rw c.reading.ensures (end_refused (image_size c.args.d) c.args.s c.args.work.now c.args.image.now c.in-Some.stage k.1 k.0 _ _ (rw size at c.make_ready.ensures.readied) c.in-Err-conclude_text.first (rw size at c.in-Err-conclude_text.ensures.by_index) _ refl refl refl refl z.0 z.1)
+    rw c.reading.ensures (end_refused c.args.size c.args.s c.args.work.now c.args.image.now c.in-Some.stage k.1 k.0 _ _ c.make_ready.ensures.readied c.in-Err-conclude_text.first c.in-Err-conclude_text.ensures.by_index _ refl refl refl refl z.0 z.1)

@@ -1,117 +1,69 @@
 -- `routines_known::loses` meets its contract.
-use mathlib.Core.Path.{refl, sym, ◌∙◌}
+use mathlib.Core.Path.{sym, ◌∙◌}
+use mathlib.Core.Logic.{inl, inr}
+use Prim.Native.Nat.{◌<◌}
 use native.Mathlib.Omega.{arith}
-use Rattle.routines_numbered.specs.Packed.{node_in, nodes_in}
-use Rattle.routines_known.specs.Marking.{flow_on}
-use Rattle.routines_known.proofs.Settling.{judge-ret, judge-by-other, judge-by-next, judge-out, judge-known, judge-kept, judge-unknown}
-use mathlib.Core.Path.{ap}
-use Prim.Native.Nat.{ℕ, ◌-◌, ◌%◌}
 use lib.ListN.{get_or}
-use Rattle.routines_numbered.specs.Packed.{place_in}
-use Rattle.routines_known.proofs.Settling.{parity}
+use Rattle.routines_numbered.specs.Packed.{node_in, nodes_in}
+use Rattle.routines_known.specs.Marking.{flow_on, by_next, by_other, past_known, past_unknown}
+use Rattle.routines_known.proofs.Settling.{judge-ret, judge-fork, judge-call, judge-out, mark_tells, parity}
 use Rattle.routines_known.proofs.loses.Goals as goal
+
+pub bounds-marks-other_of : goal.bounds-marks-other_of
+unfolding nodes_in node_in
+bounds-marks-other_of c = omega (arith, c.other_of.ensures, (c.requires.0.links _ c.requires.1).other)
+
+pub bounds-marks-next_of : goal.bounds-marks-next_of
+unfolding nodes_in node_in
+bounds-marks-next_of c = omega (arith, c.next_of.ensures, (c.requires.0.links _ c.requires.1).next)
+
+pub bounds-marks-other_of-then-kind-eq3 : goal.bounds-marks-other_of-then-kind-eq3
+unfolding nodes_in node_in
+bounds-marks-other_of-then-kind-eq3 c = omega (arith, c.other_of-then-kind-eq3.ensures, (c.requires.0.links _ c.requires.1).other)
+
+pub bounds-marks-into_of : goal.bounds-marks-into_of
+unfolding nodes_in node_in
+bounds-marks-into_of c = omega (arith, c.into_of.ensures, (c.requires.0.links _ c.requires.1).into)
+
+pub bounds-marks-next_of-then-marks-into_of-ne0 : goal.bounds-marks-next_of-then-marks-into_of-ne0
+unfolding nodes_in node_in
+bounds-marks-next_of-then-marks-into_of-ne0 c = omega (arith, c.next_of-then-marks-into_of-ne0.ensures, (c.requires.0.links _ c.requires.1).next)
 
 pub returns-then-kind-eq4 : goal.returns-then-kind-eq4
 unfolding flow_on nodes_in node_in
-returns-then-kind-eq4 c =
-    let args = c.args in
-    let place_of = c.place_of in
-    let kind_of = c.kind_of-kind in
-    let if1 = c.if-kind-eq4 in
-    let known = parity (place_in (get_or args.words.now args.v 0)) _ (ap (λ (u : ℕ). 1 - u % 2) place_of.ensures) in
-    judge-ret _ _ _ _ (sym kind_of.ensures ∙ if1.true) known.0 known.1
+returns-then-kind-eq4 c = rw c.place_of.ensures (judge-ret _ _ _ (sym c.kind_of-kind.ensures ∙ c.if-kind-eq4.true) (parity _).0 (parity _).1)
 
-pub bounds-marks-other : goal.bounds-marks-other
-unfolding nodes_in node_in
-bounds-marks-other c =
-    let other-of = c.other_of-other in
-    let pre = c.requires in
-    omega (arith, other-of.ensures, (pre.0.links _ pre.1).other)
-
-pub returns-then-marks-other-ne0 : goal.returns-then-marks-other-ne0
+pub returns-then-marks-other_of-ne0 : goal.returns-then-marks-other_of-ne0
 unfolding flow_on nodes_in node_in
-returns-then-marks-other-ne0 c =
-    let kind_of = c.kind_of-kind in
-    let if2 = c.if-kind-eq1 in
-    let other-of = c.other_of-other in
-    let if3 = c.if-marks-other-ne0 in
-    judge-by-other _ _ _ _ (sym kind_of.ensures ∙ if2.true) (rw other-of.ensures at if3.true) refl
+returns-then-marks-other_of-ne0 c =
+    mark_tells _ (λ h. by_other (sym c.kind_of-kind.ensures ∙ c.if-kind-eq1.true) (rw c.other_of.ensures at h)) (λ e l. c.if-marks-other_of-ne0.true e)
 
-pub bounds-marks-next : goal.bounds-marks-next
-unfolding nodes_in node_in
-bounds-marks-next c =
-    let next_of = c.next_of-next in
-    let pre = c.requires in
-    omega (arith, next_of.ensures, (pre.0.links _ pre.1).next)
-
-pub returns-then-kind-eq1 : goal.returns-then-kind-eq1
+pub returns-else-marks-other_of-ne0 : goal.returns-else-marks-other_of-ne0
 unfolding flow_on nodes_in node_in
-returns-then-kind-eq1 c =
-    let kind_of = c.kind_of-kind in
-    let if2 = c.if-kind-eq1 in
-    let other-of = c.other_of-other in
-    let if3 = c.if-marks-other-ne0 in
-    let next_of = c.next_of-next in
-    judge-by-next _ _ _ _ (sym kind_of.ensures ∙ if2.true) (rw other-of.ensures at if3.false) (rw next_of.ensures)
+returns-else-marks-other_of-ne0 c =
+    let k = sym c.kind_of-kind.ensures ∙ c.if-kind-eq1.true in
+    mark_tells _ (λ h. by_next k (rw c.next_of.ensures at h)) (λ e l. judge-fork _ _ _ k (rw c.other_of.ensures at c.if-marks-other_of-ne0.false) (rw c.next_of.ensures at e) l)
 
-pub returns-then-kind-ne3 : goal.returns-then-kind-ne3
+pub returns-then-marks-other_of-ne0-2 : goal.returns-then-marks-other_of-ne0-2
 unfolding flow_on nodes_in node_in
-returns-then-kind-ne3 c =
-    let if1 = c.if-kind-eq4 in
-    let kind_of = c.kind_of-kind in
-    let if2 = c.if-kind-eq1 in
-    let if4 = c.if-kind-ne3 in
-    judge-out _ _ _ _ (λ e. if1.false (kind_of.ensures ∙ e)) (λ e. if2.false (kind_of.ensures ∙ e)) (λ e. if4.true (kind_of.ensures ∙ e)) refl
+returns-then-marks-other_of-ne0-2 c =
+    mark_tells _ (λ h. past_known (sym c.kind_of-kind.ensures ∙ c.if-kind-eq3.true) (rw c.other_of-then-kind-eq3.ensures at h)) (λ e l. c.if-marks-other_of-ne0-2.true e)
 
-pub bounds-marks-other-2 : goal.bounds-marks-other-2
-unfolding nodes_in node_in
-bounds-marks-other-2 c =
-    let other-of = c.other_of-other in
-    let pre = c.requires in
-    omega (arith, other-of.ensures, (pre.0.links _ pre.1).other)
-
-pub returns-then-marks-other-ne0-2 : goal.returns-then-marks-other-ne0-2
+pub returns-then-marks-into_of-ne0 : goal.returns-then-marks-into_of-ne0
 unfolding flow_on nodes_in node_in
-returns-then-marks-other-ne0-2 c =
-    let kind_of = c.kind_of-kind in
-    let if4 = c.if-kind-ne3 in
-    let other-of = c.other_of-other in
-    let if5 = c.if-marks-other-ne0-2 in
-    judge-known _ _ _ _ (sym kind_of.ensures ∙ if4.false) (rw other-of.ensures at if5.true) refl
+returns-then-marks-into_of-ne0 c =
+    let k = sym c.kind_of-kind.ensures ∙ c.if-kind-eq3.true in
+    let into : 0 < get_or c.args.marks.now c.into_of.result 0 = omega (arith, c.if-marks-into_of-ne0.true) in
+    mark_tells _ (λ h. past_unknown k (rw c.into_of.ensures at into) (rw c.next_of-then-marks-into_of-ne0.ensures at h))
+    (λ e l. judge-call _ _ _ k (rw c.other_of-then-kind-eq3.ensures at c.if-marks-other_of-ne0-2.false) (inr (rw c.next_of-then-marks-into_of-ne0.ensures at e)) l)
 
-pub bounds-marks-into : goal.bounds-marks-into
-unfolding nodes_in node_in
-bounds-marks-into c =
-    let into-of = c.into_of-into in
-    let pre = c.requires in
-    omega (arith, into-of.ensures, (pre.0.links _ pre.1).into)
-
-pub returns-then-marks-into-eq0 : goal.returns-then-marks-into-eq0
+pub returns-else-marks-into_of-ne0 : goal.returns-else-marks-into_of-ne0
 unfolding flow_on nodes_in node_in
-returns-then-marks-into-eq0 c =
-    let kind_of = c.kind_of-kind in
-    let if4 = c.if-kind-ne3 in
-    let other-of = c.other_of-other in
-    let if5 = c.if-marks-other-ne0-2 in
-    let into-of = c.into_of-into in
-    let if6 = c.if-marks-into-eq0 in
-    judge-kept _ _ _ _ (sym kind_of.ensures ∙ if4.false) (rw other-of.ensures at if5.false) (rw into-of.ensures at if6.true) refl
+returns-else-marks-into_of-ne0 c =
+    let k = sym c.kind_of-kind.ensures ∙ c.if-kind-eq3.true in
+    mark_tells _ (λ h. absurd (omega (arith, c.if-marks-into_of-ne0.false, h)))
+    (λ e l. judge-call _ _ _ k (rw c.other_of-then-kind-eq3.ensures at c.if-marks-other_of-ne0-2.false) (inl (rw c.into_of.ensures at e)) l)
 
-pub bounds-marks-next-2 : goal.bounds-marks-next-2
-unfolding nodes_in node_in
-bounds-marks-next-2 c =
-    let next_of = c.next_of-next in
-    let pre = c.requires in
-    omega (arith, next_of.ensures, (pre.0.links _ pre.1).next)
-
-pub returns : goal.returns
+pub returns-else-kind-eq3 : goal.returns-else-kind-eq3
 unfolding flow_on nodes_in node_in
-returns c =
-    let kind_of = c.kind_of-kind in
-    let if4 = c.if-kind-ne3 in
-    let other-of = c.other_of-other in
-    let if5 = c.if-marks-other-ne0-2 in
-    let into-of = c.into_of-into in
-    let if6 = c.if-marks-into-eq0 in
-    let next_of = c.next_of-next in
-    judge-unknown _ _ _ _ (sym kind_of.ensures ∙ if4.false) (rw other-of.ensures at if5.false) (rw into-of.ensures at if6.false) (rw next_of.ensures)
+returns-else-kind-eq3 c = judge-out _ _ _ (λ e. c.if-kind-eq4.false (c.kind_of-kind.ensures ∙ e)) (λ e. c.if-kind-eq1.false (c.kind_of-kind.ensures ∙ e)) (λ e. c.if-kind-eq3.false (c.kind_of-kind.ensures ∙ e))

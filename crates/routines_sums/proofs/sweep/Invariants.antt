@@ -1,12 +1,8 @@
--- `routines_sums::sweep` meets its contract.
+-- The numbers that are passed are settled.
 use mathlib.Core.Path.{◌≡◌}
-use Prim.Native.Nat.{◌-◌, ◌≤◌}
 use lib.ListN.{length}
 use Rattle.routines_sums.specs.Ways.{ways_in, costs_in, Swept}
 use Rattle.routines_sums.proofs.sweep.Given as goal
 
 abbrev pub invariant-loop-v : goal.invariant-loop-v
-invariant-loop-v l = (length l.d ≡ length l.initial.d) × (length l.dep ≡ length l.initial.dep) × (l.v ≤ length l.d) × Swept (ways_in l.words) (costs_in l.words) l.initial.d l.v l.d l.dep l.changed
-
-abbrev pub decreases-loop-v : goal.decreases-loop-v
-decreases-loop-v l = length l.d - l.v
+invariant-loop-v l = (length l.d ≡ length l.initial.d) × (length l.dep ≡ length l.initial.dep) × Swept (ways_in l.words) (costs_in l.words) l.initial.d l.v l.d l.dep l.changed

@@ -10,9 +10,10 @@ use Rattle.laws.proofs.Choices.{picked, picked_by}
 use Rattle.laws.proofs.Computed.{T→true}
 use Rattle.sound_generator.proofs.random.Period.{next_random}
 use Rattle.sound_generator.specs.Sound.{in_ranges, InRanges}
-use Rattle.sound_generator.specs.Answers.{answered, refused}
+use Rattle.std.specs.Prelude.{Ok, Err}
+use Rattle.numbers.specs.declared.Refusal.TheVariants.{RecordOutsideTheRanges, PulsesOverTheLimit, TfOfZeroWhileOn}
+use Rattle.sound_generator.specs.Answers.{Answer, number_of, state_after}
 use Rattle.sound_generator.specs.declared.Sound.{Sound}
-use Rattle.sound_generator.specs.declared.Answer.{Answer}
 use Rattle.sound_generator.proofs.Ranges.{within, tested}
 use Rattle.sound_generator.specs.Advance.{runs, counted, toggled, pulse, pulses, most_pulses, zero_while_on, advanced_by, AdvancingAdds}
 
@@ -47,23 +48,23 @@ pulses_sum zero b s = let e : 0 + b ≡ b = omega arith in rw e
 pulses_sum (suc a) b s = let e : suc a + b ≡ suc (a + b) = omega arith in rw e (pulses_sum a b (pulse s))
 
 module _ (n : ℕ) (s : Sound) where
-  pub refuses-outside : in_ranges s ≡ false → advanced_by n s ≡ refused 2 s
+  pub refuses-outside : in_ranges s ≡ false → advanced_by n s ≡ Err RecordOutsideTheRanges
   unfolding advanced_by
   refuses-outside e = rw e
 
-  pub refuses-over : in_ranges s ≡ true → ltb most_pulses n ≡ true → advanced_by n s ≡ refused 48 s
+  pub refuses-over : in_ranges s ≡ true → ltb most_pulses n ≡ true → advanced_by n s ≡ Err PulsesOverTheLimit
   unfolding advanced_by
   refuses-over e h = rw (e, h)
 
-  pub refuses-zero : in_ranges s ≡ true → n ≤ most_pulses → zero_while_on s ≡ true → advanced_by n s ≡ refused 49 s
+  pub refuses-zero : in_ranges s ≡ true → n ≤ most_pulses → zero_while_on s ≡ true → advanced_by n s ≡ Err TfOfZeroWhileOn
   unfolding advanced_by
   refuses-zero e h z = rw (e, le-ltb most_pulses n h, z)
 
-  pub goes : in_ranges s ≡ true → n ≤ most_pulses → zero_while_on s ≡ false → advanced_by n s ≡ answered (pulses n s)
+  pub goes : in_ranges s ≡ true → n ≤ most_pulses → zero_while_on s ≡ false → advanced_by n s ≡ Ok (pulses n s)
   unfolding advanced_by
   goes e h z = rw (e, le-ltb most_pulses n h, z)
 
-sum_by : (a b : ℕ) (s : Sound) (t z : Bool) → a + b ≤ most_pulses → in_ranges s ≡ t → zero_while_on s ≡ z → advanced_by b (advanced_by a s).state ≡ advanced_by (a + b) s
+sum_by : (a b : ℕ) (s : Sound) (t z : Bool) → a + b ≤ most_pulses → in_ranges s ≡ t → zero_while_on s ≡ z → advanced_by b (state_after s (advanced_by a s)) ≡ advanced_by (a + b) s
 sum_by a b s false z h e f = rw (refuses-outside a s e, refuses-outside b s e, refuses-outside (a + b) s e)
 sum_by a b s true true h e f =
     rw (refuses-zero a s e (omega arith) f, refuses-zero b s e (omega arith) f, refuses-zero (a + b) s e h f)
@@ -71,14 +72,22 @@ sum_by a b s true false h e f =
     let kept = tested (pulses_in_ranges a s (within e)) in
     rw (goes a s e (omega arith) f, goes b (pulses a s) kept (omega arith) (same_zero a s ∙ f), goes (a + b) s e h f, pulses_sum a b s)
 
+state_by : (a b : ℕ) (s : Sound) (t z : Bool) → a + b ≤ most_pulses → in_ranges s ≡ t → zero_while_on s ≡ z → state_after (state_after s (advanced_by a s)) (advanced_by b (state_after s (advanced_by a s))) ≡ state_after s (advanced_by (a + b) s)
+state_by a b s false z h e f = rw (refuses-outside a s e, refuses-outside b s e, refuses-outside (a + b) s e)
+state_by a b s true true h e f =
+    rw (refuses-zero a s e (omega arith) f, refuses-zero b s e (omega arith) f, refuses-zero (a + b) s e h f)
+state_by a b s true false h e f =
+    let kept = tested (pulses_in_ranges a s (within e)) in
+    rw (goes a s e (omega arith) f, goes b (pulses a s) kept (omega arith) (same_zero a s ∙ f), goes (a + b) s e h f, pulses_sum a b s)
+
 -- the first of the two answers the same number as the whole
-number_by_lem : (a b : ℕ) (s : Sound) (t z : Bool) → a + b ≤ most_pulses → in_ranges s ≡ t → zero_while_on s ≡ z → (advanced_by a s).number ≡ (advanced_by (a + b) s).number
+number_by_lem : (a b : ℕ) (s : Sound) (t z : Bool) → a + b ≤ most_pulses → in_ranges s ≡ t → zero_while_on s ≡ z → number_of (advanced_by a s) ≡ number_of (advanced_by (a + b) s)
 number_by_lem a b s false z h e f = rw (refuses-outside a s e, refuses-outside (a + b) s e)
 number_by_lem a b s true true h e f = rw (refuses-zero a s e (omega arith) f, refuses-zero (a + b) s e h f)
 number_by_lem a b s true false h e f = rw (goes a s e (omega arith) f, goes (a + b) s e h f)
 
 pub advancing_adds : AdvancingAdds
-advancing_adds a b s h = record { same = sum_by a b s (in_ranges s) (zero_while_on s) h refl refl; number = number_by_lem a b s (in_ranges s) (zero_while_on s) h refl refl }
+advancing_adds a b s h = record { same = sum_by a b s (in_ranges s) (zero_while_on s) h refl refl; state = state_by a b s (in_ranges s) (zero_while_on s) h refl refl; number = number_by_lem a b s (in_ranges s) (zero_while_on s) h refl refl }
 
 -- any two answers to the same state and number of pulses are equal
 pub one_answer : (n : ℕ) (s : Sound) {r q : Answer} → r ≡ advanced_by n s → q ≡ advanced_by n s → r ≡ q

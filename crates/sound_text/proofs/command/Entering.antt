@@ -8,7 +8,8 @@ use native.Mathlib.Omega.{arith}
 use lib.Dec.{T, eqb, ltb, eqb→eq}
 use lib.ListN.{length, take, set, length-append}
 use lib.Seq.{take_all, take-append-le, take-suc-set}
-use borrow.Author.Tests.{lt-ltb, le-ltb}
+use native.Mathlib.Decide.{dec_lt}
+use borrow.Author.Tests.{lt-ltb, le-ltb, lt-leb, le-leb}
 use Rattle.laws.specs.Choice.{pick, both, either}
 use Rattle.laws.proofs.Choices.{both_false}
 use Rattle.laws.proofs.Computed.{at, where_at, true→T, T→true, both_right}
@@ -18,7 +19,7 @@ use Rattle.sound_text.specs.Commands.{is_blank, has_blank, word_of, number_in, m
 use Rattle.sound_text.specs.Entry.{Entered, Fits, Feeds}
 use Rattle.sound_text.specs.declared.command.Entry.{Entry}
 use Rattle.sound_text.specs.declared.command.Command.{Command}
-use Rattle.sound_text.specs.declared.command.Command.TheVariants.{Nothing}
+use Rattle.std.specs.Prelude.{Option, None}
 use Rattle.sound_text.proofs.command.Texts.{bare-short, numbered-short}
 
 true_not_false : {A : Type 0} → ◌≡◌ {A = Bool} true false → A
@@ -198,7 +199,7 @@ module _ {e : Entry} {c : ℕ} (small : c < 256) (fits : Fits e) where
       }
 
 -- the command of what was entered
-module _ {e : Entry} {r : Command} where
+module _ {e : Entry} {r : Option Command} where
   pub bare-command : e.spaced ≡ false → r ≡ bare (take e.kept e.word) → (line : List ℕ) → Entered line e → r ≡ command_of line
   unfolding command_of
   bare-command s f line n = rw (sym n.spaced ∙ s) (f ∙ (ap bare n.word ∙ bare-short (word_of line)))
@@ -210,7 +211,7 @@ module _ {e : Entry} {r : Command} where
       let number : is_number 10 (number_in line) ≡ true = rw (n.some, n.digits) at b in
       rw (sym n.spaced ∙ s, number, ← n.value digits) (f ∙ (ap (λ (w : List ℕ). numbered w e.value) n.word ∙ numbered-short (word_of line) e.value))
 
-  pub no-command : e.spaced ≡ true → both e.some e.digits ≡ false → r ≡ Nothing → (line : List ℕ) → Entered line e → r ≡ command_of line
+  pub no-command : e.spaced ≡ true → both e.some e.digits ≡ false → r ≡ None → (line : List ℕ) → Entered line e → r ≡ command_of line
   unfolding command_of
   no-command s b f line n =
       let number : is_number 10 (number_in line) ≡ false = rw (n.some, n.digits) at b in
@@ -231,3 +232,15 @@ begun_by (c ∷ l) k h = by (is_blank c) h ∙ sym (lt-ltb 0 (length (c ∷ l)) 
 
 pub begun : {e : Entry} (line : List ℕ) → Entered line e → either e.spaced (ltb 0 e.kept) ≡ ltb 0 (length line)
 begun {e} line n = rw n.spaced (begun_by line e.kept n.kept)
+
+-- a character that is a digit, and one that is not
+pub digit-is : (c : ℕ) → 48 ≤ c → c ≤ 57 → between "0" "9" c ≡ true
+digit-is c g h = rw (le-leb 48 c g, le-leb c 57 h)
+
+pub digit-not : (c : ℕ) → (48 ≤ c → c ≤ 57 → ⊥) → Dec (c < 48) → between "0" "9" c ≡ false
+digit-not c n (yes l) = rw (lt-leb 48 c l)
+digit-not c n (no l) = rw (le-leb 48 c (omega arith), lt-leb c 57 (by (dec_lt 57 c)))
+  where
+    by : Dec (57 < c) → 57 < c
+    by (yes m) = m
+    by (no m) = absurd (n (omega arith) (omega arith))

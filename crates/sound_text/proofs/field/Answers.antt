@@ -1,11 +1,13 @@
 -- `sound_text::field` meets its contract.
+use Prim.Native.Nat.{◌≤◌}
+use borrow.Author.Rules.{rules}
 use native.Mathlib.Omega.{arith}
-use Rattle.laws.proofs.Writing.{wrote_then}
+use Rattle.text.specs.Digits.{places_of}
 use Rattle.text.proofs.digits.Numbers.{places_up_to}
 use Rattle.sound_text.proofs.field.Goals as goal
 
 pub decimal-requires : goal.decimal-requires
-decimal-requires c = omega (arith, places_up_to 2 c.args.v (omega arith), c.put_text-end.ensures.end)
+decimal-requires g c = let k : places_of c.from.result ≤ 3 = places_up_to 2 c.from.result (omega arith) in search rules
 
-pub returns : goal.returns
-returns c = record { wrote = wrote_then c.put_text-end.ensures c.decimal.ensures.wrote; upper_bound = omega (arith, places_up_to 2 c.args.v (omega arith), c.put_text-end.ensures.end) }
+pub returns-clause-size : goal.returns-clause-size
+returns-clause-size g c = let k : places_of c.from.result ≤ 3 = places_up_to 2 c.from.result (omega arith) in omega (arith, c.decimal.ensures.size, c.put_text.ensures.size)

@@ -1,5 +1,4 @@
 -- `step_act::act` meets its contract.
-use Rattle.device.specs.Device.{in_image}
 use Rattle.std.proofs.lemmas.Result.{err_from_is_err_and}
 use Rattle.step_act.proofs.ActValid.{turn-valid}
 use Rattle.step_act.proofs.Acting.{given_valid, time-passes, none-passes}
@@ -12,7 +11,7 @@ returns-in_err-cycles c =
 
 pub after-requires : goal.after-requires
 after-requires c =
-    let v = (given_valid _ _ _ _ (rw c.in_ok-cycles.was at c.turn.ensures) (turn-valid _ _ _ (record { core = c.requires.0.valid; ram = c.requires.1 }) c.requires.0.running (λ p3 at. (c.type_inv.image (in_image p3 at)).fits))).core in
+    let v = (given_valid _ _ _ _ (rw c.in_ok-cycles.was at c.turn.ensures) (turn-valid _ _ _ (record { core = c.requires.0.valid; ram = c.requires.1 }) c.requires.0.running (λ p3 at. c.args.board.of_bytes p3 at))).core in
     (v.ints, v.timers, v.ports.p25)
 
 pub returns : goal.returns

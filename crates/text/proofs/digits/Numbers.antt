@@ -1,20 +1,13 @@
--- Laws of digits and of blanks.
+-- Laws of digits.
 use mathlib.Core.Path.{◌≡◌, refl, sym, ap, ◌∙◌}
-use mathlib.Core.List.{List, [], ◌∷◌, ◌++◌}
+use mathlib.Core.List.{[], ◌∷◌, ◌++◌}
 use Prim.Native.Nat.{ℕ, zero, suc, ◌+◌, ◌-◌, ◌/◌, ◌%◌, ◌^◌, ◌<◌, ◌≤◌}
 use native.Mathlib.Omega.{arith}
 use native.Mathlib.Nat.{not-suc-le-zero, pow-suc, one-le-pow}
 use native.Mathlib.Decide.{dec_lt}
 use borrow.Author.Tests.{lt-ltb, le-ltb}
-use lib.ListN.{length, take, replicate, length-append}
-use Rattle.text.specs.Digits.{digit, in_base, places_within, places_of, decimal, blanks, padded}
-use Rattle.laws.specs.Writing.{Wrote}
-use Rattle.laws.proofs.Writing.{wrote_then}
-
-pub take_replicate : (n m a : ℕ) → n ≤ m → take n (replicate m a) ≡ replicate n a
-take_replicate zero m a h = refl
-take_replicate (suc n) zero a h = absurd (not-suc-le-zero h)
-take_replicate (suc n) (suc m) a h = ap (λ (l : List ℕ). a ∷ l) (take_replicate n m a (omega arith))
+use lib.ListN.{length, length-append}
+use Rattle.text.specs.Digits.{digit, in_base, places_within, places_of, decimal}
 
 pub digits_none : (base n v : ℕ) → n ≡ 0 → in_base base n v ≡ []
 unfolding in_base
@@ -86,8 +79,3 @@ places_of_byte v h = places_up_to 2 v (omega arith)
 
 pub places_of_six : (v : ℕ) → v < 1000000 → places_of v ≤ 6
 places_of_six v h = places_up_to 5 v (omega arith)
-
--- a text and the blanks that fill its column
-pub wrote_padded : {b m e : List ℕ} {from end r : ℕ} {text : List ℕ} (n : ℕ) → Wrote b m from end text → Wrote m e end r (blanks (from + n - end)) → Wrote b e from r (padded n text)
-wrote_padded {from = from} {end = end} {text = text} n w x =
-    let h : from + n - end ≡ n - length text = omega arith in wrote_then w (rw h at x)

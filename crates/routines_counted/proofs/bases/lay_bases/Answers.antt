@@ -38,12 +38,6 @@ returns-then-total-gt-MOST_TURNS c =
     let args = c.args in
     based-over (counts_of args.counts.now) args.masks.now args.marks.now _ _ _ c.loop-v-test.true c.base_after-total.ensures c.if-total-gt-MOST_TURNS.true
 
-pub overflow_add-v : goal.overflow_add-v
-overflow_add-v c = omega (arith, c.loop-v-test.true, c.requires.3)
-
-pub loop-v-smaller : goal.loop-v-smaller
-loop-v-smaller c = omega (arith, c.loop-v-test.true)
-
 pub loop-v-preserved : goal.loop-v-preserved
 loop-v-preserved c =
     let args = c.args in

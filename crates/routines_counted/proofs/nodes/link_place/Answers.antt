@@ -54,16 +54,6 @@ bounds-linked-node c =
     let the-loop = c.loop-d in
     omega (arith, c.node_of-node.ensures, place.room, the-loop.invariant.1, c.loop-d-test.true, pre.2, the-loop.invariant.2.len)
 
-pub overflow_add-d : goal.overflow_add-d
-overflow_add-d c =
-    let pre = c.requires in
-    let place = pre.0.places c.args.v pre.1 in
-    let the-loop = c.loop-d in
-    omega (arith, place.room, the-loop.invariant.1, c.loop-d-test.true)
-
-pub loop-d-smaller : goal.loop-d-smaller
-loop-d-smaller c = omega (arith, c.loop-d-test.true)
-
 pub loop-d-preserved : goal.loop-d-preserved
 loop-d-preserved c =
     let pre = c.requires in

@@ -1,6 +1,6 @@
 -- `routines_counted::nodes::link_place` meets its contract.
 use mathlib.Core.Path.{◌≡◌}
-use Prim.Native.Nat.{◌-◌, ◌≤◌}
+use Prim.Native.Nat.{◌≤◌}
 use lib.ListN.{get_or}
 use Rattle.counts.specs.Radix as radix
 use Rattle.routines_counted.specs.Counting.{counts_of}
@@ -9,6 +9,3 @@ use Rattle.routines_counted.proofs.nodes.link_place.Given as goal
 
 abbrev pub invariant-loop-d : goal.invariant-loop-d
 invariant-loop-d l = (l.d ≤ l.size) × (l.size ≡ radix.size (counts_of l.counts) (get_or l.masks l.v 0)) × LaysTo (LinkedIs l.words l.counts l.masks l.bases l.v) (get_or l.bases l.v 0) l.d l.initial.linked l.linked
-
-abbrev pub decreases-loop-d : goal.decreases-loop-d
-decreases-loop-d l = l.size - l.d

@@ -25,9 +25,9 @@ overflow_cast-pend-2 c =
     let pre = c.requires in
     let args = c.args in
     let pended : Fits w32 (get_or args.pend.now args.here.top 0) = search rules in
-    most_fits _ _ _ _ (omega (arith, pre.1, pre.0.small)) (c.type_inv.dep args.way.second) pended c.most-m.ensures
+    most_fits _ _ _ _ (omega (arith, pre.1, pre.0.small)) (c.type_inv.dep args.way.second) pended c.max-most.ensures
 
 pub returns : goal.returns
 returns c =
     let pre = c.requires in
-    (refl, c.most.ensures, open_push _ _ _ pre.1, working_push _ pre.0 pre.1 pre.2 c.most-m.ensures)
+    (refl, c.max.ensures, open_push _ _ _ pre.1, working_push _ pre.0 pre.1 pre.2 c.max-most.ensures)

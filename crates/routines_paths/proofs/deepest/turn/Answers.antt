@@ -14,8 +14,8 @@ overflow_cast-dep c = wide16 (c.type_inv.dep _)
 pub overflow_add-top : goal.overflow_add-top
 overflow_add-top c = sum_fits _ _ c.requires.1 (c.type_inv.dep c.args.way.first)
 
-pub returns-then-goal-m : goal.returns-then-goal-m
-returns-then-goal-m c = inl (refl, rw (c.most-m.ensures, c.most.ensures) at c.if-goal-m.true)
+pub returns-then-goal-most : goal.returns-then-goal-most
+returns-then-goal-most c = inl (refl, rw (c.max-most.ensures, c.max.ensures) at c.if-goal-most.true)
 
-pub returns : goal.returns
-returns c = inr (refl, rw (c.most-m.ensures, c.most.ensures) at c.if-goal-m.false)
+pub returns-else-goal-most : goal.returns-else-goal-most
+returns-else-goal-most c = inr (refl, rw (c.max-most.ensures, c.max.ensures) at c.if-goal-most.false)

@@ -3,8 +3,8 @@ use mathlib.Core.Path.{refl}
 use mathlib.Core.Logic.{inl, inr}
 use Rattle.routines_paths.proofs.route.greater.Goals as goal
 
-pub returns-then-d-a : goal.returns-then-d-a
-returns-then-d-a c = inr (refl, c.if-d-a.true)
+pub returns-then-d-first : goal.returns-then-d-first
+returns-then-d-first c = inr (refl, c.if-d-first.true)
 
-pub returns : goal.returns
-returns c = inl (refl, c.if-d-a.false)
+pub returns-else-d-first : goal.returns-else-d-first
+returns-else-d-first c = inl (refl, c.if-d-first.false)

@@ -20,4 +20,4 @@ pub returns-in-71 : goal.returns-in-71
 returns-in-71 c = rw c.in-71.is (lcall _ _ _ _ _ (rw (← c.can_push.ensures) c.if-not-can_push.false) c.called.ensures)
 
 pub returns-in_default : goal.returns-in_default
-returns-in_default c = rw (first (72 ∷ 71 ∷ []) c.args.row c.requires.2 (search rules)) (scall _ _ _ _ _ (rw (← c.can_push.ensures) c.if-not-can_push.false) (rw (← c.short_entry.ensures) c.called-in_default.ensures))
+returns-in_default c = rw (first (72 ∷ 71 ∷ []) c.args.row c.requires.2 (search rules)) (scall _ _ _ _ _ (rw (← c.can_push.ensures) c.if-not-can_push.false) (rw (← c.short_entry.ensures.entry) c.called-in_default.ensures))

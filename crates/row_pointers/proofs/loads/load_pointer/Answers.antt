@@ -3,7 +3,7 @@ use Rattle.std.proofs.Common.{rules, ◌≡◌, Err}
 use Rattle.numbers.specs.declared.Stop.{Stop}
 use Rattle.laws.proofs.Among.{at_each}
 use Rattle.row_pointers.specs.Groups.{load_pointer}
-use Rattle.row_pointers.proofs.Loading.{Stops, load-pointer-stops}
+use Rattle.row_pointers.proofs.OtherBank.{Stops, load-pointer-stops}
 use Rattle.row_pointers.proofs.loads.load_pointer.Goals as goal
 
 pub returns-in_err-in_bank_0 : goal.returns-in_err-in_bank_0

@@ -3,8 +3,5 @@ use mathlib.Core.Path.{sym, ◌∙◌}
 use Rattle.sound_generator.proofs.advance.Jumping.{stands}
 use Rattle.sound_generator.proofs.advance.advanced.Goals as goal
 
-pub jump-requires : goal.jump-requires
-jump-requires c = (c.requires.0, c.requires.1, sym c.runs.ensures ∙ c.if-runs.true)
-
-pub returns : goal.returns
-returns c = sym (stands c.args.n c.args.s (sym c.runs.ensures ∙ c.if-runs.false))
+pub returns-else-runs : goal.returns-else-runs
+returns-else-runs c = sym (stands c.args.n c.args.s (sym c.runs.ensures ∙ c.if-runs.false))

@@ -13,6 +13,6 @@ pub returns-then-n-le-MOST_OF_A_PORT : goal.returns-then-n-le-MOST_OF_A_PORT
 unfolding numbered
 returns-then-n-le-MOST_OF_A_PORT c = rw (sym (same_is c.same.ensures) ∙ c.if-same.false, le-leb _ _ c.if-n-le-MOST_OF_A_PORT.true) c.port.ensures
 
-pub returns : goal.returns
+pub returns-else-n-le-MOST_OF_A_PORT : goal.returns-else-n-le-MOST_OF_A_PORT
 unfolding numbered
-returns c = rw (sym (same_is c.same.ensures) ∙ c.if-same.false, lt-leb _ _ c.if-n-le-MOST_OF_A_PORT.false)
+returns-else-n-le-MOST_OF_A_PORT c = rw (sym (same_is c.same.ensures) ∙ c.if-same.false, lt-leb _ _ c.if-n-le-MOST_OF_A_PORT.false)

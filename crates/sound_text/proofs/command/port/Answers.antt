@@ -10,12 +10,12 @@ returns-then-same c = rw (sym (same_is c.same.ensures) ∙ c.if-same.true)
 
 pub returns-then-same-2 : goal.returns-then-same-2
 unfolding port
-returns-then-same-2 c = rw (sym (same_is c.same.ensures) ∙ c.if-same.false, sym (same_is c.same-2.ensures) ∙ c.if-same-2.true)
+returns-then-same-2 c = rw (sym (same_is c.same.ensures) ∙ c.if-same.false, sym (same_is c.same-else-same.ensures) ∙ c.if-same-2.true)
 
 pub returns-then-same-3 : goal.returns-then-same-3
 unfolding port
-returns-then-same-3 c = rw (sym (same_is c.same.ensures) ∙ c.if-same.false, sym (same_is c.same-2.ensures) ∙ c.if-same-2.false, sym (same_is c.same-3.ensures) ∙ c.if-same-3.true)
+returns-then-same-3 c = rw (sym (same_is c.same.ensures) ∙ c.if-same.false, sym (same_is c.same-else-same.ensures) ∙ c.if-same-2.false, sym (same_is c.same-else-same-2.ensures) ∙ c.if-same-3.true)
 
-pub returns : goal.returns
+pub returns-else-same-3 : goal.returns-else-same-3
 unfolding port
-returns c = rw (sym (same_is c.same.ensures) ∙ c.if-same.false, sym (same_is c.same-2.ensures) ∙ c.if-same-2.false, sym (same_is c.same-3.ensures) ∙ c.if-same-3.false)
+returns-else-same-3 c = rw (sym (same_is c.same.ensures) ∙ c.if-same.false, sym (same_is c.same-else-same.ensures) ∙ c.if-same-2.false, sym (same_is c.same-else-same-2.ensures) ∙ c.if-same-3.false)

@@ -1,4 +1,0 @@
-pub mod Moving
-pub mod Making
-pub mod Asking
-pub mod Branching
