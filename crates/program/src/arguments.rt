@@ -24,6 +24,26 @@ pub fn arg<'a>(rt: &HostRuntime, word: usize, buffer: &'a mut [u8]) -> &'a [u8] 
     &buffer[..n]
 }
 
+// What a word names, by the function that reads it, where there is such a word. One that names nothing is not in order.
+pub fn named_at<T, F: FnOnce(&[u8]) -> Option<T>>(
+    rt: &HostRuntime,
+    word: usize,
+    read: F,
+) -> Result<Option<T>, Failure>
+where
+    F: Drop,
+    requires { F.IsAlwaysCallable read }
+{
+    if !is_given(rt, word) {
+        return Ok(None);
+    }
+    let mut buffer = io::buffer();
+    match read(arg(rt, word, &mut buffer)) {
+        Some(named) => Ok(Some(named)),
+        None => Err(Failure::Usage),
+    }
+}
+
 // A file that can be read, or none. A name is text in UTF-8.
 pub fn open_read(rt: &HostRuntime, path: &[u8]) -> Option<File> {
     let name = str::from_utf8(path).ok()?;

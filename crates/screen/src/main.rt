@@ -4,281 +4,130 @@
 
 mod help;
 
-ghost use Rattle.std.specs.Prelude.{◌≡◌, ◌<◌, ◌≤◌, length};
-ghost use Rattle.device.specs.Device.{image_size, frame_size};
+ghost use Rattle.std.specs.Prelude.{◌≤◌, IfOk};
 ghost use Rattle.record.specs.Valid.{ValidCore, Nibbles};
 
-use crate::help::is_asked;
-use check::same;
-use device::{Device, frame_size, image_size};
-use frame::{Frame, frame_of};
-use listing::tell;
-use program::arguments::{arg, is_given};
-use program::image::{chosen_device, open_image};
-use program::script::go_on;
-use program::streams::{Ending, STDERR_FILENO, ending_of, say, show, show_part};
-use program::words::{Choice, Chosen};
+use crate::help::MANUAL;
+use device::{Device, frame_size};
+use device::image::Image;
+use frame::frame_of;
+use listing::{Told, tell};
+use program::arguments::{arg, named_at, no_word};
+use program::help::answer;
+use program::image::{chosen_device, open_image, room};
+use program::part::Part;
+use program::script::{go_on, whole_line};
+use program::streams::{Failure, refuse, show};
+use program::words::is;
 use record::start::fresh;
 use record::{Core, Machine, Ram};
-use text::script::line_end;
+use text::Text;
 use text_screen::{Form, screen};
 use text_why::step_word;
 
-// The picture's form, and the number of the step to show; 0 is the last.
+// The picture's form, and the step to show, the last where none is named.
 #[derive(Clone, Copy)]
 struct Wish {
     form: Form,
-    only: u64,
-}
-
-// The record but for RAM after a line of the script, whether it is the last, whether it is no frame, and how many characters it had.
-#[derive(Clone, Copy)]
-struct Turn {
-    core: Core,
-    ended: bool,
-    bad: bool,
-    used: usize,
-}
-
-const USAGE: [u8; 60] = *b"usage: screen [--device NAME] [--pbm] IMAGE [STEP] < SCRIPT\n";
-
-fn usage() {
-    io::write_all(STDERR_FILENO, &USAGE);
-}
-
-fn refuse_frame() -> Ending {
-    ending_of(false, show(b"refused 03\n"))
-}
-
-fn show_screen(d: Device, form: Form, m: Core, ram: Ram) -> Ending
-    requires { (ValidCore d m) × (Nibbles ram) }
-{
-    let mut out = io::buffer();
-    let machine = Machine { core: m, ram: ram };
-    let n = screen(d, machine, form, &mut out);
-    ending_of(false, show_part(&out, n))
+    only: Option<u64>,
 }
 
 // The script has ended, or the run has: a step past the end has no picture.
-fn at_end(d: Device, wish: Wish, step: u64, m: Core, ram: Ram) -> Ending
-    requires { (ValidCore d m) × (Nibbles ram) }
+fn at_end(image: Image, wish: Wish, step: u64, core: Core, ram: Ram) -> Result<(), Failure>
+    requires { (ValidCore image.device core) × (Nibbles ram) }
 {
-    let form = wish.form;
-    if wish.only == 0 {
-        return show_screen(d, form, m, ram);
+    let mut out = Text::<336>::new();
+    if wish.only.is_none() || wish.only == Some(step) {
+        screen(&mut out, image.device, Machine { core, ram }, wish.form);
     }
-    if wish.only == step {
-        return show_screen(d, form, m, ram);
-    }
-    Ending::Done
+    show(out.as_slice())
 }
 
 // A line of the script, without its LF: its step as the runner makes it.
-fn one_line(d: Device, image: &[u8], m: Core, ram: &mut Ram, line: &[u8], used: usize) -> Turn
-    requires { (length image.now ≡ image_size d) × (ValidCore d m) × (Nibbles ram.old) }
-    ensures { (ValidCore d result.core) × (Nibbles ram.new) × (result.used ≡ used) }
+fn one_line(image: Image, m: Core, ram: &mut Ram, line: &[u8]) -> Result<Told, Failure>
+    requires { (ValidCore image.device m) × (Nibbles ram.old) }
+    ensures { IfOk result (λ told. (ValidCore image.entry.device told.core) × (Nibbles ram.new)) }
 {
-    let Frame::Seen(_) = frame_of(d, line) else {
-        return Turn {
-            core: m,
-            ended: true,
-            bad: true,
-            used: used,
-        };
-    };
-    let mut text = [0u8; 26];
-    let told = tell(d, image, m, ram, line, &mut text, 0);
-    let core = told.core;
-    Turn {
-        core: core,
-        ended: told.ended,
-        bad: false,
-        used: used,
+    if frame_of(image.device, line).is_none() {
+        return Err(refuse(b"refused 03\n"));
     }
-}
-
-// The first line of a part of the script, where it is whole.
-fn first_line(d: Device, image: &[u8], m: Core, ram: &mut Ram, part: &[u8]) -> Turn
-    requires { (length image.now ≡ image_size d) × (ValidCore d m) × (Nibbles ram.old) }
-    ensures { (ValidCore d result.core) × (Nibbles ram.new) × (result.used ≤ length part.now) }
-{
-    let end = line_end(part, 0);
-    if end == part.len() {
-        return Turn {
-            core: m,
-            ended: false,
-            bad: false,
-            used: 0,
-        };
-    }
-    one_line(d, image, m, ram, &part[..end], end + 1)
+    let mut unseen = Text::<26>::new();
+    Ok(tell(image, m, ram, line, &mut unseen))
 }
 
 // What no LF ends: the last line, if there is one, or the beginning of a line that is too long.
 fn last_line(
-    d: Device,
-    image: &[u8],
+    image: Image,
     wish: Wish,
     step: u64,
     m: Core,
     ram: &mut Ram,
     line: &[u8],
-) -> Ending
-    requires { (length image.now ≡ image_size d) × (ValidCore d m) × (Nibbles ram.old) }
+) -> Result<(), Failure>
+    requires { (ValidCore image.device m) × (Nibbles ram.old) }
 {
-    if line.len() == 0 {
-        return at_end(d, wish, step, m, *ram);
+    if line.is_empty() {
+        return at_end(image, wish, step, m, *ram);
     }
-    let turn = one_line(d, image, m, ram, line, 1);
-    if turn.bad {
-        return refuse_frame();
-    }
-    let core = turn.core;
-    at_end(d, wish, after(step, 1), core, *ram)
+    let told = one_line(image, m, ram, line)?;
+    at_end(image, wish, step.saturating_add(1), told.core, *ram)
 }
 
-// The number of steps after a turn that used so many characters; no run makes so many that it stays.
-fn after(step: u64, used: usize) -> u64 {
-    if used == 0 {
-        return step;
-    }
-    if step == u64::MAX {
-        return step;
-    }
-    step + 1
-}
-
-// Whether nothing more of the script is to be read.
-fn is_over(ended: bool, only: u64, step: u64) -> bool {
-    if ended {
-        return true;
-    }
-    if only == 0 {
-        return false;
-    }
-    only == step
-}
-
-// A proved loop has to end, and nothing says that a script does: no run uses up the turns.
+// A proved loop has to end, and nothing says that a script does: no run uses up the turns, and none makes so many steps that their number stays.
 fn session(
     rt: &HostRuntime,
-    d: Device,
-    image: &[u8],
+    image: Image,
     wish: Wish,
     m: Core,
     ram: &mut Ram,
-    part: &mut [u8],
-) -> Ending
-    requires { (length image.now ≡ image_size d) × (ValidCore d m) × (Nibbles ram.old) × (frame_size d < length part.old) }
+) -> Result<(), Failure>
+    requires { (ValidCore image.device m) × (Nibbles ram.old) }
 {
     let mut core = m;
-    let mut step = 0;
-    let mut from = 0;
-    let mut to = 0;
-    let mut turns = u64::MAX;
-    while turns > 0 {
-        let turn = first_line(d, image, core, ram, &part[from..to]);
-        if turn.bad {
-            return refuse_frame();
+    let mut step: u64 = 0;
+    let mut part = Part::new();
+    for _ in 0..u64::MAX {
+        let mut used = 0;
+        if let Some(line) = whole_line(part.rest()) {
+            let told = one_line(image, core, ram, line)?;
+            core = told.core;
+            step = step.saturating_add(1);
+            used = line.len() + 1;
+            if told.ended || wish.only == Some(step) {
+                return at_end(image, wish, step, core, *ram);
+            }
         }
-        core = turn.core;
-        step = after(step, turn.used);
-        if is_over(turn.ended, wish.only, step) {
-            return at_end(d, wish, step, core, *ram);
+        if go_on(rt, frame_size(image.device), &mut part, used)? {
+            return last_line(image, wish, step, core, ram, part.rest());
         }
-        let span = go_on(rt, frame_size(d), part, from, to, turn.used);
-        from = span.from;
-        to = span.to;
-        if span.failed {
-            return Ending::CannotRead;
-        }
-        if span.last {
-            return last_line(d, image, wish, step, core, ram, &part[from..to]);
-        }
-        turns -= 1;
     }
-    Ending::Done
+    Ok(())
 }
 
-// The script from the fresh record.
-fn run(rt: &HostRuntime, d: Device, image: &[u8], wish: Wish) -> Ending
-    requires { length image.now ≡ image_size d }
+// The words from the image on.
+fn run_image(rt: &HostRuntime, device: Device, form: Form, word: usize) -> Result<(), Failure>
+    requires { word ≤ 1000 }
 {
-    let mut part = io::large_buffer();
-    let m = fresh(d);
-    let core = m.core;
+    let mut file = room();
+    let image = open_image(rt, device, word, MANUAL.usage, &mut file)?;
+    let only = named_at(rt, word + 1, step_word)?;
+    no_word(rt, word + 2)?;
+    let m = fresh(image.device);
     let mut ram = m.ram;
-    session(rt, d, image, wish, core, &mut ram, &mut part)
+    session(rt, image, Wish { form, only }, m.core, &mut ram)
 }
 
-// The step that a word names, where there is one.
-fn run_word(rt: &HostRuntime, d: Device, image: &[u8], form: Form, at: usize) -> Ending
-    requires { (length image.now ≡ image_size d) × (at ≤ 1000) }
-{
-    if !is_given(rt, at) {
-        return run(
-            rt,
-            d,
-            image,
-            Wish {
-                form: form,
-                only: 0,
-            },
-        );
+fn run(rt: &HostRuntime) -> Result<(), Failure> {
+    let c = chosen_device(rt)?;
+    let word = usize::from(c.before) + 1;
+    let mut buffer = io::buffer();
+    if is(arg(rt, word, &mut buffer), b"--pbm") {
+        run_image(rt, c.device, Form::Pbm, word + 1)
+    } else {
+        run_image(rt, c.device, Form::Signs, word)
     }
-    let mut word = io::buffer();
-    let n = arg(rt, at, &mut word);
-    let only = step_word(&word[..n]);
-    if only == 0 {
-        usage();
-        return Ending::Done;
-    }
-    if is_given(rt, at + 1) {
-        usage();
-        return Ending::Done;
-    }
-    run(
-        rt,
-        d,
-        image,
-        Wish {
-            form: form,
-            only: only,
-        },
-    )
-}
-
-// The image that a word names. The buffer has a byte more than the largest image, so that a file that is too long shows.
-fn run_image(rt: &HostRuntime, d: Device, form: Form, word: usize) -> Ending
-    requires { word ≤ 999 }
-{
-    let mut image = [0u8; 16385];
-    let file = open_image(rt, d, word, &mut image, &USAGE);
-    let size = file.size;
-    if size != image_size(d) {
-        return ending_of(false, file.written);
-    }
-    run_word(rt, d, &image[..size], form, word + 1)
-}
-
-fn run_chosen(rt: &HostRuntime, c: Chosen) -> Ending {
-    let d = c.device;
-    let at = c.before as usize + 1;
-    let mut word = io::buffer();
-    let n = arg(rt, at, &mut word);
-    if same(&word[..n], b"--pbm") {
-        return run_image(rt, d, Form::Pbm, at + 1);
-    }
-    run_image(rt, d, Form::Signs, at)
 }
 
 fn main(rt: HostRuntime) {
-    if is_asked(&rt) {
-        return;
-    }
-    let Choice::Made(c) = chosen_device(&rt) else {
-        usage();
-        return;
-    };
-    say(run_chosen(&rt, c));
+    answer(&rt, &MANUAL, run)
 }

@@ -1,11 +1,17 @@
--- `why::session` meets its contract.
-use native.Mathlib.Omega.{arith}
-use Rattle.program.proofs.part.Lengths.{goes_on}
+-- `why::session` meets its contract: the record stays valid, whether or not a line was told.
 use Rattle.why.proofs.session.Goals as goal
+use Rattle.why.proofs.session.Goals.{in-Some+in_ok-show+else-told, in_default}
 
-pub go_on-span-requires : goal.go_on-span-requires
-go_on-span-requires c =
-    let loop = c.loop-turns in
-    let inv = loop.invariant in
-    let told = c.tell_first-told.ensures in
-    (goes_on loop.part loop.from loop.to inv.2 inv.3 _ told.2, inv.3, rw c.frame_size.ensures (omega (arith, c.requires.3, inv.4)))
+pub tell_last-requires : goal.tell_last-requires
+tell_last-requires c =
+    elim c.match-whole_line.branch [
+      in-Some+in_ok-show+else-told w ↦ (rw w.core-is w.tell-told.ensures.valid.core, rw w.ram-is w.tell-told.ensures.valid.ram)
+    | in_default w ↦ (rw w.core-is c.loop.invariant.0, rw w.ram-is c.loop.invariant.1)
+    ]
+
+pub loop-preserved : goal.loop-preserved
+loop-preserved c =
+    elim c.match-whole_line.branch [
+      in-Some+in_ok-show+else-told w ↦ (rw w.core-is w.tell-told.ensures.valid.core, rw w.ram-is w.tell-told.ensures.valid.ram)
+    | in_default w ↦ (rw w.core-is c.loop.invariant.0, rw w.ram-is c.loop.invariant.1)
+    ]

@@ -1,0 +1,8 @@
+-- `screen::run_image` meets its contract.
+use Rattle.record.proofs.start.Starting.{fresh_valid}
+use Rattle.screen.proofs.run_image.Goals as goal
+
+pub session-requires : goal.session-requires
+session-requires c =
+    let valid = fresh_valid c.in_ok-image.image.device in
+    (rw c.fresh-m.ensures valid.core, rw c.fresh-m.ensures valid.ram)
