@@ -20,7 +20,9 @@ use program::image::{address_at, chosen_window, open_window, room};
 use program::streams::{Failure, show};
 use routines_bound::{Greatest, Unbounded};
 use text::Text;
-use text_bounder::{ENTRIES, address_in, bound_at, cycles_at, entry_line, most_depth, opened, path_line, summary};
+use text_bounder::{
+    ENTRIES, address_in, bound_at, cycles_at, entry_line, most_depth, opened, path_line, summary,
+};
 
 // The longest path there can be has 65,535 places: N is at most that, and each of them takes a cycle or more.
 const MOST_PLACES: usize = 65535;
@@ -31,12 +33,7 @@ const MOST_BYTES: usize = 131070;
 const WAITING: usize = 65536;
 
 // A line of a path behind what waits, which is written first where the line might have no room.
-fn add_line(
-    out: &mut Text<WAITING>,
-    window: Window,
-    at: u16,
-    counted: u32,
-) -> Result<(), Failure>
+fn add_line(out: &mut Text<WAITING>, window: Window, at: u16, counted: u32) -> Result<(), Failure>
     requires { (at < addresses) × (counted < 100000) }
 {
     if out.len() > WAITING - 43 {

@@ -94,7 +94,9 @@ pub fn address_at(rt: &HostRuntime, word: usize) -> Result<u16, Failure>
     let mut buffer = io::buffer();
     let Some(at) = address_word(arg(rt, word, &mut buffer)) else {
         let failure = refuse(b"refused 20\n");
-        explain(b"ADDRESS is one to four hexadecimal digits up to 1FFF, with 0x before them or h behind if you like\n");
+        explain(
+            b"ADDRESS is one to four hexadecimal digits up to 1FFF, with 0x before them or h behind if you like\n",
+        );
         return Err(failure);
     };
     Ok(at)
