@@ -1,2 +1,3 @@
 pub mod Sorting
+pub mod Packing
 pub mod Arms

@@ -1,5 +1,5 @@
 -- Which function executes a row: its group's.
-use Rattle.std.specs.Prelude.{ℕ, ◌+◌, ◌*◌, ◌<◌, ◌≤◌, get_or, true, List, [], ◌∷◌, ◌≡◌}
+use Rattle.std.specs.Prelude.{ℕ, ◌+◌, ◌*◌, ◌/◌, ◌%◌, ◌^◌, ◌<◌, ◌≤◌, get_or, true, List, [], ◌∷◌, ◌≡◌}
 use Rattle.numbers.specs.Sizes.{addresses}
 use Rattle.laws.specs.Among.{among}
 use Rattle.sheet.specs.declared.Insn.{Insn}
@@ -25,32 +25,43 @@ port_to_cell = 75 ∷ []
 abbrev pub cell_to_port : List ℕ
 cell_to_port = 78 ∷ []
 
+-- a group's place in the enum
+abbrev pub place_of : Group → ℕ
+place_of Group.Moves = 0
+place_of Group.Makes = 1
+place_of Group.Asks = 2
+place_of Group.Branches = 3
+place_of Group.GetPointer = 4
+place_of Group.GetTimer = 5
+place_of Group.ReadByHl = 6
+place_of Group.ReadByX = 7
+place_of Group.ReadByY = 8
+place_of Group.LoadPair = 9
+place_of Group.WriteByHl = 10
+place_of Group.WriteByX = 11
+place_of Group.WriteByY = 12
+place_of Group.SwapPair = 13
+place_of Group.SetPointer = 14
+place_of Group.SetTimer = 15
+place_of Group.RomLow = 16
+place_of Group.RomHigh = 17
+place_of Group.Latches = 18
+place_of Group.Returns = 19
+place_of Group.Calls = 20
+place_of Group.WritePort = 21
+place_of Group.ReadPort = 22
+place_of Group.PortToCell = 23
+place_of Group.CellToPort = 24
+
+-- the rows of the group at a place
+abbrev pub rows_at : ℕ → List ℕ
+rows_at n =
+    get_or
+    (registers.moves ∷ registers.makes ∷ registers.asks ∷ registers.branches ∷ pointers.load_pointer ∷ pointers.load_timer ∷ ram.read_by_hl ∷ ram.read_by_x ∷ ram.read_by_y ∷ pair.loads ∷ ram.written_by_hl ∷ ram.written_by_x ∷ ram.written_by_y ∷ pair.exchanges ∷ pointers.store_pointer ∷ pointers.store_timer ∷ rom_low ∷ rom_high ∷ control.latches ∷ control.returns ∷ control.calls ∷ ports.writing ∷ ports.reading ∷ port_to_cell ∷ cell_to_port ∷ [])
+    n []
+
 abbrev pub rows_of : Group → List ℕ
-rows_of Group.Moves = registers.moves
-rows_of Group.Makes = registers.makes
-rows_of Group.Asks = registers.asks
-rows_of Group.Branches = registers.branches
-rows_of Group.GetPointer = pointers.load_pointer
-rows_of Group.GetTimer = pointers.load_timer
-rows_of Group.ReadByHl = ram.read_by_hl
-rows_of Group.ReadByX = ram.read_by_x
-rows_of Group.ReadByY = ram.read_by_y
-rows_of Group.LoadPair = pair.loads
-rows_of Group.WriteByHl = ram.written_by_hl
-rows_of Group.WriteByX = ram.written_by_x
-rows_of Group.WriteByY = ram.written_by_y
-rows_of Group.SwapPair = pair.exchanges
-rows_of Group.SetPointer = pointers.store_pointer
-rows_of Group.SetTimer = pointers.store_timer
-rows_of Group.RomLow = rom_low
-rows_of Group.RomHigh = rom_high
-rows_of Group.Latches = control.latches
-rows_of Group.Returns = control.returns
-rows_of Group.Calls = control.calls
-rows_of Group.WritePort = ports.writing
-rows_of Group.ReadPort = ports.reading
-rows_of Group.PortToCell = port_to_cell
-rows_of Group.CellToPort = cell_to_port
+rows_of g = rows_at (place_of g)
 
 -- what the operands of a group's rows stay below
 abbrev pub limit_a : Group → ℕ
@@ -88,6 +99,7 @@ pub record InGroup (g : Group) (i : Insn) : Type 0 where
   pub a : i.a < limit_a g
   pub b : i.b < limit_b
 
--- sixteen rows from row 16n on, as far as they are rows of the sheet, each in its group
-pub record Sixteen (n : ℕ) (gs : List Group) : Type 0 where
-  pub same : (k : ℕ) → k < 16 → 1 ≤ 16 * n + k → 16 * n + k < 108 → among (rows_of (get_or gs k Group.Moves)) (16 * n + k) ≡ true
+-- the groups of the eight rows from row 8n on, as far as they are rows of the sheet, a byte a row from the lowest up
+pub record Packs (n w : ℕ) : Type 0 where
+  pub same : (k : ℕ) → k < 8 → 1 ≤ 8 * n + k → 8 * n + k < 108 → among (rows_at (w / 2 ^ (8 * k) % 256)) (8 * n + k) ≡ true
+  pub few : (k : ℕ) → k < 8 → 1 ≤ 8 * n + k → 8 * n + k < 108 → w / 2 ^ (8 * k) % 256 < 25

@@ -7,6 +7,6 @@ use Rattle.row_dispatch.proofs.groups.group_of.Goals as goal
 
 pub returns : goal.returns
 returns c =
-    let row : 16 * (c.args.i.row / 16) + c.args.i.row % 16 ≡ c.args.i.row = omega arith in
-    let same = c.groups_from-groups.ensures.same (c.args.i.row % 16) (omega arith) (omega arith) (omega arith) in
-    sorted _ c.args.i c.requires (rw row at same)
+    let row : 8 * (c.args.i.row / 8) + c.args.i.row % 8 ≡ c.args.i.row = omega arith in
+    let same = c.groups_from-eight.ensures.same (c.args.i.row % 8) (omega arith) (omega arith) (omega arith) in
+    sorted _ c.args.i c.requires (rw c.group_at.ensures (rw row at same))
