@@ -40,8 +40,16 @@ fn run(rt: &HostRuntime) -> Result<(), Failure> {
     let mut file = room();
     let window = open_window(rt, c, MANUAL.usage, &mut file)?;
     let word = usize::from(c.before) + 2;
-    let at = if is_given(rt, word) { address_at(rt, word)? } else { 0 };
-    let count = if is_given(rt, word + 1) { count_at(rt, word + 1)? } else { 8192 };
+    let at = if is_given(rt, word) {
+        address_at(rt, word)?
+    } else {
+        0
+    };
+    let count = if is_given(rt, word + 1) {
+        count_at(rt, word + 1)?
+    } else {
+        8192
+    };
     no_word(rt, word + 2)?;
     list(window, at, count)
 }

@@ -10,12 +10,7 @@ use record_bytes::{pack, unpack};
 use run::{Ran, run};
 
 // What a run gives goes back to where its record came from; a refusal leaves the record's bytes as they were.
-fn put_back(
-    answer: Result<Ran, Refusal>,
-    bytes: &mut [u8],
-    steps: &mut u32,
-    cycles: &mut u32,
-) -> u8
+fn put_back(answer: Result<Ran, Refusal>, bytes: &mut [u8], steps: &mut u32, cycles: &mut u32) -> u8
     requires { OnOk answer (length bytes.old ≡ record_size) }
     ensures { RunPutBack answer bytes.old result steps.new cycles.new bytes.new }
 {

@@ -18,9 +18,8 @@ use numbers::{Refusal, Stop};
 use record::start::{fresh, reset};
 use record::valid::is_valid;
 use record_bytes::{RECORD_BYTES, pack, unpack};
-use step::Stepped;
 use step::apart::{act, look};
-use step::step;
+use step::{Stepped, step};
 
 // The refusal of a buffer that holds no record, where there is an image too.
 pub(crate) fn unheld(d: Device, image: &[u8]) -> Refusal

@@ -240,9 +240,6 @@ pub fn jumped(m: Core, pc: u16, t: u16) -> Act
     Act {
         cycles: t,
         pc,
-        regs: Registers {
-            sf: true,
-            ..m.regs
-        },
+        regs: Registers { sf: true, ..m.regs },
     }
 }

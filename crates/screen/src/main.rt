@@ -8,8 +8,8 @@ ghost use Rattle.std.specs.Prelude.{◌≤◌, IfOk};
 ghost use Rattle.record.specs.Valid.{ValidCore, Nibbles};
 
 use crate::help::MANUAL;
-use device::{Device, frame_size};
 use device::image::Image;
+use device::{Device, frame_size};
 use frame::frame_of;
 use listing::{Told, tell};
 use program::arguments::{arg, named_at, no_word};

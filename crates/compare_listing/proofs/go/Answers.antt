@@ -11,8 +11,8 @@ pub returns-then-present : goal.returns-then-present
 returns-then-present c =
     let h = rw c.as_slice.ensures at c.heed-got.ensures in
     elim c.then-present.branch [
-      then-present-via-then-present w ↦ goes c.loop-present.invariant h (λ s e. absurd (true→T (sym e ∙ w.if-present.true)))
-    | then-present-via-else-present+then-not-is_settled w ↦ goes c.loop-present.invariant h (λ s e. absurd (true→T (sym w.if-not-is_settled.true ∙ ((rw w.len.ensures.value at w.is_settled.ensures) ∙ s))))
+      | then-present-via-then-present w ↦ goes c.loop-present.invariant h (λ s e. absurd (true→T (sym e ∙ w.if-present.true)))
+      | then-present-via-else-present+then-not-is_settled w ↦ goes c.loop-present.invariant h (λ s e. absurd (true→T (sym w.if-not-is_settled.true ∙ ((rw w.len.ensures.value at w.is_settled.ensures) ∙ s))))
     ]
 
 pub returns-then-end-script : goal.returns-then-end-script

@@ -15,6 +15,6 @@ returns c =
     let t = rw c.clear.ensures at c.tell-told.ensures in
     let o = rw c.len.ensures.value at c.onward-turned.ensures in
     elim c.else-told.branch [
-      else-told-via-then-told+else-is_no_frame w ↦ next-good (rom_of c.args.image.bytes.now) c.args.text.now c.requires.0 c.requires.2 c.requires.3 t (sym w.is_no_frame.ensures ∙ w.if-is_no_frame.false) o
-    | else-told-via-else-told w ↦ next-good (rom_of c.args.image.bytes.now) c.args.text.now c.requires.0 c.requires.2 c.requires.3 t (goes_on_frame _ _ _ _ (sym c.tell-told.ensures.ended ∙ w.if-told.false)) o
+      | else-told-via-then-told+else-is_no_frame w ↦ next-good (rom_of c.args.image.bytes.now) c.args.text.now c.requires.0 c.requires.2 c.requires.3 t (sym w.is_no_frame.ensures ∙ w.if-is_no_frame.false) o
+      | else-told-via-else-told w ↦ next-good (rom_of c.args.image.bytes.now) c.args.text.now c.requires.0 c.requires.2 c.requires.3 t (goes_on_frame _ _ _ _ (sym c.tell-told.ensures.ended ∙ w.if-told.false)) o
     ]

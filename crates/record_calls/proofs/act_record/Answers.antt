@@ -8,6 +8,6 @@ use Rattle.record_calls.proofs.act_record.Goals.{in-Some, in-None}
 pub returns : goal.returns
 returns c =
     elim c.match-unpack.branch [
-      in-Some w ↦ record_of _ w.in-Some.ensures (acted _ w.options_of.ensures w.act-answer.ensures w.in-Some.ensures (rw w.answer-is at c.put_back.ensures))
-    | in-None w ↦ let p = rw w.answer-is at c.put_back.ensures in no_record w.in-None.ensures (record { refused = p.0 ∙ w.unheld.ensures; none = p.1; kept = p.2 })
+      | in-Some w ↦ record_of _ w.in-Some.ensures (acted _ w.options_of.ensures w.act-answer.ensures w.in-Some.ensures (rw w.answer-is at c.put_back.ensures))
+      | in-None w ↦ let p = rw w.answer-is at c.put_back.ensures in no_record w.in-None.ensures (record { refused = p.0 ∙ w.unheld.ensures; none = p.1; kept = p.2 })
     ]

@@ -11,6 +11,6 @@ returns-in-Some c = record_of _ c.in-Some.ensures (record { inside = λ _. refl;
 pub returns-in_default : goal.returns-in_default
 returns-in_default c =
     elim c.in_default.branch [
-      in_default-via-in-Some+else-is_valid w ↦ record_of _ w.in-Some.ensures (record { inside = λ v. absurd (rw w.if-is_valid.false at (w.is_valid.ensures.complete v)); outside = λ _. c.from.ensures })
-    | in_default-via-in_default w ↦ no_record w.in_default.ensures c.from.ensures
+      | in_default-via-in-Some+else-is_valid w ↦ record_of _ w.in-Some.ensures (record { inside = λ v. absurd (rw w.if-is_valid.false at (w.is_valid.ensures.complete v)); outside = λ _. c.from.ensures })
+      | in_default-via-in_default w ↦ no_record w.in_default.ensures c.from.ensures
     ]

@@ -21,15 +21,15 @@ pub byte_at-requires : goal.byte_at-requires
 byte_at-requires c =
     let l = c.args.line.now in
     elim c.if-line-eq58.branch [
-      then-line-eq58 w ↦
+      | then-line-eq58 w ↦
           elim c.if-line-ge-SHORTEST.branch [
-            then-line-ge-SHORTEST v ↦
+            | then-line-ge-SHORTEST v ↦
                 let g = v.if-line-ge-SHORTEST.true in
                 let d : all_digits 16 (drop 1 l) ≡ true = rw (take_all (length l - 1) (drop 1 l) (omega (arith, length-drop 1 l))) at (sym w.are_digits.ensures ∙ (sym w.value-is ∙ c.if-are_digits.true)) in
                 let m = after_mark l d (omega arith) in (omega arith, m.0, m.1)
-          | else-line-ge-SHORTEST v ↦ absurd (differ (v.value-is ∙ lt-leb 11 (length l) v.if-line-ge-SHORTEST.false) w.if-line-eq58.true)
+            | else-line-ge-SHORTEST v ↦ absurd (differ (v.value-is ∙ lt-leb 11 (length l) v.if-line-ge-SHORTEST.false) w.if-line-eq58.true)
           ]
-    | else-line-eq58 w ↦ absurd (differ (w.value-is ∙ w.if-line-eq58.false) c.if-are_digits.true)
+      | else-line-eq58 w ↦ absurd (differ (w.value-is ∙ w.if-line-eq58.false) c.if-are_digits.true)
     ]
 
 pub returns-then-are_digits : goal.returns-then-are_digits
