@@ -1,4 +1,7 @@
 // The words of the command line, and the files that they name.
+ghost use Rattle.std.specs.Prelude.{◌≡◌, IfErr};
+ghost use Rattle.program.specs.declared.streams.Failure.TheVariants.{Usage};
+
 use crate::streams::Failure;
 use std::env::{Env, FillError};
 use std::fs::File;
@@ -10,7 +13,9 @@ pub fn is_given(rt: &HostRuntime, word: usize) -> bool {
 }
 
 // Where there is such a word, there are too many.
-pub fn no_word(rt: &HostRuntime, word: usize) -> Result<(), Failure> {
+pub fn no_word(rt: &HostRuntime, word: usize) -> Result<(), Failure>
+    ensures { IfErr result (λ failure. failure ≡ Usage) }
+{
     if is_given(rt, word) {
         Err(Failure::Usage)
     } else {
@@ -33,6 +38,7 @@ pub fn named_at<T, F: FnOnce(&[u8]) -> Option<T>>(
 where
     F: Drop,
     requires { F.IsAlwaysCallable read }
+    ensures { IfErr result (λ failure. failure ≡ Usage) }
 {
     if !is_given(rt, word) {
         return Ok(None);

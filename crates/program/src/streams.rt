@@ -1,6 +1,7 @@
 // What a program reads and writes: what the system answered to a read and to a write, and how the program ends by it.
-ghost use Rattle.std.specs.Prelude.{◌≡◌};
+ghost use Rattle.std.specs.Prelude.{◌≡◌, ◌⊎◌, IfErr};
 ghost use Rattle.program.specs.Answers.{got_of, ending_of};
+ghost use Rattle.program.specs.declared.streams.Failure.TheVariants.{Refused, CannotWrite};
 
 use std::io::Result as Answer;
 
@@ -42,17 +43,23 @@ pub fn ending_of(failed: bool, written: bool) -> Result<(), Failure>
 }
 
 // A text on standard output.
-pub fn show(text: &[u8]) -> Result<(), Failure> {
+pub fn show(text: &[u8]) -> Result<(), Failure>
+    ensures { IfErr result (λ failure. failure ≡ CannotWrite) }
+{
     ending_of(false, io::write_all(STDOUT_FILENO, text))
 }
 
 // A number on standard output, decimal.
-pub fn show_decimal(n: u64) -> Result<(), Failure> {
+pub fn show_decimal(n: u64) -> Result<(), Failure>
+    ensures { IfErr result (λ failure. failure ≡ CannotWrite) }
+{
     ending_of(false, io::print_decimal(STDOUT_FILENO, n))
 }
 
 // Answers by a refusal, which is all that there is to answer.
-pub fn refuse(answer: &[u8]) -> Failure {
+pub fn refuse(answer: &[u8]) -> Failure
+    ensures { (result ≡ Refused) ⊎ (result ≡ CannotWrite) }
+{
     match show(answer) {
         Ok(()) => Failure::Refused,
         Err(failure) => failure,
