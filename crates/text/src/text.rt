@@ -24,7 +24,7 @@ impl<const N: usize> Model for Text<N> {
     ghost invariant = { λ t. t.len ≤ N };
 }
 
-pub(crate) fn digit(d: u64) -> u8
+pub(crate) fn digit(d: u32) -> u8
     requires { d < 16 }
     ensures { result ≡ digit_of d }
 {
@@ -33,7 +33,7 @@ pub(crate) fn digit(d: u64) -> u8
 
 // How many decimal digits v has.
 #[tactic(auto, using(crate::proofs::digits::Numbers::places_more, crate::proofs::digits::Numbers::places_one))]
-fn places(v: u64) -> u64
+pub fn places(v: u64) -> u64
     ensures value { result ≡ places_of v }
     ensures upper_bound { result ≤ v + 1 }
 {
@@ -109,24 +109,28 @@ impl<const N: usize> Text<N> {
         self.blanks(len - self.len);
     }
 
-    // The last places digits of v.
-    fn digits(&mut self, base: u64, places: u64, v: u64)
-        requires { (0 < base) × (base ≤ 16) × (length self.old + places ≤ N) }
-        ensures text { self.new ≡ self.old ++ in_base base places v }
-        ensures size { length self.new ≡ length self.old + places }
-    {
-        if places > 0 {
-            self.digits(base, places - 1, v / base);
-            self.put(digit(v % base));
-        }
-    }
-
+    // The last places digits of v. In 32 bits: a division in 64 takes some processors twice as long.
     pub fn number(&mut self, base: u32, places: u32, v: u32)
         requires { (0 < base) × (base ≤ 16) × (length self.old + places ≤ N) }
         ensures text { self.new ≡ self.old ++ in_base base places v }
         ensures size { length self.new ≡ length self.old + places }
     {
-        self.digits(base.into(), places.into(), v.into());
+        if places > 0 {
+            self.number(base, places - 1, v / base);
+            self.put(digit(v % base));
+        }
+    }
+
+    // The last places decimal digits of a v that may have more than 32 bits: a division by ten is a product.
+    fn decimal_digits(&mut self, places: u64, v: u64)
+        requires { length self.old + places ≤ N }
+        ensures text { self.new ≡ self.old ++ in_base 10 places v }
+        ensures size { length self.new ≡ length self.old + places }
+    {
+        if places > 0 {
+            self.decimal_digits(places - 1, v / 10);
+            self.put(digit((v % 10) as u32));
+        }
     }
 
     pub fn decimal(&mut self, v: u64)
@@ -134,6 +138,6 @@ impl<const N: usize> Text<N> {
         ensures text { self.new ≡ self.old ++ decimalOf v }
         ensures size { length self.new ≡ length self.old + places_of v }
     {
-        self.digits(10, places(v), v);
+        self.decimal_digits(places(v), v);
     }
 }

@@ -1,0 +1,11 @@
+-- `text::text::Text::decimal_digits` meets its contract.
+use mathlib.Core.List.{append_assoc, append-nil}
+use native.Mathlib.Omega.{arith}
+use Rattle.text.proofs.digits.Numbers.{digits_none, digits_then}
+use Rattle.text.proofs.text.Text.+decimal_digits.Goals as goal
+
+pub returns-then-places-gt0-clause-text : goal.returns-then-places-gt0-clause-text
+returns-then-places-gt0-clause-text g t c = rw (c.put.ensures.text, c.decimal_digits.ensures.text, c.digit.ensures, append_assoc, digits_then 10 c.args.places c.args.v (omega arith))
+
+pub returns-else-places-gt0-clause-text : goal.returns-else-places-gt0-clause-text
+returns-else-places-gt0-clause-text g t c = rw (digits_none 10 c.args.places c.args.v (omega arith), append-nil)
