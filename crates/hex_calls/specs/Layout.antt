@@ -2,8 +2,7 @@
 use Rattle.std.specs.Prelude.{ℕ, zero, suc, ◌+◌, ◌*◌, ◌/◌, ◌%◌, ◌^◌, ◌<◌, Bool, true, not, List, [], ◌∷◌, ◌++◌, eqb, leb, length, get_or, take, drop, Result, Ok, Err}
 use Rattle.laws.specs.Choice.{pick, both}
 use Rattle.bits.specs.Bits.{bit_of}
-use Rattle.numbers.specs.Numbered.{refusal_number}
-use Rattle.numbers.proofs.OneNumber.{refusal_of_number}
+use Rattle.numbers.specs.Numbered.{refusal_number, refusal_of_number}
 use Rattle.hex_reader.specs.declared.fault.HexFault.{HexFault}
 use Rattle.hex_chunks.specs.Kept.{held_size}
 use Rattle.hex_reader.specs.declared.progress.Stage.{Stage}

@@ -1,6 +1,6 @@
 // The state of a reader of chunks as 550 bytes.
 ghost use Rattle.std.specs.Prelude.{◌≡◌, true, false, ◌++◌, ◌+◌, ◌^◌, ◌<◌, ◌≤◌, length, MatchOption};
-ghost use Rattle.numbers.proofs.OneNumber.{refusal_of_number};
+ghost use Rattle.numbers.specs.Numbered.{refusal_of_number};
 ghost use Rattle.hex_calls.specs.Layout.{word_bytes, word_at, stage_bytes, stage_at, StageFits, numbers_of, packed, state_of, fault_in_range, numbers_in_range, is_state};
 
 use hex_chunks::HexChunks;

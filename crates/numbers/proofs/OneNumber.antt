@@ -3,36 +3,9 @@ use mathlib.Core.Path.{◌≡◌, refl, sym, ap, ◌∙◌}
 use Prim.Native.Nat.{ℕ}
 use lib.Dec.{eqb}
 use Rattle.std.specs.Prelude.{cond, false}
-use Rattle.numbers.specs.Numbered.{refusal_number, stop_number}
+use Rattle.numbers.specs.Numbered.{refusal_number, refusal_of_number, stop_number}
 use Rattle.numbers.specs.declared.Refusal.{Refusal}
 use Rattle.numbers.specs.declared.Stop.{Stop}
-
--- the refusal of a number
-abbrev pub refusal_of_number : ℕ → Refusal
-refusal_of_number n =
-    cond (eqb n 1) Refusal.ImageOfAnotherSize
-    (cond (eqb n 2) Refusal.RecordOutsideTheRanges
-    (cond (eqb n 3) Refusal.NoFrame
-    (cond (eqb n 4) Refusal.MoreThan65536Frames
-    (cond (eqb n 5) Refusal.DisplayBufferUnder40Bytes
-    (cond (eqb n 11) Refusal.NotToBeWritten
-    (cond (eqb n 20) Refusal.AddressOver8191
-    (cond (eqb n 21) Refusal.ExcludedInstructionReachable
-    (cond (eqb n 22) Refusal.RepetitionReachable
-    (cond (eqb n 23) Refusal.PathBufferTooShort
-    (cond (eqb n 24) Refusal.RecursionReachable
-    (cond (eqb n 25) Refusal.BoundOver65535
-    (cond (eqb n 30) Refusal.UnassignedCode
-    (cond (eqb n 35) Refusal.PastEnd
-    (cond (eqb n 40) Refusal.MalformedOrEndWithBytes
-    (cond (eqb n 41) Refusal.RecordSum
-    (cond (eqb n 42) Refusal.RecordType
-    (cond (eqb n 43) Refusal.Past1FFF
-    (cond (eqb n 44) Refusal.GivenTwice
-    (cond (eqb n 45) Refusal.EndMissingOrTextAfter
-    (cond (eqb n 46) Refusal.OutputBufferUnder22540Bytes
-    (cond (eqb n 47) Refusal.WorkBufferIsNot9216Bytes
-    (cond (eqb n 48) Refusal.PulsesOverTheLimit Refusal.TfOfZeroWhileOn))))))))))))))))))))))
 
 pub refusal_back : (x : Refusal) → refusal_of_number (refusal_number x) ≡ x
 refusal_back Refusal.ImageOfAnotherSize = refl

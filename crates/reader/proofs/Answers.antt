@@ -8,6 +8,7 @@ use lib.ListN.{length, get_or}
 use borrow.Author.Tests.{eq-eqb, ne_eqb, lt-ltb, le-ltb}
 use Rattle.laws.specs.Choice.{pick}
 use Rattle.numbers.specs.ComesBack.{Paper, answered, refused}
+use Rattle.numbers.specs.Numbered.{refusal_of_number}
 use Rattle.device.specs.Device.{image_size, is_banked, rom_of}
 use Rattle.device.specs.declared.Device.{Device}
 use Rattle.sheet.specs.Reading.{insn, read_at}
@@ -17,7 +18,7 @@ use Rattle.std.specs.Prelude.{Result, Ok, Err}
 use Rattle.reader.specs.Answer.{values_of, paper_of, paper_of_code, read_paper}
 use Rattle.reader.specs.declared.Decoded.{Decoded}
 use Rattle.numbers.specs.declared.Refusal.{Refusal}
-use Rattle.numbers.proofs.OneNumber.{refusal_of_number, refusal_back, refusal_some}
+use Rattle.numbers.proofs.OneNumber.{refusal_back, refusal_some}
 use Rattle.reader.proofs.Rows.{columns}
 
 pub decoded : (rom : ℕ → ℕ) (at : ℕ) (i : Insn) (n t : ℕ) → read_at rom at ≡ Ok i → TimedFrom (rom at) n t → answered (values_of i n t) ≡ paper_of_code (read_at rom at)

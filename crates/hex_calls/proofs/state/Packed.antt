@@ -15,8 +15,8 @@ use Rattle.hex_reader.specs.declared.progress.Stage.{Stage}
 use Rattle.hex_reader.specs.declared.progress.Stage.TheVariants.{Going, Ended}
 use Rattle.std.specs.Prelude.{Result, Ok, Err}
 use Rattle.hex_reader.specs.declared.fault.HexFault.{HexFault}
-use Rattle.numbers.specs.Numbered.{refusal_number}
-use Rattle.numbers.proofs.OneNumber.{refusal_of_number, refusal_back}
+use Rattle.numbers.specs.Numbered.{refusal_number, refusal_of_number}
+use Rattle.numbers.proofs.OneNumber.{refusal_back}
 use Rattle.hex_chunks.specs.declared.HexChunks.{HexChunks}
 use Rattle.hex_calls.specs.Layout.{StageFits, numbers_in, numbers_of, packed, state_from, state_of}
 use Rattle.hex_calls.proofs.state.Words.{word_back}
