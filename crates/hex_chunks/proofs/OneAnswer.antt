@@ -6,6 +6,7 @@ use native.Mathlib.Decide.{ℕ_discrete}
 use lib.ListN.{length}
 use Rattle.hex_reader.specs.Work.{work_size}
 use Rattle.hex_reader.specs.Progress.{good, refused}
+use Rattle.hex_reader.proofs.Answers.{same_fault}
 use Rattle.hex_chunks.specs.Cut.{Session, fed, told, after_chunk, after_end}
 use Rattle.hex_chunks.specs.Carries.{Carries, TellsFaultAt, Tells, Fits, Stays, FeedCall, EndCall}
 use Rattle.std.specs.Prelude.{Result, Ok, Err}
@@ -17,9 +18,6 @@ use Rattle.hex_reader.specs.declared.fault.HexRefusal.TheVariants.{Buffer, Fault
 use Rattle.hex_chunks.specs.declared.HexChunks.{HexChunks}
 use Rattle.hex_chunks.specs.declared.Told.{Told}
 use Rattle.hex_chunks.specs.declared.Fed.{Fed}
-
-same_fault : (x y : HexFault) → x.refusal ≡ y.refusal → x.line ≡ y.line → x ≡ y
-same_fault x y r l = λ i. record { refusal = r i; line = l i }
 
 fault_one : (t u : Result Told HexRefusal) (number line : ℕ) → TellsFaultAt t number line → TellsFaultAt u number line → t ≡ u
 fault_one (Ok x) u number line p q = absurd p

@@ -53,10 +53,12 @@ pub fn clear(work: &mut [u8], size: usize)
     work[size..].fill(0);
 }
 
-// The buffer begins with the image's bytes.
+// The buffer begins with the image's bytes. Byte by byte: a slice's copy would have the archive for C ask for memmove.
 pub fn copy_image(work: &[u8], image: &mut [u8])
     requires { length image.old ≤ length work.now }
     ensures { image.new ≡ take (length image.old) work.now }
 {
-    image.copy_from_slice(&work[..image.len()]);
+    for i in 0..image.len() {
+        image[i] = work[i];
+    }
 }

@@ -1,16 +1,34 @@
 -- Digits in pairs: the byte at a place, the bytes from a place on and up to one.
 use mathlib.Core.Path.{◌≡◌, refl, ap}
 use mathlib.Core.List.{List, [], ◌∷◌, ◌++◌}
-use Prim.Native.Nat.{ℕ, zero, suc, ◌+◌, ◌*◌, ◌<◌}
+use Prim.Native.Nat.{ℕ, zero, suc, ◌+◌, ◌-◌, ◌*◌, ◌<◌, ◌≤◌}
+use Prim.Native.Char.{Char, code}
 use native.Mathlib.Nat.{not-suc-le-zero}
 use native.Mathlib.Omega.{arith}
 use mathlib.Core.Bool.{true}
-use lib.Dec.{T, ltb, ltb→lt}
+use lib.Dec.{T, leb, leb→le, ltb, ltb→lt}
 use lib.ListN.{length, get_or, take, drop}
+use Rattle.laws.specs.Choice.{pick}
+use Rattle.laws.proofs.Choices.{picked_by}
 use Rattle.laws.proofs.Computed.{true→T, T→true, both_left, both_right}
 use Rattle.text.specs.Words.{all_digits}
-use Rattle.text.specs.Hexadecimal.{digit_of}
+use Rattle.text.specs.Hexadecimal.{between, digit_of}
 use Rattle.hex_reader.specs.Record.{byte_of, bytes_of}
+
+-- a choice of values, each at most 16
+up_to_16 : (first last : Char) (c v w : ℕ) → (c ≤ code last → v ≤ 16) → w ≤ 16 → pick (between first last c) v w ≤ 16
+up_to_16 first last c v w f g =
+    picked_by (λ (n : ℕ). n ≤ 16) (between first last c) v w (λ t. f (leb→le c (code last) (both_right (leb (code first) c) (leb c (code last)) t))) g
+
+pub value_up_to_16 : (c : ℕ) → digit_of c ≤ 16
+unfolding digit_of
+value_up_to_16 c =
+    up_to_16 "0" "9" c (c - code "0") _ (λ h. omega arith)
+    (up_to_16 "A" "F" c (10 + (c - code "A")) _ (λ h. omega arith)
+    (up_to_16 "a" "f" c (10 + (c - code "a")) 16 (λ h. omega arith) (omega arith)))
+
+pub byte_up_to_272 : (high low : ℕ) → byte_of high low ≤ 272
+byte_up_to_272 high low = omega (arith, value_up_to_16 high, value_up_to_16 low)
 
 -- each character of digits is one
 pub digit_in : (l : List ℕ) (k : ℕ) → T (all_digits 16 l) → k < length l → digit_of (get_or l k 0) < 16

@@ -1,11 +1,12 @@
 -- The image of what a buffer holds.
-use mathlib.Core.Path.{◌≡◌, refl, ◌∙◌}
+use mathlib.Core.Path.{◌≡◌, refl, sym, ◌∙◌}
 use mathlib.Core.List.{List}
 use Prim.Native.Nat.{ℕ, zero, suc, ◌+◌, ◌<◌}
 use native.Mathlib.Nat.{not-suc-le-zero}
+use native.Mathlib.Numerals.{add-one}
 use native.Mathlib.Omega.{arith}
-use lib.ListN.{length, get_or, take, length-take}
-use lib.Seq.{get_or-take, ext_get_or}
+use lib.ListN.{length, get_or, set, take, length-take}
+use lib.Seq.{take_all, take-suc, take-suc-set, get_or-take, ext_get_or}
 use Rattle.hex_reader.specs.Given.{Given, byte_at, bytes_from, image_of}
 use Rattle.hex_reader.specs.Work.{Holds}
 
@@ -32,3 +33,10 @@ held_image image_size w ds k =
     let n : length (take image_size w) ≡ image_size = omega (arith, length-take image_size w) in
     ext_get_or 0 (take image_size w) (image_of image_size ds) (n ∙ (let e = image_length image_size ds in omega arith))
     (λ i h. get_or-take image_size w i 0 (omega arith) ∙ (k.bytes i (omega arith) ∙ (let e = image_at image_size ds i (omega arith) in cc)))
+
+-- a list copied into another, a place at a time
+pub copied_more : (m w : List ℕ) (i : ℕ) → take i m ≡ take i w → i < length m → i < length w → take (i + 1) (set m i (get_or w i 0)) ≡ take (i + 1) w
+copied_more m w i e h g = rw (add-one i, take-suc-set m i (get_or w i 0) h, take-suc w i 0 g, e)
+
+pub copied_all : (n : ℕ) (m w : List ℕ) (i : ℕ) → take i m ≡ take i w → length m ≡ n → i ≡ n → m ≡ take n w
+copied_all n m w i e s h = sym (take_all n m (omega arith)) ∙ (rw h at e)
