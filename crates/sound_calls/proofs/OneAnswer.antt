@@ -10,7 +10,7 @@ use borrow.Author.Tests.{ltb-true}
 use Rattle.laws.specs.Choice.{both}
 use Rattle.laws.proofs.Computed.{true→T, T→true, both_left, both_right}
 use Rattle.bits.specs.Bits.{bit_of}
-use Rattle.std.specs.Prelude.{Result, Err}
+use Rattle.std.specs.Prelude.{Result, Ok, Err}
 use Rattle.numbers.specs.declared.Refusal.{Refusal}
 use Rattle.sound_generator.specs.Answers.{Answer}
 use Rattle.sound_generator.specs.declared.Sound.{Sound}
@@ -74,3 +74,11 @@ kept_by f bytes refusal false e h = rw e
 -- a refusal leaves the bytes
 pub kept : (f : Sound → Answer) (bytes : List ℕ) (refusal : Refusal) → f (state_at bytes) ≡ Err refusal → (changed_by f bytes).bytes ≡ bytes
 kept f bytes refusal h = kept_by f bytes refusal (holds_state bytes) refl h
+
+same_by : (f : Sound → Answer) (bytes : List ℕ) (t : Bool) → holds_state bytes ≡ t → get_or bytes 5 0 < 256 → f (state_at bytes) ≡ Ok (state_at bytes) → (changed_by f bytes).bytes ≡ bytes
+same_by f bytes true e h k = rw (e, k) (back bytes e h)
+same_by f bytes false e h k = rw e
+
+-- and so does a call that answers with the state as it was
+pub same_kept : (f : Sound → Answer) (bytes : List ℕ) → get_or bytes 5 0 < 256 → f (state_at bytes) ≡ Ok (state_at bytes) → (changed_by f bytes).bytes ≡ bytes
+same_kept f bytes h k = same_by f bytes (holds_state bytes) refl h k
