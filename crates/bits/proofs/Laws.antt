@@ -2,19 +2,27 @@
 use mathlib.Core.Path.{◌≡◌, refl, ap, subst, ◌∙◌}
 use mathlib.Core.Bool.{Bool, true, false}
 use Prim.Native.Nat.{ℕ, suc, ◌+◌, ◌-◌, ◌*◌, ◌/◌, ◌%◌, ◌^◌, ◌<◌, ◌≤◌}
-use native.Mathlib.Nat.{mod-lt, suc-mul, pow-suc, mod-eq_of_lt}
-use native.Mathlib.Decide.{ℕ_discrete}
+use native.Mathlib.Nat.{div-eq_of_lt, mod-lt, suc-mul, pow-suc, mod-eq_of_lt}
+use native.Mathlib.Decide.{dec_lt, ℕ_discrete}
 use native.Mathlib.Omega.{arith}
 use lib.Dec.{T, eqb, eqb→eq, leb, leb→le}
 use lib.Pow.{pow-add, pow_pos, shr_lt, split}
 use lib.Arith.{digits_lt}
 use lib.Bits.{bit_or, or_shifted}
 use lib.Count.{count_leading_zeros}
-use borrow.Author.Tests.{ne_eqb}
+use borrow.Author.Tests.{eqb-true, ne_eqb}
 use Rattle.std.specs.Int.{from_bool}
 use Rattle.laws.specs.Choice.{pick}
 use Rattle.laws.proofs.Computed.{below, at}
 use Rattle.bits.specs.Bits.{has_bit, with_bit, without_bit, highest_bit, bit_of}
+
+weighed : (n w : ℕ) → n / w % 2 ≡ 1 → Dec (n < w) → w ≤ n
+weighed n w e (yes h) = let q : n / w ≡ 0 = div-eq_of_lt h in omega arith
+weighed n w e (no h) = omega arith
+
+-- a number that has a bit is at least the bit's weight
+pub bit_le : (n w : ℕ) → has_bit n w ≡ true → w ≤ n
+bit_le n w e = weighed n w (eqb-true (n / w % 2) 1 e) (dec_lt n w)
 
 -- clearing makes no number greater
 cleared : (t : Bool) (n w : ℕ) → pick t (n - w) n ≤ n

@@ -2,7 +2,7 @@
 use mathlib.Core.Path.{◌≡◌, subst}
 use mathlib.Core.Bool.{Bool, true, false}
 use mathlib.Core.List.{List, [], ◌∷◌}
-use Prim.Native.Nat.{ℕ, ◌+◌, ◌*◌, ◌/◌, ◌%◌, ◌^◌, ◌<◌, ◌≤◌}
+use Prim.Native.Nat.{ℕ, suc, ◌+◌, ◌*◌, ◌/◌, ◌%◌, ◌^◌, ◌<◌, ◌≤◌}
 use native.Mathlib.Nat.{mod-eq_of_lt, div-mul-le_self}
 use native.Mathlib.Decide.{ℕ_discrete}
 use native.Mathlib.Omega.{arith}
@@ -47,7 +47,11 @@ module _ (p : ℕ) (h : p < 16) where
       let sure : ltb 0 k ≡ true = T→true (ltb 0 k) more in
       rw (← exponent_at, e, sure)
 
--- a time base period is at least 256
+-- a time base period is one that a shift of 32 bits has, and at least 256
+pub tbi_fits : (p : ℕ) → p < 16 → tbi_exponent p < 32
+unfolding tbi_exponent
+tbi_fits p h = leb→le (suc (tbi_exponent p)) 32 (at (λ p. ltb (tbi_exponent p) 32) 16 tt p h)
+
 pub tbi_coarse : (p : ℕ) → p < 16 → 0 < tbi_exponent p → 8 ≤ tbi_exponent p
 unfolding tbi_exponent
 tbi_coarse p h l =

@@ -25,6 +25,11 @@ pub chars_three : (s : List ℕ) (k : ℕ) → k + 3 ≤ length s → chars_at 3
 chars_three s k h =
     rw (drop-cons s k 0 (omega arith), drop-cons s (suc k) 0 (omega arith), drop-cons s (suc (suc k)) 0 (omega arith), add-one, add-two)
 
+pub chars_four : (s : List ℕ) (k : ℕ) → k + 4 ≤ length s → chars_at 4 s k ≡ get_or s k 0 ∷ get_or s (k + 1) 0 ∷ get_or s (k + 2) 0 ∷ get_or s (k + 3) 0 ∷ []
+chars_four s k h =
+    let e : suc (suc (suc k)) ≡ k + 3 = omega arith in
+    rw (drop-cons s k 0 (omega arith), drop-cons s (suc k) 0 (omega arith), drop-cons s (suc (suc k)) 0 (omega arith), drop-cons s (suc (suc (suc k))) 0 (omega arith), e, add-one, add-two)
+
 pub both_first : (a b : Bool) → both a b ≡ true → a ≡ true
 both_first true b e = refl
 both_first false b e = e

@@ -17,6 +17,10 @@ pub both_false : (t : Bool) → both t false ≡ false
 both_false true = refl
 both_false false = refl
 
+pub either_none : (a : Bool) → a ≡ either a false
+either_none true = refl
+either_none false = refl
+
 pub refuted : (a : Bool) → T (not a) → T a → ⊥
 refuted true h t = h
 refuted false h t = t

@@ -4,7 +4,7 @@ use mathlib.Core.Bool.{Bool}
 use mathlib.Core.List.{List, [], ◌∷◌}
 use Prim.Native.Nat.{ℕ, suc, ◌<◌, ◌≤◌}
 use native.Mathlib.Omega.{arith}
-use lib.Dec.{T, eqb, ltb, eqb→eq, lt→ltb}
+use lib.Dec.{T, eqb, leb, ltb, eqb→eq, leb→le, lt→ltb}
 use lib.ListN.{length, get_or}
 use Rattle.laws.proofs.Computed.{below, at, implies, modus}
 use Rattle.sheet.specs.Table.{line_at}
@@ -39,3 +39,14 @@ no_mnemonic row h l =
     none_of (mnemonic_of row)
     (eqb→eq (length (mnemonic_of row)) 0
     (modus (ltb 107 row) (eqb (length (mnemonic_of row)) 0) (at rowless 256 all_rowless row l) (lt→ltb 107 row h)))
+
+-- no mnemonic has more than eight characters
+abbrev short : ℕ → Bool
+short n = leb (length (mnemonic_of n)) 8
+
+all_short : T (below 256 short)
+unfolding line_at
+all_short = tt
+
+pub mnemonic_length : (row : ℕ) → row < 256 → length (mnemonic_of row) ≤ 8
+mnemonic_length row l = leb→le (length (mnemonic_of row)) 8 (at short 256 all_short row l)

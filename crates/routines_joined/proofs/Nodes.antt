@@ -1,12 +1,12 @@
 -- The joined graph of words, node by node.
-use Rattle.std.proofs.Common.{◌≡◌, ℕ, ◌+◌, ◌-◌, ◌*◌, ◌/◌, ◌%◌, ◌<◌, ◌≤◌, Bool, true, false, eqb, List, get_or, sym, refl, ◌∙◌, subst, ⊎_elim, arith, le-ltb, lt-ltb, eq-eqb, ne_eqb}
+use Rattle.std.proofs.Common.{◌≡◌, ℕ, ◌+◌, ◌-◌, ◌*◌, ◌/◌, ◌%◌, ◌<◌, ◌≤◌, Bool, true, false, eqb, ltb, List, get_or, sym, refl, ◌∙◌, subst, ⊎_elim, arith, le-ltb, lt-ltb, eq-eqb, ne_eqb}
 use native.Mathlib.Decide.{ℕ_discrete, dec_lt}
-use Rattle.laws.specs.Choice.{pick}
+use Rattle.laws.specs.Choice.{pick, either}
 use Rattle.graph.specs.Graph.{Graph, Ends, Excluded}
 use Rattle.graph.specs.Laid.{Inside}
 use Rattle.routines_joined.specs.Ranks.{After}
 use Rattle.routines.specs.Calling.{after}
-use Rattle.routines.specs.Joined.{joined}
+use Rattle.routines.specs.Joined.{place_of, end_at, joined}
 use Rattle.routines.specs.Shape.{Small}
 use Rattle.routines_numbered.specs.Packed.{nodes_in, map_in}
 use Rattle.routines_joined.specs.Words.{flow_at, Laid, joined_at, kind_at, NodeIs}
@@ -110,6 +110,26 @@ pub node_excluded : {g : Graph} {y a b : ℕ} (k s : ℕ) → NodeIs g y (kind_a
 node_excluded k s i p q r =
     let z : kind_at k s ≡ 0 = rw (ne_eqb k 1 p, ne_eqb k 3 q, ne_eqb k (pick (eqb s 1) 2 4) r) in
     record { not_on = λ e. omega (arith, i.kind, e, z); not_end = λ e. omega (arith, i.kind, e, z) }
+
+-- a node is excluded, goes on or ends
+kind_cases : (a b c : Bool) → pick a 1 (pick b 1 (pick c 2 0)) ≤ 2
+kind_cases true b c = omega arith
+kind_cases false true c = omega arith
+kind_cases false false true = omega arith
+kind_cases false false false = omega arith
+
+kind_le : (x m : List ℕ) (y : ℕ) → (joined_at x m).kind y ≤ 2
+unfolding joined_at joined
+kind_le x m y =
+    let k = (flow_at x m).kind (place_of 2048 y) in
+    kind_cases (ltb y 2048) (either (eqb k 1) (eqb k 3)) (eqb k (end_at 2048 y))
+
+pub not_excluded : (x m : List ℕ) {y k a b : ℕ} → NodeIs (joined_at x m) y k a b → (k ≡ 0 → ⊥) → Excluded (joined_at x m) y → ⊥
+not_excluded x m {y} {k} i ne e = go (ℕ_discrete k 1)
+  where
+    go : Dec (k ≡ 1) → ⊥
+    go (yes z) = e.not_on (sym i.kind ∙ z)
+    go (no z) = e.not_end (sym i.kind ∙ omega (arith, i.kind, kind_le x m y, ne, z))
 
 -- what follows a node has no higher rank than the higher of the two
 pub after_both : {g : Graph} {n y a b r : ℕ} (rank : List ℕ) → GoesTo g n y a b → get_or rank a 0 ≤ r → get_or rank b 0 ≤ r → After g rank y r
