@@ -1,5 +1,5 @@
 // The words of the command line, and the files that they name.
-ghost use Rattle.std.specs.Prelude.{◌≡◌, IfErr};
+ghost use Rattle.std.specs.Prelude.{◌≡◌, ◌≤◌, length, IfErr};
 ghost use Rattle.program.specs.declared.streams.Failure.TheVariants.{Usage};
 
 use crate::streams::Failure;
@@ -24,7 +24,9 @@ pub fn no_word(rt: &HostRuntime, word: usize) -> Result<(), Failure>
 }
 
 // A word, in a buffer. It has no characters where it is missing or longer than the buffer.
-pub fn arg<'a>(rt: &HostRuntime, word: usize, buffer: &'a mut [u8]) -> &'a [u8] {
+pub fn arg<'a>(rt: &HostRuntime, word: usize, buffer: &'a mut [u8]) -> &'a [u8]
+    ensures { length result.now ≤ length buffer.old }
+{
     let n = rt.arg(word, buffer).unwrap_or(0);
     &buffer[..n]
 }

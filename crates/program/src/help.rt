@@ -1,10 +1,15 @@
 // What every program answers to a first word that asks for its help or for its version.
-ghost use Rattle.std.specs.Prelude.{◌≡◌};
+ghost use Rattle.std.specs.Prelude.{◌≡◌, IfErr};
 ghost use Rattle.program.specs.Help.{asked_by};
+ghost use Rattle.program.specs.declared.streams.Failure.TheVariants.{CannotWrite};
 
 use crate::arguments::arg;
 use crate::streams::{Failure, say, show};
 use crate::words::is;
+use text::Text;
+
+// More than any help has.
+const WAITING: usize = 4096;
 
 // What a program is for, its usage line, and all else that its help says.
 #[derive(Clone, Copy)]
@@ -34,12 +39,27 @@ fn asked_by(word: &[u8]) -> Asked
     }
 }
 
+// A text behind what waits, so that a help takes one call of the system. Where it has no room, what waits goes before it.
+fn add_text(out: &mut Text<WAITING>, text: &[u8]) -> Result<(), Failure>
+    ensures { IfErr result (λ failure. failure ≡ CannotWrite) }
+{
+    if text.len() > WAITING - out.len() {
+        show(out.as_slice())?;
+        out.clear();
+        return show(text);
+    }
+    out.put_text(text);
+    Ok(())
+}
+
 fn show_manual(manual: &Manual) -> Result<(), Failure> {
-    show(manual.purpose)?;
-    show(b"\n")?;
-    show(manual.usage)?;
-    show(b"\n")?;
-    show(manual.rest)
+    let mut out = Text::<WAITING>::new();
+    add_text(&mut out, manual.purpose)?;
+    add_text(&mut out, b"\n")?;
+    add_text(&mut out, manual.usage)?;
+    add_text(&mut out, b"\n")?;
+    add_text(&mut out, manual.rest)?;
+    show(out.as_slice())
 }
 
 // Ours, and the kit that proved and compiled it, as `rt version` prints it.

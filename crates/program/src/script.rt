@@ -1,9 +1,11 @@
 // A script on standard input, read in parts. Of a line that is not whole yet at most as many characters are kept as a frame has.
-ghost use Rattle.std.specs.Prelude.{◌≡◌, ◌+◌, ◌<◌, ◌≤◌, length, IfSome};
+ghost use Rattle.std.specs.Prelude.{◌≡◌, ◌+◌, ◌<◌, ◌≤◌, length, take, MatchOption};
+ghost use Rattle.text.specs.Script.{up_to};
 ghost use Rattle.program.specs.Spans.{is_last};
 
 use crate::part::Part;
 use crate::streams::Failure;
+use text::script::line_end;
 
 // Whether what was kept is the last line, by what the read behind it gave.
 fn is_last(got: Result<usize, Failure>) -> Result<bool, Failure>
@@ -14,9 +16,12 @@ fn is_last(got: Result<usize, Failure>) -> Result<bool, Failure>
 
 // The first line of a part, without its LF, where it is whole.
 pub fn whole_line(part: &[u8]) -> Option<&[u8]>
-    ensures { IfSome result (λ line. length line.now < length part.now) }
+    ensures { MatchOption result (up_to part.now ≡ length part.now) (λ line. (up_to part.now < length part.now) × (line.now ≡ take (up_to part.now) part.now)) }
 {
-    let end = part.iter().position(|c| *c == b'\n')?;
+    let end = line_end(part, 0);
+    if end == part.len() {
+        return None;
+    }
     Some(&part[..end])
 }
 
