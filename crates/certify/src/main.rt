@@ -13,7 +13,7 @@ use device::image::Window;
 use program::arguments::no_word;
 use program::help::{answer, show_version};
 use program::image::{chosen_window, open_window, room};
-use program::streams::{Failure, show, show_decimal};
+use program::streams::{Failure, show};
 use sha256::digest_of;
 use sheet_text::{section_of, sheet_text};
 use text::Text;
@@ -38,9 +38,11 @@ fn show_digest(image: &[u8]) -> Result<(), Failure>
 }
 
 fn show_p3(p3: u8) -> Result<(), Failure> {
-    show(b"Device   EM73P982\nBytes    16384\nP3       ")?;
-    show_decimal(p3.into())?;
-    show(b"\n")
+    let mut out = Text::<46>::new();
+    out.put_text(b"Device   EM73P982\nBytes    16384\nP3       ");
+    out.decimal(u64::from(p3));
+    out.put(b'\n');
+    show(out.as_slice())
 }
 
 fn show_device(d: Device, p3: u8) -> Result<(), Failure> {
@@ -153,19 +155,26 @@ Lines of the sheet by which the rows above were read
     )
 }
 
+// A line of the sheet with two blanks before it and its LF.
+const LINE: usize = 131;
+
 // A line of the sheet after two blanks.
 fn show_row(row: u8) -> Result<(), Failure> {
-    show(b"  ")?;
-    show(sheet_text(row))?;
-    show(b"\n")
+    let mut out = Text::<LINE>::new();
+    out.blanks(2);
+    out.put_text(sheet_text(row));
+    out.put(b'\n');
+    show(out.as_slice())
 }
 
 // The heading of a section.
 fn show_heading(section: u8) -> Result<(), Failure>
     requires { section ≤ 14 }
 {
-    show(sheet_text(107 + section))?;
-    show(b"\n")
+    let mut out = Text::<LINE>::new();
+    out.put_text(sheet_text(107 + section));
+    out.put(b'\n');
+    show(out.as_slice())
 }
 
 // The rows that were read, each once, under the headings of their sections.

@@ -150,11 +150,11 @@ fn named_by(answer: Result<Greatest, Refused>) -> Option<usize> {
 fn show_head(answer: Result<Greatest, Refused>) -> Result<(), Failure>
     requires { value_at (paper_of answer) 0 < 131072 }
 {
-    let mut out = Text::<20>::new();
+    let mut out = Text::<75>::new();
     out.put_text(b"// ");
     summary(&mut out, answer);
-    show(out.as_slice())?;
-    show(b"\ndigraph flow {\n  node [shape=box fontname=monospace];\n")
+    out.put_text(b"\ndigraph flow {\n  node [shape=box fontname=monospace];\n");
+    show(out.as_slice())
 }
 
 fn draw(explored: Explored, answer: Result<Greatest, Refused>, path: &[u8]) -> Result<(), Failure>
